@@ -1,0 +1,1 @@
+// General mathematics alone: see specs/.

@@ -1,0 +1,16 @@
+-- Document 01 as definitions, one module a heading, in the order in which they build on each other.
+-- Lists and Results are the words that the others are written in.
+pub mod Results
+pub mod Lists
+pub mod Letters
+pub mod Values
+pub mod Terms
+pub mod Records
+pub mod Expressions
+pub mod Reduction
+pub mod Evaluation
+pub mod Rules
+pub mod Logs
+pub mod Decision
+pub mod Shortening
+pub mod Printing

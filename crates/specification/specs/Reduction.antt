@@ -1,0 +1,171 @@
+-- Reduction: an expression worked into a form. Assumes nothing.
+use mathlib.Core.Bool.{Bool, true, false, not, _&&_, _||_}
+use mathlib.Core.List.{List, [], _∷_, _++_, map, flatMap}
+use Prim.Native.Nat.{ℕ, zero, suc, _+_, _*_}
+use lib.IntN.{ℤ, pos, negℤ, _*ℤ_}
+use lib.ListN.{length}
+use lib.Dec.{ltb, leb, eqb}
+use Rattle.specification.specs.Lists.{all}
+use Rattle.specification.specs.Results.{Result, refused, given, _>>=_, _>>_, require, if_then_else_}
+use Rattle.specification.specs.Letters.{scalar, vector, testTable}
+use Rattle.specification.specs.Terms.{Term, Form, dotOf, tripleOf, wedgeOf, plus, minus, timesTerm, negated, keep, gather, within, coefWithin, vectorLetters, scalarLetters}
+use Rattle.specification.specs.Records.{answerForm}
+use Rattle.specification.specs.Expressions.{Expr, Letter, Constant, Sum, Difference, Negation, Times, Dot, Wedge, Triple, readExpr}
+
+-- ════ one pair of terms: what its two vector parts make
+
+-- at most one is there, and it is kept
+unfoldable pub timesParts : List ℕ → List ℕ → List Term
+timesParts p q = plus [] (p ++ q) ∷ []
+
+-- "(a∧b)·(c∧d) = (a·c)(b·d) − (a·d)(b·c); a letter dot a wedge is a triple"
+unfoldable pub dotParts : List ℕ → List ℕ → List Term
+dotParts [] q = []
+dotParts (a ∷ []) [] = []
+dotParts (a ∷ []) (b ∷ []) = plus (dotOf a b ∷ []) [] ∷ []
+dotParts (a ∷ []) (b ∷ c ∷ q) = plus (tripleOf a b c ∷ []) [] ∷ []
+dotParts (a ∷ b ∷ p) [] = []
+dotParts (a ∷ b ∷ p) (c ∷ []) = plus (tripleOf a b c ∷ []) [] ∷ []
+dotParts (a ∷ b ∷ p) (c ∷ d ∷ q) = plus (dotOf a c ∷ dotOf b d ∷ []) [] ∷ minus (dotOf a d ∷ dotOf b c ∷ []) [] ∷ []
+
+-- "a∧(b∧c) = (a·c)b − (a·b)c; (a∧b)∧c = (a·c)b − (b·c)a; (a∧b)∧(c∧d) = (abd)c − (abc)d"
+unfoldable pub wedgeParts : List ℕ → List ℕ → List Term
+wedgeParts [] q = []
+wedgeParts (a ∷ []) [] = []
+wedgeParts (a ∷ []) (b ∷ []) = plus [] (wedgeOf a b) ∷ []
+wedgeParts (a ∷ []) (b ∷ c ∷ q) = plus (dotOf a c ∷ []) (b ∷ []) ∷ minus (dotOf a b ∷ []) (c ∷ []) ∷ []
+wedgeParts (a ∷ b ∷ p) [] = []
+wedgeParts (a ∷ b ∷ p) (c ∷ []) = plus (dotOf a c ∷ []) (b ∷ []) ∷ minus (dotOf b c ∷ []) (a ∷ []) ∷ []
+wedgeParts (a ∷ b ∷ p) (c ∷ d ∷ q) = plus (tripleOf a b d ∷ []) (c ∷ []) ∷ minus (tripleOf a b c ∷ []) (d ∷ []) ∷ []
+
+-- "scalar parts joined"
+unfoldable pub joinedScalars : Term → Term → Term
+joinedScalars t u = record { coef = t .coef *ℤ u .coef; factors = t .factors ++ u .factors; part = [] }
+
+-- the terms of one pair: the scalar parts joined, times what the vector parts make
+unfoldable pub pairTerms : (List ℕ → List ℕ → List Term) → Term × Term → List Term
+pairTerms parts p = map (timesTerm (joinedScalars (p .0) (p .1))) (parts (p .0 .part) (p .1 .part))
+
+-- ════ the operators
+
+-- the pairs: each left term with each right term
+unfoldable pub pairsOf : List Term → List Term → List (Term × Term)
+pairsOf ts us = flatMap (λ t. map (λ u. (t, u)) us) ts
+
+-- "a pair with over 6 vector or 2 scalar letters"
+unfoldable pub pairLettersFit : Term × Term → Bool
+pairLettersFit p =
+    leb (vectorLetters (p .0) + vectorLetters (p .1)) 6 && leb (scalarLetters (p .0) + scalarLetters (p .1)) 2
+
+-- "a pair's .. coefficient beyond"
+unfoldable pub pairCoefFits : Term × Term → Bool
+pairCoefFits p = coefWithin (p .0 .coef *ℤ p .1 .coef)
+
+-- 7, 8 and 9 of the pairs, before it is seen whether one vanishes; then gathered
+unfoldable pub product : (kind : ℕ) (parts : List ℕ → List ℕ → List Term) (f g : Form) → Result Form
+product kind parts f g = do
+  require (leb (length (f .terms) * length (g .terms)) 48) 7
+  require (all pairLettersFit (pairsOf (f .terms) (g .terms))) 8
+  require (all pairCoefFits (pairsOf (f .terms) (g .terms))) 9
+  within kind (gather (flatMap (pairTerms parts) (pairsOf (f .terms) (g .terms))))
+
+-- "negation only turns the signs"
+unfoldable pub negateForm : Form → Form
+negateForm f = record { kind = f .kind; terms = map negated (f .terms) }
+
+-- the sum of two forms of one kind
+unfoldable pub sumForms : Form → Form → Result Form
+sumForms f g = do
+  require (eqb (f .kind) (g .kind)) 6
+  within (f .kind) (gather (f .terms ++ g .terms))
+
+-- "at least one operand scalar"
+unfoldable pub timesForms : Form → Form → Result Form
+timesForms f g = do
+  require (eqb (f .kind) scalar || eqb (g .kind) scalar) 6
+  product (if eqb (f .kind) scalar then g .kind else f .kind) timesParts f g
+
+-- the dot of two vectors
+unfoldable pub dotForms : Form → Form → Result Form
+dotForms f g = do
+  require (eqb (f .kind) vector && eqb (g .kind) vector) 6
+  product scalar dotParts f g
+
+-- the wedge of two vectors
+unfoldable pub wedgeForms : Form → Form → Result Form
+wedgeForms f g = do
+  require (eqb (f .kind) vector && eqb (g .kind) vector) 6
+  product vector wedgeParts f g
+
+-- "three operands, their kinds tested first, then worked as a wedge and a dot"
+unfoldable pub tripleForms : Form → Form → Form → Result Form
+tripleForms f g h = do
+  require (eqb (f .kind) vector && eqb (g .kind) vector && eqb (h .kind) vector) 6
+  fg ← wedgeForms f g
+  dotForms fg h
+
+-- ════ working a tree
+
+-- a letter alone: a scalar factor, or a vector part
+unfoldable pub letterForm : (n kind : ℕ) → Form
+letterForm n kind =
+    if eqb kind scalar then record { kind = scalar; terms = plus ((n ∷ []) ∷ []) [] ∷ [] }
+    else record { kind = vector; terms = plus [] (n ∷ []) ∷ [] }
+
+-- a constant: 9 where it is beyond, nothing where it is 0
+unfoldable pub constantForm : ℤ → Result Form
+constantForm k = do
+  require (coefWithin k) 9
+  given (record { kind = scalar; terms = keep (record { coef = k; factors = []; part = [] }) [] })
+
+-- "Operands left to right, then the operator"
+unfoldable pub work : Expr → Result Form
+work (Letter n kind) = given (letterForm n kind)
+work (Constant k) = constantForm k
+work (Sum e f) = do
+  x ← work e
+  y ← work f
+  sumForms x y
+work (Difference e f) = do
+  x ← work e
+  y ← work f
+  sumForms x (negateForm y)
+work (Negation e) = do
+  x ← work e
+  given (negateForm x)
+work (Times e f) = do
+  x ← work e
+  y ← work f
+  timesForms x y
+work (Dot e f) = do
+  x ← work e
+  y ← work f
+  dotForms x y
+work (Wedge e f) = do
+  x ← work e
+  y ← work f
+  wedgeForms x y
+work (Triple e f g) = do
+  x ← work e
+  y ← work f
+  z ← work g
+  tripleForms x y z
+
+-- ════ the call
+
+-- the form of an expression: reading precedes working
+unfoldable pub reduced : (table expr : List ℕ) → Result Form
+reduced table expr = do
+  tree ← readExpr table expr
+  work tree
+
+-- the tests of the call in their order: 1, 2, then contents
+unfoldable pub reduceTested : (table expr out : List ℕ) → Result Form
+reduceTested table expr out = do
+  testTable table
+  require (leb 770 (length out)) 2
+  reduced table expr
+
+-- the length written, or the number; and the memory lent, afterwards
+unfoldable pub reduceCall : (table expr out : List ℕ) → Result ℕ × List ℕ
+reduceCall table expr out = answerForm (reduceTested table expr out) out

@@ -1,0 +1,51 @@
+-- What holds of every element of a list: joined, mapped, tested. Assumes nothing.
+use mathlib.Core.Bool.{Bool}
+use mathlib.Core.List.{List, [], _∷_, _++_, map, flatMap}
+use lib.Dec.{T}
+use Rattle.specification.specs.Lists.{all}
+use Rattle.theory.specs.Tests.{and-both, and-split}
+
+-- every element has the property
+abbrev pub All : {A : Type 0} → (A → Type 0) → List A → Type 0
+All P [] = Unit {0}
+All P (x ∷ xs) = P x × All P xs
+
+module _ {A : Type 0} where
+  pub all-append : (P : A → Type 0) (xs ys : List A) → All P xs → All P ys → All P (xs ++ ys)
+  all-append P [] ys h k = k
+  all-append P (x ∷ xs) ys h k = (h .0, all-append P xs ys (h .1) k)
+
+  -- a weaker property
+  pub all-implies : (P Q : A → Type 0) → ((x : A) → P x → Q x) → (xs : List A) → All P xs → All Q xs
+  all-implies P Q f [] h = tt
+  all-implies P Q f (x ∷ xs) h = (f x (h .0), all-implies P Q f xs (h .1))
+
+  -- what holds of everything
+  pub all-of : (P : A → Type 0) → ((x : A) → P x) → (xs : List A) → All P xs
+  all-of P f [] = tt
+  all-of P f (x ∷ xs) = (f x, all-of P f xs)
+
+  pub both-all : (P Q : A → Type 0) (xs : List A) → All P xs → All Q xs → All (λ x. P x × Q x) xs
+  both-all P Q [] h k = tt
+  both-all P Q (x ∷ xs) h k = ((h .0, k .0), both-all P Q xs (h .1) (k .1))
+
+  -- a computed test of every element, as a property
+  pub all-T : (f : A → Bool) (xs : List A) → T (all f xs) → All (λ x. T (f x)) xs
+  unfolding all
+  all-T f [] t = tt
+  all-T f (x ∷ xs) t = let w = and-split (f x) (all f xs) t in (w .0, all-T f xs (w .1))
+
+  pub T-all : (f : A → Bool) (xs : List A) → All (λ x. T (f x)) xs → T (all f xs)
+  unfolding all
+  T-all f [] h = tt
+  T-all f (x ∷ xs) h = and-both (f x) (all f xs) (h .0) (T-all f xs (h .1))
+
+pub all-map : {A B : Type 0} (P : A → Type 0) (Q : B → Type 0) (f : A → B) → ((x : A) → P x → Q (f x)) → (xs : List A) → All P xs → All Q (map f xs)
+all-map P Q f g [] h = tt
+all-map P Q f g (x ∷ xs) h = (g x (h .0), all-map P Q f g xs (h .1))
+
+-- what each element gives, one list behind the other
+pub all-flatMap : {A B : Type 0} (P : A → Type 0) (Q : B → Type 0) (f : A → List B) → ((x : A) → P x → All Q (f x)) → (xs : List A) → All P xs → All Q (flatMap f xs)
+unfolding flatMap
+all-flatMap P Q f g [] h = tt
+all-flatMap P Q f g (x ∷ xs) h = all-append Q (f x) (flatMap f xs) (g x (h .0)) (all-flatMap P Q f g xs (h .1))

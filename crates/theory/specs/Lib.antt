@@ -1,0 +1,9 @@
+pub mod Tests
+pub mod Elements
+pub mod Order
+pub mod Sorting
+pub mod Signs
+pub mod Gathering
+pub mod Shape
+pub mod Values
+pub mod Reduction

@@ -1,0 +1,4 @@
+pub mod Products
+pub mod Operators
+pub mod Letters
+pub mod Work

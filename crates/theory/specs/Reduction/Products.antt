@@ -1,0 +1,209 @@
+-- Products of forms: for a bilinear operation that the products of vector parts follow, the product of two forms has the operation's value, is in shape, and has letters of the table.
+-- Assumes nothing.
+use mathlib.Core.Path.{_≡_, refl, sym, _∙_, ap, subst}
+use mathlib.Core.List.{List, [], _∷_, _++_, map, flatMap, append-assoc}
+use Prim.Native.Nat.{ℕ, _+_, _*_, _≤_}
+use native.Mathlib.Omega.{arith}
+use lib.IntN.{ℤ, pos, _*ℤ_}
+use lib.Dec.{T, leb, leb→le}
+use lib.ListN.{length}
+use Rattle.algebra.specs.Integers as R
+use Rattle.specification.specs.Lists.{all}
+use Rattle.specification.specs.Results.{given}
+use Rattle.specification.specs.Values.{Vec, scalarValue, _+v_, _•_}
+use Rattle.specification.specs.Letters.{vector}
+use Rattle.specification.specs.Terms.{Term, Form, timesTerm, gather, within, vectorLetters, scalarLetters}
+use Rattle.specification.specs.Reduction.{joinedScalars, pairTerms, pairsOf, pairLettersFit, pairCoefFits, product}
+use Rattle.specification.specs.Evaluation.{factorValue, factorsValue, partValue, termValue, termsValue, value}
+use Rattle.theory.specs.Tests.{and-split, required}
+use Rattle.theory.specs.Elements.{All, all-append, all-implies, both-all, all-T, all-map, all-flatMap}
+use Rattle.theory.specs.Order.{monomial}
+use Rattle.theory.specs.Shape.Terms.{OneToThree, kindOfPart, Fits, vectors-append, scalars-append}
+use Rattle.theory.specs.Shape.Forms.{FormInShape, AllFit, Within, within-given, within-in-shape}
+use Rattle.theory.specs.Shape.Bare.{Bare, times-fits}
+use Rattle.theory.specs.Shape.Letters.{Known, FactorKnown, MonomialKnown, AllKnown, times-known, gather-known}
+use Rattle.theory.specs.Values.Vectors.{one-•, zero-•, •-zero, •-•, •-+}
+use Rattle.theory.specs.Values.Terms.{append-value, gather-value}
+
+-- ════ what a form denotes
+
+-- a form of a kind, in shape, with letters of the table, and with a value under every assignment
+pub record Denotes (table : List ℕ) (f : Form) (kind : ℕ) (v : (ℕ → Vec) → Vec) : Type 0 where
+  pub kindIs : f .kind ≡ kind
+  pub inShape : FormInShape f
+  pub known : AllKnown table (f .terms)
+  pub valueIs : (σ : ℕ → Vec) → value σ f ≡ v σ
+
+-- terms of one kind within the limits, gathered and within 9 and 10, are a form with their value
+pub within-denotes : (table : List ℕ) (kind : ℕ) (ts : List Term) (f : Form) → kind ≤ 1 → AllFit kind ts → AllKnown table ts → within kind (gather ts) ≡ given f
+    → Denotes table f kind (λ σ. termsValue σ ts)
+unfolding value
+within-denotes table kind ts f k h known e =
+    let w : Within kind (gather ts) f = within-given kind (gather ts) f e in
+    record {
+      kindIs = ap (λ (f : Form). f .kind) (w .is);
+      inShape = within-in-shape kind ts f k h w;
+      known = subst (λ (f : Form). AllKnown table (f .terms)) (sym (w .is)) (gather-known table ts known);
+      valueIs = λ σ. ap (λ (f : Form). termsValue σ (f .terms)) (w .is) ∙ gather-value σ kind ts h;
+    }
+
+-- ════ a term without a vector part times a term
+
+module _ (σ : ℕ → Vec) where
+  pub factors-append : (fs gs : List (List ℕ)) → factorsValue σ (fs ++ gs) ≡ factorsValue σ fs *ℤ factorsValue σ gs
+  unfolding factorsValue
+  factors-append [] gs = sym (R.one-*ℤ (factorsValue σ gs))
+  factors-append (f ∷ fs) gs =
+      ap (λ (k : ℤ). factorValue σ f *ℤ k) (factors-append fs gs) ∙ sym (R.*ℤ-assoc (factorValue σ f) (factorsValue σ fs) (factorsValue σ gs))
+
+  times-value : (t u : Term) → t .part ≡ [] → termValue σ (timesTerm t u) ≡ (t .coef *ℤ factorsValue σ (t .factors)) • termValue σ u
+  unfolding timesTerm termValue
+  times-value t u e =
+      let v : ℤ = factorsValue σ (t .factors) in
+      let w : ℤ = factorsValue σ (u .factors) in
+      (λ i. ((t .coef *ℤ u .coef) *ℤ factors-append (t .factors) (u .factors) i) • partValue σ (e i ++ u .part))
+      ∙ ap (λ (k : ℤ). k • partValue σ (u .part)) (R.*ℤ-interchange (t .coef) (u .coef) v w)
+      ∙ sym (•-• (t .coef *ℤ v) (u .coef *ℤ w) (partValue σ (u .part)))
+
+  -- a term without a vector part times each of some terms
+  pub times-values : (t : Term) (us : List Term) → t .part ≡ []
+      → termsValue σ (map (timesTerm t) us) ≡ (t .coef *ℤ factorsValue σ (t .factors)) • termsValue σ us
+  unfolding termsValue
+  times-values t [] e = sym (•-zero (t .coef *ℤ factorsValue σ (t .factors)))
+  times-values t (u ∷ us) e =
+      (λ i. times-value t u e i +v times-values t us e i) ∙ sym (•-+ (t .coef *ℤ factorsValue σ (t .factors)) (termValue σ u) (termsValue σ us))
+
+-- ════ bilinear operations
+
+pub record Bilinear (op : Vec → Vec → Vec) : Type 0 where
+  pub sumLeft : (a b c : Vec) → op (a +v b) c ≡ op a c +v op b c
+  pub sumRight : (a b c : Vec) → op a (b +v c) ≡ op a b +v op a c
+  pub scaled : (k l : ℤ) (a b : Vec) → op (k • a) (l • b) ≡ (k *ℤ l) • op a b
+
+-- a vector part of a kind: nothing in a scalar, one letter or two in a vector
+pub record PartOf (kind : ℕ) (p : List ℕ) : Type 0 where
+  pub short : length p ≤ 2
+  pub kindIs : kindOfPart p ≡ kind
+
+-- what two vector parts of their kinds make: the value of the operation, bare terms of a kind, and the parts' letters
+pub record Follows (op : Vec → Vec → Vec) (parts : List ℕ → List ℕ → List Term) (left right kind : ℕ) : Type 0 where
+  pub partsValue : (σ : ℕ → Vec) (p q : List ℕ) → PartOf left p → PartOf right q → termsValue σ (parts p q) ≡ op (partValue σ p) (partValue σ q)
+  pub partsBare : (p q : List ℕ) → PartOf left p → PartOf right q → All (Bare kind (length p + length q)) (parts p q)
+  pub partsKnown : (table p q : List ℕ) → PartOf left p → PartOf right q → All (Known table vector) p → All (Known table vector) q → AllKnown table (parts p q)
+
+-- what holds of the terms of two lists holds of their pairs
+pairs-all : (P Q : Term → Type 0) (ts us : List Term) → All P ts → All Q us → All (λ (p : Term × Term). P (p .0) × Q (p .1)) (pairsOf ts us)
+unfolding pairsOf
+pairs-all P Q ts us h k =
+    all-flatMap P (λ (p : Term × Term). P (p .0) × Q (p .1)) (λ (t : Term). map (λ (u : Term). (t, u)) us)
+    (λ t ht. all-map Q (λ (p : Term × Term). P (p .0) × Q (p .1)) (λ (u : Term). (t, u)) (λ u hu. (ht, hu)) us k) ts h
+
+module _ (op : Vec → Vec → Vec) (L : Bilinear op) where
+  zero-left : (a : Vec) → op (scalarValue (pos 0)) a ≡ scalarValue (pos 0)
+  zero-left a =
+      (λ i. op (sym (zero-• (scalarValue (pos 0))) i) (sym (one-• a) i)) ∙ L .scaled (pos 0) (pos 1) (scalarValue (pos 0)) a
+      ∙ zero-• (op (scalarValue (pos 0)) a)
+
+  zero-right : (a : Vec) → op a (scalarValue (pos 0)) ≡ scalarValue (pos 0)
+  zero-right a =
+      (λ i. op (sym (one-• a) i) (sym (zero-• (scalarValue (pos 0))) i)) ∙ L .scaled (pos 1) (pos 0) a (scalarValue (pos 0))
+      ∙ zero-• (op a (scalarValue (pos 0)))
+
+  module _ (parts : List ℕ → List ℕ → List Term) (left right kind : ℕ) (P : Follows op parts left right kind) where
+    part-of : (kind : ℕ) (t : Term) → Fits kind (monomial t) → PartOf kind (t .part)
+    part-of kind t h = record { short = h .part; kindIs = h .kindIs }
+
+    -- ---- values
+
+    pair-value : (σ : ℕ → Vec) (t u : Term) → Fits left (monomial t) → Fits right (monomial u)
+        → termsValue σ (pairTerms parts (t, u)) ≡ op (termValue σ t) (termValue σ u)
+    unfolding pairTerms joinedScalars termValue
+    pair-value σ t u h k =
+        let v : ℤ = factorsValue σ (t .factors) in
+        let w : ℤ = factorsValue σ (u .factors) in
+        let p : Vec = partValue σ (t .part) in
+        let q : Vec = partValue σ (u .part) in
+        times-values σ (joinedScalars t u) (parts (t .part) (u .part)) refl
+        ∙ (λ i. ((t .coef *ℤ u .coef) *ℤ factors-append σ (t .factors) (u .factors) i) • P .partsValue σ (t .part) (u .part) (part-of left t h) (part-of right u k) i)
+        ∙ ap (λ (c : ℤ). c • op p q) (R.*ℤ-interchange (t .coef) (u .coef) v w)
+        ∙ sym (L .scaled (t .coef *ℤ v) (u .coef *ℤ w) p q)
+
+    -- the pairs of one term
+    row : Term → List Term → List (Term × Term)
+    row t us = map (λ u. (t, u)) us
+
+    row-value : (σ : ℕ → Vec) (t : Term) (us : List Term) → Fits left (monomial t) → AllFit right us
+        → termsValue σ (flatMap (pairTerms parts) (row t us)) ≡ op (termValue σ t) (termsValue σ us)
+    unfolding row flatMap termsValue
+    row-value σ t [] h k = sym (zero-right (termValue σ t))
+    row-value σ t (u ∷ us) h k =
+        append-value σ (pairTerms parts (t, u)) (flatMap (pairTerms parts) (row t us))
+        ∙ (λ i. pair-value σ t u h (k .0) i +v row-value σ t us h (k .1) i)
+        ∙ sym (L .sumRight (termValue σ t) (termValue σ u) (termsValue σ us))
+
+    flatMap-append : (ps qs : List (Term × Term)) → flatMap (pairTerms parts) (ps ++ qs) ≡ flatMap (pairTerms parts) ps ++ flatMap (pairTerms parts) qs
+    unfolding flatMap
+    flatMap-append [] qs = refl
+    flatMap-append (p ∷ ps) qs =
+        ap (λ (l : List Term). pairTerms parts p ++ l) (flatMap-append ps qs)
+        ∙ sym (append-assoc (pairTerms parts p) (flatMap (pairTerms parts) ps) (flatMap (pairTerms parts) qs))
+
+    pairs-value : (σ : ℕ → Vec) (ts us : List Term) → AllFit left ts → AllFit right us
+        → termsValue σ (flatMap (pairTerms parts) (pairsOf ts us)) ≡ op (termsValue σ ts) (termsValue σ us)
+    unfolding pairsOf row flatMap termsValue
+    pairs-value σ [] us h k = sym (zero-left (termsValue σ us))
+    pairs-value σ (t ∷ ts) us h k =
+        ap (termsValue σ) (flatMap-append (row t us) (pairsOf ts us))
+        ∙ append-value σ (flatMap (pairTerms parts) (row t us)) (flatMap (pairTerms parts) (pairsOf ts us))
+        ∙ (λ i. row-value σ t us (h .0) k i +v pairs-value σ ts us (h .1) k i)
+        ∙ sym (L .sumLeft (termValue σ t) (termsValue σ ts) (termsValue σ us))
+
+    -- ---- limits and letters
+
+    pair-fits : (t u : Term) → Fits left (monomial t) → Fits right (monomial u) → T (pairLettersFit (t, u)) → AllFit kind (pairTerms parts (t, u))
+    unfolding pairTerms joinedScalars pairLettersFit vectorLetters scalarLetters
+    pair-fits t u h k l =
+        let w = and-split (leb (vectorLetters t + vectorLetters u) 6) (leb (scalarLetters t + scalarLetters u) 2) l in
+        let v = leb→le (vectorLetters t + vectorLetters u) 6 (w .0) in
+        let s = leb→le (scalarLetters t + scalarLetters u) 2 (w .1) in
+        all-map (Bare kind (length (t .part) + length (u .part))) (λ (x : Term). Fits kind (monomial x)) (timesTerm (joinedScalars t u))
+        (λ x b. times-fits kind kind (length (t .part) + length (u .part)) (joinedScalars t u) x
+        (all-append OneToThree (t .factors) (u .factors) (h .lengths) (k .lengths))
+        (omega (arith, s, scalars-append (t .factors) (u .factors)))
+        (omega (arith, v, vectors-append (t .factors) (u .factors)))
+        (b .part) (b .kindIs) b)
+        (parts (t .part) (u .part)) (P .partsBare (t .part) (u .part) (part-of left t h) (part-of right u k))
+
+    pair-known : (table : List ℕ) (t u : Term) → Fits left (monomial t) → Fits right (monomial u) → MonomialKnown table (monomial t) → MonomialKnown table (monomial u)
+        → AllKnown table (pairTerms parts (t, u))
+    unfolding pairTerms joinedScalars
+    pair-known table t u h k m n =
+        all-map (λ (x : Term). MonomialKnown table (monomial x)) (λ (x : Term). MonomialKnown table (monomial x)) (timesTerm (joinedScalars t u))
+        (λ x known. times-known table (joinedScalars t u) x
+        (record { factors = all-append (FactorKnown table) (t .factors) (u .factors) (m .factors) (n .factors); part = tt }) known)
+        (parts (t .part) (u .part)) (P .partsKnown table (t .part) (u .part) (part-of left t h) (part-of right u k) (m .part) (n .part))
+
+    -- ---- the product
+
+    pub product-denotes : (table : List ℕ) (f g r : Form) → kind ≤ 1 → AllFit left (f .terms) → AllFit right (g .terms)
+        → AllKnown table (f .terms) → AllKnown table (g .terms) → product kind parts f g ≡ given r
+        → Denotes table r kind (λ σ. op (value σ f) (value σ g))
+    unfolding product value
+    product-denotes table f g r small h k m n e =
+        let pairs : List (Term × Term) = pairsOf (f .terms) (g .terms) in
+        let terms : List Term = flatMap (pairTerms parts) pairs in
+        let w₁ = required (leb (length (f .terms) * length (g .terms)) 48) 7 _ r e in
+        let w₂ = required (all pairLettersFit pairs) 8 _ r (w₁ .1) in
+        let w₃ = required (all pairCoefFits pairs) 9 _ r (w₂ .1) in
+        let Left : Term → Type 0 = λ t. Fits left (monomial t) × MonomialKnown table (monomial t) in
+        let Right : Term → Type 0 = λ t. Fits right (monomial t) × MonomialKnown table (monomial t) in
+        let Both : Term × Term → Type 0 = λ p. Left (p .0) × Right (p .1) in
+        let both : All Both pairs = pairs-all Left Right (f .terms) (g .terms)
+        (both-all (λ (t : Term). Fits left (monomial t)) (λ (t : Term). MonomialKnown table (monomial t)) (f .terms) h m)
+        (both-all (λ (t : Term). Fits right (monomial t)) (λ (t : Term). MonomialKnown table (monomial t)) (g .terms) k n) in
+        let fit : AllFit kind terms = all-flatMap (λ (p : Term × Term). Both p × T (pairLettersFit p)) (λ (t : Term). Fits kind (monomial t)) (pairTerms parts)
+        (λ p b. pair-fits (p .0) (p .1) (b .0 .0 .0) (b .0 .1 .0) (b .1)) pairs (both-all Both (λ (p : Term × Term). T (pairLettersFit p)) pairs both (all-T pairLettersFit pairs (w₂ .0))) in
+        let known : AllKnown table terms = all-flatMap Both (λ (t : Term). MonomialKnown table (monomial t)) (pairTerms parts)
+        (λ p b. pair-known table (p .0) (p .1) (b .0 .0) (b .1 .0) (b .0 .1) (b .1 .1)) pairs both in
+        let d : Denotes table r kind (λ σ. termsValue σ terms) = within-denotes table kind terms r small fit known (w₃ .1) in
+        record { kindIs = d .kindIs; inShape = d .inShape; known = d .known; valueIs = λ σ. d .valueIs σ ∙ pairs-value σ (f .terms) (g .terms) h k }

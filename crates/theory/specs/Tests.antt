@@ -1,0 +1,58 @@
+-- Tests and results taken apart: a conjunction, a line of a `do` block that did not refuse. Assumes nothing.
+use mathlib.Core.Path.{_≡_, refl, sym, subst}
+use mathlib.Core.Bool.{Bool, true, false, _&&_}
+use Prim.Native.Nat.{ℕ}
+use native.Mathlib.Omega.{arith}
+use lib.Dec.{T, eqb, eqb-refl}
+use Rattle.specification.specs.Results.{Result, refused, given, Test, require, _>>_, _>>=_}
+
+-- ════ tests
+
+-- a test that holds, as an equation to rewrite with
+pub is-true : (b : Bool) → T b → b ≡ true
+is-true true t = refl
+is-true false t = absurd t
+
+-- and back
+pub holds : (b : Bool) → b ≡ true → T b
+holds b e = subst T (sym e) tt
+
+pub and-both : (a b : Bool) → T a → T b → T (a && b)
+and-both true b s t = t
+and-both false b s t = s
+
+pub and-split : (a b : Bool) → T (a && b) → T a × T b
+and-split true b t = (tt, t)
+and-split false b t = absurd t
+
+pub eqb-T : (m n : ℕ) → m ≡ n → T (eqb m n)
+eqb-T m n e = subst (λ (k : ℕ). T (eqb m k)) e (eqb-refl m)
+
+-- ════ results
+
+module _ {A : Type 0} where
+  pub refused≢given : {n : ℕ} {a : A} → refused n ≡ given a → ⊥
+  refused≢given e = let z : _≡_ {A = ℕ} 0 1 = cc in omega arith
+
+  pub given-same : {a b : A} → given a ≡ given b → a ≡ b
+  given-same e = cc
+
+  -- a test in front of what was given held
+  pub required : (b : Bool) (n : ℕ) (r : Result A) (a : A) → (require b n >> r) ≡ given a → T b × (r ≡ given a)
+  required true n r a e = (tt, e)
+  required false n r a e = absurd (refused≢given e)
+
+  -- a test that holds is passed
+  pub passes : (b : Bool) (n : ℕ) (r : Result A) → T b → (require b n >> r) ≡ r
+  passes true n r t = refl
+  passes false n r t = absurd t
+
+  -- tests in front of what was given were passed
+  pub tested : (t : Test) (r : Result A) (a : A) → (t >> r) ≡ given a → (t ≡ given tt) × (r ≡ given a)
+  tested (refused n) r a e = absurd (refused≢given e)
+  tested (given u) r a e = (refl, e)
+
+  -- a result in front of what was given was given
+  pub bound : {B : Type 0} (r : Result B) (k : B → Result A) (a : A) → (r >>= k) ≡ given a → (b : B) × (r ≡ given b) × (k b ≡ given a)
+  bound (refused n) k a e = absurd (refused≢given e)
+  bound (given b) k a e = (b, refl, e)
