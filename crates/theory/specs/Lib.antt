@@ -7,3 +7,6 @@ pub mod Gathering
 pub mod Shape
 pub mod Values
 pub mod Reduction
+pub mod Rules
+pub mod Records
+pub mod Replay

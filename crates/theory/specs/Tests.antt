@@ -56,3 +56,11 @@ module _ {A : Type 0} where
   pub bound : {B : Type 0} (r : Result B) (k : B → Result A) (a : A) → (r >>= k) ≡ given a → (b : B) × (r ≡ given b) × (k b ≡ given a)
   bound (refused n) k a e = absurd (refused≢given e)
   bound (given b) k a e = (b, refl, e)
+
+-- the same for long blocks: what a line gave is handed on under a name (a `let` would be written out in full in each later line)
+module _ {A P : Type 0} where
+  pub past : (b : Bool) (n : ℕ) (r : Result A) (a : A) → (require b n >> r) ≡ given a → (T b → r ≡ given a → P) → P
+  past b n r a e f = let w = required b n r a e in f (w .0) (w .1)
+
+  pub into : {B : Type 0} (r : Result B) (k : B → Result A) (a : A) → (r >>= k) ≡ given a → ((b : B) → r ≡ given b → k b ≡ given a → P) → P
+  into r k a e f = let w = bound r k a e in f (w .0) (w .1) (w .2)

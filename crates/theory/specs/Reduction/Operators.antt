@@ -20,7 +20,7 @@ use Rattle.specification.specs.Evaluation.{factorsValue, partValue, termValue, 
 use Rattle.theory.specs.Tests.{and-split, required, bound}
 use Rattle.theory.specs.Elements.{All, all-append, all-map, all-T, T-all}
 use Rattle.theory.specs.Order.{monomial}
-use Rattle.theory.specs.Shape.Terms.{Fits, kindOfPart, TermShape, term-opens, term-closes}
+use Rattle.theory.specs.Shape.Terms.{no-part, Fits, TermShape, term-opens, term-closes}
 use Rattle.theory.specs.Gathering.Coefficients.{Ascending}
 use Rattle.theory.specs.Shape.Forms.{FormInShape, AllFit, form-fits, form-gathered, terms-ascend}
 use Rattle.theory.specs.Shape.Bare.{Bare, all-bare, shapes}
@@ -107,12 +107,6 @@ two-parts : (P : List ℕ → List ℕ → Type 0) → ((a b : ℕ) → P (a ∷
     → (p q : List ℕ) → PartOf vector p → PartOf vector q → P p q
 two-parts P ll lw wl ww p q h k =
     vector-part (λ (p : List ℕ). P p q) (λ a. vector-part (P (a ∷ [])) (ll a) (lw a) q k) (λ a b. vector-part (P (a ∷ b ∷ [])) (wl a b) (ww a b) q k) p h
-
-no-part : (p : List ℕ) → PartOf scalar p → p ≡ []
-no-part [] h = refl
-no-part (a ∷ []) h = absurd (omega (arith, h .kindIs))
-no-part (a ∷ b ∷ []) h = absurd (omega (arith, h .kindIs))
-no-part (a ∷ b ∷ c ∷ p) h = absurd (omega (arith, h .short))
 
 -- ════ the dot of vector parts
 
@@ -204,15 +198,15 @@ together-bare kind p q r e h =
 
 -- one part is nothing
 first-alone : (p q : List ℕ) → PartOf scalar q → p ++ q ≡ p
-first-alone p q h = ap (λ (l : List ℕ). p ++ l) (no-part q h) ∙ append-nil p
+first-alone p q h = ap (λ (l : List ℕ). p ++ l) (no-part q (h .kindIs)) ∙ append-nil p
 
 second-alone : (p q : List ℕ) → PartOf scalar p → p ++ q ≡ q
-second-alone p q h = ap (λ (l : List ℕ). l ++ q) (no-part p h)
+second-alone p q h = ap (λ (l : List ℕ). l ++ q) (no-part p (h .kindIs))
 
 timesLeft-follows : (kind : ℕ) → Follows timesLeft timesParts scalar kind kind
 unfolding partValue
 timesLeft-follows kind = record {
-  partsValue = λ σ p q h k. together-value σ p q q (second-alone p q h) ∙ ap (λ (l : List ℕ). partValue σ l .x • partValue σ q) (sym (no-part p h));
+  partsValue = λ σ p q h k. together-value σ p q q (second-alone p q h) ∙ ap (λ (l : List ℕ). partValue σ l .x • partValue σ q) (sym (no-part p (h .kindIs)));
   partsBare = λ p q h k. together-bare kind p q q (second-alone p q h) k;
   partsKnown = λ table p q h k. timesParts-known table p q;
 }
@@ -220,7 +214,7 @@ timesLeft-follows kind = record {
 timesRight-follows : (kind : ℕ) → Follows timesRight timesParts kind scalar kind
 unfolding partValue
 timesRight-follows kind = record {
-  partsValue = λ σ p q h k. together-value σ p q p (first-alone p q k) ∙ ap (λ (l : List ℕ). partValue σ l .x • partValue σ p) (sym (no-part q k));
+  partsValue = λ σ p q h k. together-value σ p q p (first-alone p q k) ∙ ap (λ (l : List ℕ). partValue σ l .x • partValue σ p) (sym (no-part q (k .kindIs)));
   partsBare = λ p q h k. together-bare kind p q p (first-alone p q k) h;
   partsKnown = λ table p q h k. timesParts-known table p q;
 }

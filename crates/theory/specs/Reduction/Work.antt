@@ -18,9 +18,10 @@ use Rattle.specification.specs.Expressions.{Expr, Letter, Constant, Sum, Differ
 use Rattle.specification.specs.Reduction.{negateForm, sumForms, timesForms, dotForms, wedgeForms, tripleForms, letterForm, constantForm, work, reduced}
 use Rattle.specification.specs.Evaluation.{factorsValue, partValue, termValue, termsValue, value, exprKind, exprValue}
 use Rattle.theory.specs.Tests.{given-same, required, bound}
-use Rattle.theory.specs.Elements.{All}
+use Rattle.theory.specs.Elements.{All, T-all}
 use Rattle.theory.specs.Shape.Terms.{term-closes}
 use Rattle.theory.specs.Shape.Forms.{FormInShape}
+use Rattle.theory.specs.Shape.Bare.{shapes}
 use Rattle.theory.specs.Shape.Letters.{Known, AllKnown, known-terms}
 use Rattle.theory.specs.Values.Vectors.{by-components, -v-is}
 use Rattle.theory.specs.Values.Expressions.{scalarE, A, letters, termsE, same-vectors, expanding}
@@ -46,3 +47,119 @@ letter-denotes table n (suc zero) known h = record {
   valueIs = λ σ. same-vectors (termsE (plus [] (0 ∷ []) ∷ [])) A (letters (σ n ∷ [])) (refl, refl, refl);
 }
 letter-denotes table n (suc (suc kind)) known h = absurd (omega arith)
+
+-- a number as a term
+abbrev alone : ℤ → Term
+alone k = record { coef = k; factors = []; part = [] }
+
+-- a constant that is not 0 is a term in shape
+constant-in-shape : (k : ℤ) → NonZero k → T (coefWithin k) → T (termInShape (alone k))
+unfolding shapes
+constant-in-shape k h w = term-closes (alone k) (record {
+  nonzero = h;
+  within = w;
+  inOrder = record { part = tt; each = tt; order = tt };
+  fits = record { lengths = tt; part = omega arith; vectors = omega arith; scalars = omega arith; kindIs = refl };
+})
+
+constant-value : (σ : ℕ → Vec) (k : ℤ) → termsValue σ (keep (alone k) []) ≡ scalarValue k
+unfolding insert termsValue termValue factorsValue partValue
+constant-value σ k =
+    insert-value σ (alone k) [] ∙ by-components first other other
+  where
+    first : _≡_ {A = ℤ} ((k *ℤ pos 1) *ℤ pos 1 +ℤ pos 0) k
+    first = simp (I.+ℤ-idr, R.*ℤ-1)
+
+    other : _≡_ {A = ℤ} ((k *ℤ pos 1) *ℤ pos 0 +ℤ pos 0) (pos 0)
+    other = simp (I.+ℤ-idr, I.*ℤ-zero)
+
+-- so it is a form in shape; and 0 is the empty form
+one-constant : (k : ℤ) → NonZero k → T (coefWithin k) → FormInShape (record { kind = scalar; terms = alone k ∷ [] })
+unfolding all ascend partFits shapes
+one-constant k h w =
+    record { kind = omega arith; count = omega arith; terms = T-all termInShape (alone k ∷ []) (constant-in-shape k h w, tt); parts = tt; ascending = tt }
+
+constant-form : (k : ℤ) → T (coefWithin k) → FormInShape (record { kind = scalar; terms = keep (alone k) [] })
+unfolding keep isZero all ascend
+constant-form (pos zero) w = record { kind = omega arith; count = omega arith; terms = tt; parts = tt; ascending = tt }
+constant-form (pos (suc n)) w = one-constant (pos (suc n)) (pos-nonzero n) w
+constant-form (negsuc n) w = one-constant (negsuc n) (negsuc-nonzero n) w
+
+constant-known : (table : List ℕ) (k : ℤ) → AllKnown table (keep (alone k) [])
+unfolding keep isZero
+constant-known table (pos zero) = tt
+constant-known table (pos (suc n)) = (record { factors = tt; part = tt }, tt)
+constant-known table (negsuc n) = (record { factors = tt; part = tt }, tt)
+
+constant-denotes : (table : List ℕ) (k : ℤ) (f : Form) → constantForm k ≡ given f → Denotes table f scalar (λ σ. scalarValue k)
+unfolding constantForm value
+constant-denotes table k f e =
+    let w = required (coefWithin k) 9 _ f e in
+    subst (λ (x : Form). Denotes table x scalar (λ σ. scalarValue k)) (given-same (w .1)) (record {
+      kindIs = refl;
+      inShape = constant-form k (w .0);
+      known = constant-known table k;
+      valueIs = λ σ. constant-value σ k;
+    })
+
+-- ════ trees
+
+-- a worked expression denotes its value
+pub work-denotes : (table : List ℕ) (e : Expr) → LettersIn table e → (f : Form) → work e ≡ given f → Denotes table f (exprKind e) (λ σ. exprValue σ e)
+unfolding work exprKind exprValue
+work-denotes table (Letter n kind) l f h =
+    subst (λ (x : Form). Denotes table x kind (λ σ. exprValue σ (Letter n kind))) (given-same h) (letter-denotes table n kind (l .0) (l .1))
+work-denotes table (Constant k) l f h = constant-denotes table k f h
+work-denotes table (Sum e g) l f h =
+    let x = bound (work e) _ f h in
+    let y = bound (work g) _ f (x .2) in
+    sum-denotes (work-denotes table e (l .0) (x .0) (x .1)) (work-denotes table g (l .1) (y .0) (y .1)) f (y .2)
+work-denotes table (Difference e g) l f h =
+    let x = bound (work e) _ f h in
+    let y = bound (work g) _ f (x .2) in
+    denotes-as (sum-denotes (work-denotes table e (l .0) (x .0) (x .1)) (negate-denotes (work-denotes table g (l .1) (y .0) (y .1))) f (y .2))
+    (λ σ. sym (-v-is (exprValue σ e) (exprValue σ g)))
+work-denotes table (Negation e) l f h =
+    let x = bound (work e) _ f h in
+    subst (λ (r : Form). Denotes table r (exprKind e) (λ σ. negsuc 0 • exprValue σ e)) (given-same (x .2)) (negate-denotes (work-denotes table e l (x .0) (x .1)))
+work-denotes table (Times e g) l f h =
+    let x = bound (work e) _ f h in
+    let y = bound (work g) _ f (x .2) in
+    times-denotes (work-denotes table e (l .0) (x .0) (x .1)) (work-denotes table g (l .1) (y .0) (y .1)) f (y .2)
+work-denotes table (Dot e g) l f h =
+    let x = bound (work e) _ f h in
+    let y = bound (work g) _ f (x .2) in
+    dot-denotes (work-denotes table e (l .0) (x .0) (x .1)) (work-denotes table g (l .1) (y .0) (y .1)) f (y .2)
+work-denotes table (Wedge e g) l f h =
+    let x = bound (work e) _ f h in
+    let y = bound (work g) _ f (x .2) in
+    wedge-denotes (work-denotes table e (l .0) (x .0) (x .1)) (work-denotes table g (l .1) (y .0) (y .1)) f (y .2)
+work-denotes table (Triple e g k) l f h =
+    let x = bound (work e) _ f h in
+    let y = bound (work g) _ f (x .2) in
+    let z = bound (work k) _ f (y .2) in
+    triple-denotes (work-denotes table e (l .0) (x .0) (x .1)) (work-denotes table g (l .1) (y .0) (y .1)) (work-denotes table k (l .2) (z .0) (z .1)) f (z .2)
+
+-- ════ the theorem
+
+-- what reduction gives: the form of a tree that was read, with its value under every assignment, in shape, its letters in the table
+pub record ReducedTo (table expr : List ℕ) (f : Form) : Type 0 where
+  pub tree : Expr
+  pub read : readExpr table expr ≡ given tree
+  pub sameValue : (σ : ℕ → Vec) → value σ f ≡ exprValue σ tree
+  pub inShape : FormInShape f
+  pub lettersTested : testTerms table (f .terms) ≡ given tt
+
+-- P2: an expression that is taken has, under every assignment of integers, the value of its form; the form is in shape and its letters are in the table
+pub reduction-keeps-value : (table expr : List ℕ) (f : Form) → T (goodTable table) → reduced table expr ≡ given f → ReducedTo table expr f
+unfolding reduced
+reduction-keeps-value table expr f good e =
+    let w = bound (readExpr table expr) work f e in
+    let d = work-denotes table (w .0) (letters-in table good expr (w .0) (w .1)) f (w .2) in
+    record {
+      tree = w .0;
+      read = w .1;
+      sameValue = d .valueIs;
+      inShape = d .inShape;
+      lettersTested = known-terms table (f .terms) (d .known);
+    }

@@ -20,7 +20,7 @@ module _ (table : List ℕ) where
   abbrev pub Known : (kind n : ℕ) → Type 0
   Known kind n = testLetter table kind n ≡ given tt
 
-  letters-known : (kind : ℕ) (ls : List ℕ) → testLetters table kind ls ≡ given tt → All (Known kind) ls
+  pub letters-known : (kind : ℕ) (ls : List ℕ) → testLetters table kind ls ≡ given tt → All (Known kind) ls
   unfolding testLetters
   letters-known kind [] e = tt
   letters-known kind (n ∷ ls) e = let w = tested (testLetter table kind n) (testLetters table kind ls) tt e in (w .0, letters-known kind ls (w .1))
@@ -59,7 +59,7 @@ module _ (table : List ℕ) where
   known-factors [] h = refl
   known-factors (f ∷ fs) h = ap (λ r. r >> testFactors table fs) (known-letters (kindOfFactor f) f (h .0)) ∙ known-factors fs (h .1)
 
-  term-known : (t : Term) → testTerm table t ≡ given tt → MonomialKnown (monomial t)
+  pub term-known : (t : Term) → testTerm table t ≡ given tt → MonomialKnown (monomial t)
   unfolding testTerm
   term-known t e =
       let w = tested (testFactors table (t .factors)) (testLetters table vector (t .part)) tt e in

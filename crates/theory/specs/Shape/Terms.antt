@@ -6,7 +6,7 @@ use mathlib.Core.List.{List, [], _∷_, _++_, map}
 use Prim.Native.Nat.{ℕ, zero, suc, _+_, _<_, _≤_, Ordering}
 use native.Mathlib.Nat as N
 use native.Mathlib.Omega.{arith}
-use lib.Dec.{T, eqb, leb, ltb, leb→le, le→leb, ltb→lt, lt→ltb}
+use lib.Dec.{T, eqb, leb, ltb, leb→le, le→leb, ltb→lt, lt→ltb, eqb→eq}
 use lib.ListN.{length}
 use lib.IntN.{ℤ, pos, negsuc}
 use Rattle.algebra.specs.Integers.{NonZero, pos-nonzero, negsuc-nonzero}
@@ -118,6 +118,15 @@ part-closes (a ∷ b ∷ c ∷ p) s n = absurd (omega (arith, n))
 -- the kind that a vector part gives
 abbrev pub kindOfPart : List ℕ → ℕ
 kindOfPart p = if eqb (length p) 0 then scalar else vector
+
+-- a part of the scalar kind is nothing
+pub no-part : (p : List ℕ) → kindOfPart p ≡ scalar → p ≡ []
+no-part [] h = refl
+no-part (a ∷ p) h = go (eqb (length (a ∷ p)) 0) (eqb→eq (length (a ∷ p)) 0) h
+  where
+    go : (b : Bool) → (T b → length (a ∷ p) ≡ 0) → (if b then scalar else vector) ≡ scalar → a ∷ p ≡ []
+    go true e h = absurd (omega (arith, e tt))
+    go false e h = absurd (omega arith)
 
 -- a monomial of a kind, within the limits of a term
 pub record Fits (kind : ℕ) (m : Monomial) : Type 0 where

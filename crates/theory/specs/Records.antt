@@ -1,0 +1,9 @@
+-- Records: bytes at a position, the fields of a term record, and that terms, forms and logs have one record each.
+pub mod Positions
+pub mod Numbers
+pub mod Fields
+pub mod Bits
+pub mod Factors
+pub mod Terms
+pub mod Forms
+pub mod Logs
