@@ -10,3 +10,4 @@ pub mod Reduction
 pub mod Rules
 pub mod Records
 pub mod Replay
+pub mod Lines

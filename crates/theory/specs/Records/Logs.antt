@@ -195,21 +195,21 @@ log-one-record s log bs e =
     parts : (s : List ℕ) (first : Form) (steps : List Step) (last : Form) (a b end c : ℕ) → FormRead s 0 a first → StepsRead s [] steps (a + 1) b c → FormRead s b end last
         → a < length s → getD s a 0 ≡ c → c ≤ 64 → end ≡ length s → LogRead s (record { first = first; firstEnd = a; steps = steps; lastStart = b; last = last })
     parts s first steps last a b end c r₁ r₂ r₃ there byte few ends = unfold writeLog in (
-      let count : length steps ≡ c = ap length (r₂ .behind) ∙ r₂ .counted in
-      let a-is : a ≡ length (writeForm first) = omega (arith, r₁ .spelled .ends) in
-      let spelled : Spells s (a + 1) b (writeSteps steps) = subst (λ (ss : List Step). Spells s (a + 1) b (writeSteps ss)) (sym (r₂ .behind)) (r₂ .spelled) in
-      let b-is : b ≡ lastStartOf first steps = omega (arith, spelled .ends, a-is) in
-      let counted : Spells s a b (length steps ∷ writeSteps steps) = rw (count, ← byte) (spells-cons s a b (writeSteps steps) there spelled) in
-      let whole : Spells s 0 (length s) (writeForm first ++ (length steps ∷ writeSteps steps) ++ writeForm last) =
-      subst (λ (n : ℕ). Spells s 0 n (writeForm first ++ (length steps ∷ writeSteps steps) ++ writeForm last)) ends
-      (spells-join s 0 b end (writeForm first ++ length steps ∷ writeSteps steps) (writeForm last) (spells-join s 0 a b (writeForm first) (length steps ∷ writeSteps steps) (r₁ .spelled) counted) (r₃ .spelled)) in
-      record {
-        inShape = record {
-          firstForm = r₁ .inShape;
-          stepCount = omega arith;
-          everyStep = subst StepsInShape (sym (r₂ .behind)) (r₂ .inShape);
-          lastForm = r₃ .inShape;
-        };
-        isLog = λ i. record { first = first; firstEnd = a-is i; steps = steps; lastStart = b-is i; last = last };
-        isWritten = sym (spells-whole s _ whole);
-      })
+        let count : length steps ≡ c = ap length (r₂ .behind) ∙ r₂ .counted in
+        let a-is : a ≡ length (writeForm first) = omega (arith, r₁ .spelled .ends) in
+        let spelled : Spells s (a + 1) b (writeSteps steps) = subst (λ (ss : List Step). Spells s (a + 1) b (writeSteps ss)) (sym (r₂ .behind)) (r₂ .spelled) in
+        let b-is : b ≡ lastStartOf first steps = omega (arith, spelled .ends, a-is) in
+        let counted : Spells s a b (length steps ∷ writeSteps steps) = rw (count, ← byte) (spells-cons s a b (writeSteps steps) there spelled) in
+        let whole : Spells s 0 (length s) (writeForm first ++ (length steps ∷ writeSteps steps) ++ writeForm last) =
+        subst (λ (n : ℕ). Spells s 0 n (writeForm first ++ (length steps ∷ writeSteps steps) ++ writeForm last)) ends
+        (spells-join s 0 b end (writeForm first ++ length steps ∷ writeSteps steps) (writeForm last) (spells-join s 0 a b (writeForm first) (length steps ∷ writeSteps steps) (r₁ .spelled) counted) (r₃ .spelled)) in
+        record {
+          inShape = record {
+            firstForm = r₁ .inShape;
+            stepCount = omega arith;
+            everyStep = subst StepsInShape (sym (r₂ .behind)) (r₂ .inShape);
+            lastForm = r₃ .inShape;
+          };
+          isLog = λ i. record { first = first; firstEnd = a-is i; steps = steps; lastStart = b-is i; last = last };
+          isWritten = sym (spells-whole s _ whole);
+        })

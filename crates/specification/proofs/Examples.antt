@@ -1,0 +1,102 @@
+-- Worked examples of document 01 that are not starred, as rows of one table with one computed test: a wrong definition is refused in this crate, before any theorem stands on it.
+-- Assumes nothing.
+use mathlib.Core.Bool.{Bool, true, false, _&&_}
+use mathlib.Core.List.{List, [], _∷_}
+use Prim.Native.Nat.{ℕ, _+_, _*_}
+use lib.IntN.{ℤ, pos, negsuc}
+use lib.Dec.{T, eqb}
+use Rattle.specification.specs.Results.{Result, refused, given}
+use Rattle.specification.specs.Lists.{all}
+use Rattle.specification.specs.Values.{Vec, wedge}
+use Rattle.specification.specs.Letters.{vector}
+use Rattle.specification.specs.Terms.{Form, dotOf, wedgeOf, plus}
+use Rattle.specification.specs.Records.{writeForm, readForm}
+use Rattle.specification.specs.Rules.{sides}
+use Rattle.specification.specs.Evaluation.{termsValue}
+use Rattle.specification.specs.Logs.{sameCoef, sameForm}
+use Rattle.specification.specs.Printing.{printCall}
+use Rattle.specification.proofs.Computing.{computing}
+
+-- ════ the table
+
+data Example : Type 0 where
+  -- what the printer reads, and what it prints
+  prints : (input text : List ℕ) → Example
+  -- a form and its record
+  isRecord : (f : Form) (bytes : List ℕ) → Example
+  -- two vectors and their wedge
+  wedges : (a b c : Vec) → Example
+  -- a rule whose sides have the same value at the numbers below
+  balances : (rule : ℕ) → Example
+
+abbrev vec : ℤ → ℤ → ℤ → Vec
+vec x y z = record { x = x; y = y; z = z }
+
+-- the letters 0 to 5 as vectors of small numbers
+abbrev numbers : ℕ → Vec
+numbers n = vec (pos (n * n + 1)) (negsuc (3 * n)) (pos (n * n * n + 2))
+
+examples : List Example
+examples =
+    -- "03 01 01 01 08 01 00 08 01 01 01 02 prints `(a.c)*b-(a.b)*c` and a newline"
+    prints (3 ∷ 1 ∷ 1 ∷ 1 ∷ 8 ∷ 1 ∷ 0 ∷ 8 ∷ 1 ∷ 1 ∷ 1 ∷ 2 ∷ []) (40 ∷ 97 ∷ 46 ∷ 99 ∷ 41 ∷ 42 ∷ 98 ∷ 45 ∷ 40 ∷ 97 ∷ 46 ∷ 98 ∷ 41 ∷ 42 ∷ 99 ∷ 10 ∷ [])
+    -- "The empty form prints 0": a∧a
+    ∷ prints (1 ∷ 1 ∷ 8 ∷ 1 ∷ 0 ∷ 1 ∷ 0 ∷ []) (48 ∷ 10 ∷ [])
+    -- "document 000 prints nothing for the constant 1": it is `1`
+    ∷ prints (1 ∷ 0 ∷ 2 ∷ 0 ∷ 0 ∷ 0 ∷ 1 ∷ []) (49 ∷ 10 ∷ [])
+    -- "The sign of a triple sorted by three exchanges is lost": (cba) is `-(abc)`
+    ∷ prints (3 ∷ 1 ∷ 1 ∷ 1 ∷ 9 ∷ 1 ∷ 2 ∷ 1 ∷ 1 ∷ 1 ∷ 0 ∷ []) (45 ∷ 40 ∷ 97 ∷ 98 ∷ 99 ∷ 41 ∷ 10 ∷ [])
+    -- "Lists compare by length first": a∧c + b is `b+(a^c)`
+    ∷ prints (3 ∷ 1 ∷ 1 ∷ 1 ∷ 3 ∷ 8 ∷ 1 ∷ 0 ∷ 1 ∷ 2 ∷ 1 ∷ 1 ∷ []) (98 ∷ 43 ∷ 40 ∷ 97 ∷ 94 ∷ 99 ∷ 41 ∷ 10 ∷ [])
+    -- and so do lists of factors: cd + (a·b), with scalars c and d, is `(a.b)+cd`
+    ∷ prints (4 ∷ 1 ∷ 1 ∷ 0 ∷ 0 ∷ 3 ∷ 6 ∷ 1 ∷ 2 ∷ 1 ∷ 3 ∷ 7 ∷ 1 ∷ 0 ∷ 1 ∷ 1 ∷ []) (40 ∷ 97 ∷ 46 ∷ 98 ∷ 41 ∷ 43 ∷ 99 ∷ 100 ∷ 10 ∷ [])
+    -- "46340 times 46340 is taken"
+    ∷ prints (1 ∷ 0 ∷ 6 ∷ 2 ∷ 0 ∷ 0 ∷ 181 ∷ 4 ∷ 2 ∷ 0 ∷ 0 ∷ 181 ∷ 4 ∷ []) (50 ∷ 49 ∷ 52 ∷ 55 ∷ 51 ∷ 57 ∷ 53 ∷ 54 ∷ 48 ∷ 48 ∷ 10 ∷ [])
+    -- "46341 times 46341 is 9"
+    ∷ prints (1 ∷ 0 ∷ 6 ∷ 2 ∷ 0 ∷ 0 ∷ 181 ∷ 5 ∷ 2 ∷ 0 ∷ 0 ∷ 181 ∷ 5 ∷ []) (82 ∷ 57 ∷ 10 ∷ [])
+    -- "a refusal R and its decimal number, as `R5`": the letter b of a table of one letter
+    ∷ prints (1 ∷ 1 ∷ 1 ∷ 1 ∷ []) (82 ∷ 53 ∷ 10 ∷ [])
+    -- "a missing length byte or a cut table is 1"
+    ∷ prints [] (82 ∷ 49 ∷ 10 ∷ [])
+    ∷ prints (2 ∷ 1 ∷ []) (82 ∷ 49 ∷ 10 ∷ [])
+    -- "−2(a·b)*(c∧d) alone is 01 01 25 FF FF FF FE 01 00 01 02 03"
+    ∷ isRecord (record { kind = vector; terms = record { coef = negsuc 1; factors = dotOf 0 1 ∷ []; part = wedgeOf 2 3 } ∷ [] })
+    (0x01 ∷ 0x01 ∷ 0x25 ∷ 0xff ∷ 0xff ∷ 0xff ∷ 0xfe ∷ 0x01 ∷ 0x00 ∷ 0x01 ∷ 0x02 ∷ 0x03 ∷ [])
+    -- "coefficient, four bytes signed, left out exactly when it is 1": a alone is 01 01 10 00
+    ∷ isRecord (record { kind = vector; terms = plus [] (0 ∷ []) ∷ [] }) (0x01 ∷ 0x01 ∷ 0x10 ∷ 0x00 ∷ [])
+    -- "a∧b is (a2b3−a3b2, a3b1−a1b3, a1b2−a2b1)"
+    ∷ wedges (vec (pos 1) (pos 2) (pos 3)) (vec (pos 4) (pos 5) (pos 7)) (vec (negsuc 0) (pos 5) (negsuc 2))
+    -- "The five rules"
+    ∷ balances 1
+    ∷ balances 2
+    ∷ balances 3
+    ∷ balances 4
+    ∷ balances 5
+    ∷ []
+
+-- ════ the test
+
+same : List ℕ → List ℕ → Bool
+same [] [] = true
+same [] (y ∷ ys) = false
+same (x ∷ xs) [] = false
+same (x ∷ xs) (y ∷ ys) = eqb x y && same xs ys
+
+sameVec : Vec → Vec → Bool
+sameVec a b = sameCoef (a .x) (b .x) && sameCoef (a .y) (b .y) && sameCoef (a .z) (b .z)
+
+isForm : Result Form → Form → Bool
+isForm (refused n) f = false
+isForm (given g) f = sameForm g f
+
+-- the example holds
+exampleHolds : Example → Bool
+exampleHolds (prints input text) = same (printCall input) text
+exampleHolds (isRecord f bytes) = same (writeForm f) bytes && isForm (readForm bytes) f
+exampleHolds (wedges a b c) = sameVec (wedge a b) c
+exampleHolds (balances rule) =
+    let s = sides rule (0 ∷ 1 ∷ 2 ∷ 3 ∷ 4 ∷ 5 ∷ []) in sameVec (termsValue numbers (s .left)) (termsValue numbers (s .right))
+
+examples-hold : T (all exampleHolds examples)
+unfolding examples exampleHolds same sameVec isForm computing
+examples-hold = tt
