@@ -1,12 +1,12 @@
 -- Reduction: an expression worked into a form. Assumes nothing.
-use mathlib.Core.Bool.{Bool, true, false, not, _&&_, _||_}
+use mathlib.Core.Bool.{Bool, _&&_, _||_}
 use mathlib.Core.List.{List, [], _∷_, _++_, map, flatMap}
-use Prim.Native.Nat.{ℕ, zero, suc, _+_, _*_}
-use lib.IntN.{ℤ, pos, negℤ, _*ℤ_}
+use Prim.Native.Nat.{ℕ, _+_, _*_}
+use lib.IntN.{ℤ, _*ℤ_}
 use lib.ListN.{length}
-use lib.Dec.{ltb, leb, eqb}
+use lib.Dec.{leb, eqb}
 use Rattle.specification.specs.Lists.{all}
-use Rattle.specification.specs.Results.{Result, refused, given, _>>=_, _>>_, require, if_then_else_}
+use Rattle.specification.specs.Results.{Result, given, _>>=_, _>>_, require, if_then_else_}
 use Rattle.specification.specs.Letters.{scalar, vector, testTable}
 use Rattle.specification.specs.Terms.{Term, Form, dotOf, tripleOf, wedgeOf, plus, minus, timesTerm, negated, keep, gather, within, coefWithin, vectorLetters, scalarLetters}
 use Rattle.specification.specs.Records.{answerForm}

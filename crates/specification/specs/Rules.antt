@@ -4,7 +4,7 @@ use mathlib.Core.List.{List, [], _∷_, _++_, map}
 use Prim.Native.Nat.{ℕ, _+_}
 use lib.ListN.{length, getD}
 use lib.Dec.{leb, eqb}
-use Rattle.specification.specs.Results.{Result, Test, given, _>>_, require, if_then_else_}
+use Rattle.specification.specs.Results.{Result, Test, _>>_, require, if_then_else_}
 use Rattle.specification.specs.Letters.{scalar, vector, testLetters}
 use Rattle.specification.specs.Terms.{Term, Form, termKind, dotOf, tripleOf, wedgeOf, plus, minus, timesTerm, negated, gather, within, vectorLetters, termInShape}
 use Rattle.specification.specs.Records.{testTerm}

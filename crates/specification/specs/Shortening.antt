@@ -4,12 +4,12 @@ use mathlib.Core.List.{List}
 use Prim.Native.Nat.{ℕ, _+_, _≤_}
 use lib.ListN.{length, take, drop}
 use lib.Dec.{leb}
-use Rattle.specification.specs.Results.{Result, refused, given, _>>=_, _>>_, require}
+use Rattle.specification.specs.Results.{Result, refused, given, _>>_, require}
 use Rattle.specification.specs.Letters.{testTable}
 use Rattle.specification.specs.Terms.{Form}
 use Rattle.specification.specs.Records.{readForm, takeForm}
 use Rattle.specification.specs.Rules.{Step, stepAt}
-use Rattle.specification.specs.Logs.{Checked, accepted, checkCall}
+use Rattle.specification.specs.Logs.{accepted, checkCall}
 
 -- the length and the steps of the log written, or refused with its number
 pub data Shortening : Type 0 where

@@ -25,6 +25,7 @@ module _ {A : Type 0} where
   all-of P f [] = tt
   all-of P f (x ∷ xs) = (f x, all-of P f xs)
 
+  -- two properties together
   pub both-all : (P Q : A → Type 0) (xs : List A) → All P xs → All Q xs → All (λ x. P x × Q x) xs
   both-all P Q [] h k = tt
   both-all P Q (x ∷ xs) h k = ((h .0, k .0), both-all P Q xs (h .1) (k .1))
@@ -35,6 +36,7 @@ module _ {A : Type 0} where
   all-T f [] t = tt
   all-T f (x ∷ xs) t = let w = and-split (f x) (all f xs) t in (w .0, all-T f xs (w .1))
 
+  -- and back
   pub T-all : (f : A → Bool) (xs : List A) → All (λ x. T (f x)) xs → T (all f xs)
   unfolding all
   T-all f [] h = tt

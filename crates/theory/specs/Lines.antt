@@ -1,5 +1,5 @@
 -- The eight starred lines of "Lines to try", as rows of one table with one computed test. Assumes nothing.
-use mathlib.Core.Bool.{Bool, true, false}
+use mathlib.Core.Bool.{Bool, false}
 use mathlib.Core.List.{List, [], _∷_, _++_}
 use Prim.Native.Nat.{ℕ}
 use lib.Dec.{T}
@@ -69,9 +69,11 @@ pub data Line : Type 0 where
   reduces : List ℕ → Form → Line
   steps : Form → Step → Form → Line
 
+-- a form of scalar terms
 abbrev scalarForm : List Term → Form
 scalarForm ts = record { kind = scalar; terms = ts }
 
+-- a form of vector terms
 abbrev vectorForm : List Term → Form
 vectorForm ts = record { kind = vector; terms = ts }
 
@@ -83,6 +85,7 @@ fourTriples = vectorForm
     ∷ plus (tripleOf 0 1 3 ∷ []) (2 ∷ [])
     ∷ minus (tripleOf 0 1 2 ∷ []) (3 ∷ []) ∷ [])
 
+-- the eight lines
 unfoldable pub lines : List Line
 lines =
     -- b∧a: −(a∧b)

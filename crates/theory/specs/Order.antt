@@ -3,7 +3,7 @@ use mathlib.Core.Path.{_≡_, refl, sym, _∙_, ap, subst}
 use mathlib.Core.Logic.{_⊎_, inl, inr}
 use mathlib.Core.Bool.{Bool, true, false, not}
 use mathlib.Core.List.{List, [], _∷_}
-use Prim.Native.Nat.{ℕ, suc, _<_, _≤_, Ordering, Ordering·lt, Ordering·eq, Ordering·gt}
+use Prim.Native.Nat.{ℕ, _<_, _≤_, Ordering, Ordering·lt, Ordering·eq, Ordering·gt}
 use native.Mathlib.Nat as N
 use native.Mathlib.Omega.{arith}
 use lib.Dec.{T, isEq, ltb, eqb, ltb→lt, nltb→le, eqb→eq, eqb-refl}
@@ -40,6 +40,7 @@ view-then l e g (vgt h) = vgt (g h)
 
 -- ════ numbers
 
+-- less, as a relation to hand on
 abbrev pub LtN : ℕ → ℕ → Type 0
 LtN x y = x < y
 
@@ -60,18 +61,21 @@ view-nat x y = go (ltb x y) (ltb→lt x y) (nltb→le x y) (eqb x y) (eqb→eq x
             pick (inl p) = absurd (k (sym p))
             pick (inr p) = p
 
+-- the order of numbers
 pub nat-laws : Laws order LtN
 nat-laws = record { view = view-nat; trans = λ x y z h g. omega arith; irr = λ x h. N.lt-irrefl x h }
 
 -- ════ lists
 
 module _ {A : Type 0} (Lt : A → A → Type 0) where
+  -- less at the first difference; a shorter start is less
   abbrev pub Lex : List A → List A → Type 0
   Lex [] [] = ⊥
   Lex [] (y ∷ l) = Unit {0}
   Lex (x ∷ k) [] = ⊥
   Lex (x ∷ k) (y ∷ l) = Lt x y ⊎ ((x ≡ y) × Lex k l)
 
+  -- shorter, or of the same length and less at the first difference
   abbrev pub LtList : List A → List A → Type 0
   LtList k l = (length k < length l) ⊎ ((length k ≡ length l) × Lex k l)
 
@@ -117,6 +121,7 @@ module _ {A : Type 0} {cmp : A → A → Ordering} {Lt : A → A → Type 0} (L 
   list-irr k (inl h) = N.lt-irrefl (length k) h
   list-irr k (inr h) = lex-irr k (h .1)
 
+  -- the order of lists, from that of their elements
   pub list-laws : Laws (compareLists cmp) (LtList Lt)
   list-laws = record { view = list-view; trans = list-trans; irr = list-irr }
 
@@ -126,15 +131,19 @@ module _ {A : Type 0} {cmp : A → A → Ordering} {Lt : A → A → Type 0} (L 
 abbrev pub Monomial : Type 0
 Monomial = List ℕ × List (List ℕ)
 
+-- the monomial of a term
 abbrev pub monomial : Term → Monomial
 monomial t = (t .part, t .factors)
 
+-- letters by length, then at the first difference
 abbrev pub LtLetters : List ℕ → List ℕ → Type 0
 LtLetters = LtList LtN
 
+-- factors by length, then at the first difference
 abbrev pub LtFactors : List (List ℕ) → List (List ℕ) → Type 0
 LtFactors = LtList LtLetters
 
+-- by vector part, then by factors
 abbrev pub LtMonomial : Monomial → Monomial → Type 0
 LtMonomial m n = LtLetters (m .0) (n .0) ⊎ ((m .0 ≡ n .0) × LtFactors (m .1) (n .1))
 
@@ -199,6 +208,7 @@ compareTerms-eq t u e =
     let m : monomial t ≡ monomial u = same monomial-laws (monomial t) (monomial u) (ap isEq (sym (compareTerms-monomial t u) ∙ e)) in
     (ap (λ (n : Monomial). n .0) m, ap (λ (n : Monomial). n .1) m)
 
+-- and the other way round
 pub eq-compareTerms : (t u : Term) → t .part ≡ u .part → t .factors ≡ u .factors → compareTerms t u ≡ Ordering·eq
 eq-compareTerms t u p f = go (term-view t u) (λ i. (p i, f i))
   where

@@ -1,8 +1,7 @@
 -- The coefficient of a monomial in a list of terms, and what it is where the terms ascend strictly. Assumes nothing.
 use mathlib.Core.Path.{_≡_, refl, sym, _∙_, ap, subst}
 use mathlib.Core.Bool.{Bool, true, false, cond}
-use mathlib.Core.List.{List, [], _∷_, map}
-use Prim.Native.Nat.{ℕ}
+use mathlib.Core.List.{List, [], _∷_}
 use lib.Dec.{isEq}
 use lib.IntN.{ℤ, pos, _+ℤ_, _*ℤ_}
 use lib.IntN as I
@@ -49,6 +48,7 @@ Ascending (t ∷ ts) = Below (monomial t) ts × Ascending ts
 abbrev Fresh : Monomial → List Term → Type 0
 Fresh m ts = All (λ (u : Term). m ≡ monomial u → ⊥) ts
 
+-- what stands before a monomial stands before all terms behind it
 pub below-trans : (m n : Monomial) (ts : List Term) → LtMonomial m n → Below n ts → Below m ts
 below-trans m n [] h b = tt
 below-trans m n (t ∷ ts) h b = monomial-laws .trans m n (monomial t) h b

@@ -46,6 +46,7 @@ in-order-map (f ∷ fs) a = λ i. O.sort-asc nat-laws f (a .0 .ascend) i ∷ in-
 in-order-factors : (fs : List (List ℕ)) → All FactorInOrder fs → O.Asc letters-laws fs → sorted compareLetters (map (sorted order) fs) ≡ fs
 in-order-factors fs a o = ap (sorted compareLetters) (in-order-map fs a) ∙ O.sort-asc letters-laws fs o
 
+-- a term in the order of forms is tidy
 pub in-order-tidy : (t : Term) → InOrder (monomial t) → tidy t ≡ t
 unfolding tidy
 in-order-tidy t s =
@@ -72,6 +73,7 @@ signs-factors (f ∷ fs) h =
       signs-factors fs (w .1),
     )
 
+-- a term that is tidied and does not vanish is in the order of forms
 pub tidy-in-order : (t : Term) → NonZero (tidy t .coef) → InOrder (monomial (tidy t))
 unfolding tidy
 tidy-in-order t h =

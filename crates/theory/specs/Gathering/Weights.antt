@@ -2,7 +2,7 @@
 -- The coefficient of a monomial is such a sum, and so is each component of a value. Assumes nothing.
 use mathlib.Core.Path.{_≡_, refl, sym, _∙_, ap}
 use mathlib.Core.List.{List, [], _∷_, map}
-use Prim.Native.Nat.{ℕ, zero, suc, Ordering}
+use Prim.Native.Nat.{zero, suc, Ordering}
 use lib.IntN.{ℤ, pos, negsuc, _+ℤ_, _*ℤ_}
 use lib.IntN as I
 use Rattle.algebra.specs.Integers as R

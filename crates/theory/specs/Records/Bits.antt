@@ -26,6 +26,7 @@ bit-small false = omega arith
 abbrev pub bitMap : (coef scalars dots triples : Bool) (part : List ℕ) → ℕ
 bitMap c s d t part = bit c * 1 + bit s * 2 + bit d * 4 + bit t * 8 + partBit part
 
+-- bit 0 stands where a coefficient is written
 pub coef-bit : (k : ℤ) → bitOf (coefField k) 1 ≡ bit (not (isOne k)) * 1
 unfolding bitOf coefField fourBytes
 coef-bit k = go (isOne k) refl
@@ -34,6 +35,7 @@ coef-bit k = go (isOne k) refl
     go true e = simp e
     go false e = simp e
 
+-- a bit stands where there are factors
 pub count-bit : (fs : List (List ℕ)) (n : ℕ) → bitOf (countField fs) n ≡ bit (areThere fs) * n
 unfolding bitOf countField
 count-bit [] n = omega arith
@@ -97,6 +99,7 @@ module _ (c s d t : Bool) (n q : ℕ) (h : n ≡ bit c * 1 + bit s * 2 + bit d *
     good = simp (lt-ltb n 64 small, stands₄ b₄ e₄, stands₅ b₅ e₅) g;
   }
 
+-- a bit map tells its fields
 pub bitMap-tells : (c s d t : Bool) (part : List ℕ) → length part ≤ 2 → Tells (bitMap c s d t part) c s d t part
 unfolding partBit
 bitMap-tells c s d t [] l = tells c s d t _ 0 refl (omega arith) [] false false refl refl refl refl
@@ -125,6 +128,7 @@ part-bit n part g l = go (stands 4 n) refl (stands 5 n) refl
     go false e₄ true e₅ = simp (l, e₄, e₅)
     go false e₄ false e₅ = simp (l, e₄, e₅)
 
+-- a good byte is the bit map of the fields that it tells
 pub bitMap-of : (n : ℕ) (part : List ℕ) → T (goodBits n) → length part ≡ partLetters n → n ≡ bitMap (stands 0 n) (stands 1 n) (stands 2 n) (stands 3 n) part
 unfolding goodBits
 bitMap-of n part g l =

@@ -1,6 +1,6 @@
 -- Factors in their order are the scalar letters, the dots and the triples, one after the other; and how many letters they have. Assumes nothing.
 use mathlib.Core.Path.{_≡_, refl, ap}
-use mathlib.Core.Logic.{_⊎_, inl, inr}
+use mathlib.Core.Logic.{inl, inr}
 use mathlib.Core.Bool.{Bool, true, false}
 use mathlib.Core.List.{List, [], _∷_, _++_}
 use Prim.Native.Nat.{ℕ, _+_, _*_, _≤_, _<_}
@@ -22,6 +22,7 @@ ofSize n fs = select (λ f. eqb (length f) n) fs
 
 -- ════ lists split by the number of letters
 
+-- they have n letters
 pub ofSize-sized : (n : ℕ) (fs : List (List ℕ)) → Sized n (ofSize n fs)
 unfolding select
 ofSize-sized n [] = tt
@@ -40,6 +41,7 @@ ofSize-append n (f ∷ fs) gs = go (ofSize-append n fs gs) (eqb (length f) n) re
     go i true e = simp (e, i)
     go i false e = simp (e, i)
 
+-- where all have n letters, they are all
 pub ofSize-same : (n : ℕ) (fs : List (List ℕ)) → Sized n fs → ofSize n fs ≡ fs
 unfolding select
 ofSize-same n [] h = refl
@@ -51,6 +53,7 @@ unfolding select
 none-of n [] h = refl
 none-of n (f ∷ fs) h = simp (ne-eqb (length f) n (h .0), none-of n fs (h .1))
 
+-- where all have another number of letters, there are none
 pub ofSize-other : (m n : ℕ) (fs : List (List ℕ)) → (m ≡ n → ⊥) → Sized m fs → ofSize n fs ≡ []
 ofSize-other m n fs d h = none-of n fs (all-implies (λ (f : List ℕ). length f ≡ m) (λ (f : List ℕ). length f ≡ n → ⊥) (λ f e k. d (omega (arith, e, k))) fs h)
 
@@ -94,6 +97,7 @@ factors-split ((a ∷ b ∷ c ∷ d ∷ f) ∷ fs) h o = absurd (omega (arith, h
 
 -- ════ how many letters
 
+-- as many scalar letters as factors of one letter
 pub scalars-counted : (fs : List (List ℕ)) → All OneToThree fs → scalarLettersOf fs ≡ length (ofSize 1 fs)
 unfolding select scalarLettersOf
 scalars-counted [] h = refl
@@ -103,6 +107,7 @@ scalars-counted ((a ∷ b ∷ []) ∷ fs) h = omega (arith, scalars-counted fs (
 scalars-counted ((a ∷ b ∷ c ∷ []) ∷ fs) h = omega (arith, scalars-counted fs (h .1))
 scalars-counted ((a ∷ b ∷ c ∷ d ∷ f) ∷ fs) h = absurd (omega (arith, h .0 .1))
 
+-- two vector letters a dot, three a triple
 pub vectors-counted : (fs : List (List ℕ)) → All OneToThree fs → vectorLettersOf fs ≡ length (ofSize 2 fs) * 2 + length (ofSize 3 fs) * 3
 unfolding select vectorLettersOf
 vectors-counted [] h = refl

@@ -28,6 +28,7 @@ areThere (f ∷ fs) = true
 
 -- ════ letters
 
+-- letters that stand somewhere are read there
 pub letters-read : (s : List ℕ) (a b n : ℕ) (xs : List ℕ) → length xs ≡ n → Spells s a b xs → readLetters n s a ≡ given (xs, b)
 unfolding readLetters
 letters-read s a b n xs e p =
@@ -40,6 +41,7 @@ pub record LettersRead (s : List ℕ) (a b n : ℕ) (xs : List ℕ) : Type 0 whe
   pub count : length xs ≡ n
   pub spelled : Spells s a b xs
 
+-- letters that are read stand there
 pub letters-written : (s : List ℕ) (a b n : ℕ) (xs : List ℕ) → readLetters n s a ≡ given (xs, b) → LettersRead s a b n xs
 unfolding readLetters
 letters-written s a b n xs e =
@@ -65,6 +67,7 @@ coef-written-out : (k : ℤ) → isOne k ≡ false → coefField k ≡ fourBytes
 unfolding coefField
 coef-written-out k e = simp e
 
+-- a coefficient is read back
 pub coef-read : (s : List ℕ) (a b : ℕ) (k : ℤ) → natAbs k ≤ 2147483647 → Spells s a b (coefField k) → readCoef (not (isOne k)) s a ≡ given (k, b)
 unfolding readCoef
 coef-read s a b k h p = go (isOne k) refl
@@ -79,6 +82,7 @@ coef-read s a b k h p = go (isOne k) refl
         let l : a + 4 ≡ b = omega (arith, q .ends, fourBytes-length k) in
         simp (e, l, le-leb b (length s) (p .fits), fourBytes-read s a b k h q, e)
 
+-- at most four bytes
 pub coef-short : (k : ℤ) → length (coefField k) ≤ 4
 coef-short k = go (isOne k) refl
   where
@@ -91,6 +95,7 @@ pub record CoefRead (isThere : Bool) (s : List ℕ) (a b : ℕ) (k : ℤ) : Type
   pub there : isThere ≡ not (isOne k)
   pub spelled : Spells s a b (coefField k)
 
+-- a coefficient that is read is the one that is written
 pub coef-written : (isThere : Bool) (s : List ℕ) (a b : ℕ) (k : ℤ) → Bytes s → a ≤ length s → readCoef isThere s a ≡ given (k, b) → CoefRead isThere s a b k
 unfolding readCoef isOne coefField
 coef-written false s a b k bs h e =
@@ -111,6 +116,7 @@ joined-length n (f ∷ fs) h =
     let i = joined-length n fs (h .1) in
     simp (length-append, suc-mul) (omega (arith, h .0))
 
+-- a count and n bytes a factor
 pub factors-short : (n : ℕ) (fs : List (List ℕ)) → Sized n fs → length (countField fs) ≤ 1 + length fs * n
 unfolding countField
 factors-short n [] h = omega arith
@@ -151,6 +157,7 @@ unfolding factorsAt
 factorsAt-count s n zero a = refl
 factorsAt-count s n (suc count) a = ap suc (factorsAt-count s n count (a + n))
 
+-- counted factors are read back
 pub factors-read : (s : List ℕ) (a b most n : ℕ) (fs : List (List ℕ)) → Sized n fs → length fs ≤ most → Spells s a b (countField fs)
     → readFactors (areThere fs) most n s a ≡ given (fs, b)
 unfolding countField readFactors
@@ -191,6 +198,7 @@ factors-there s a n c e h l f =
       spelled = rw (countField-some fs o, k, e) (rw e at (spells-cons s a (a + 1 + c * n) (joined fs) h (w .spelled)));
     }
 
+-- counted factors that are read are those that are written
 pub factors-written : (isThere : Bool) (s : List ℕ) (a b most n : ℕ) (fs : List (List ℕ)) → a ≤ length s → readFactors isThere most n s a ≡ given (fs, b)
     → FactorsRead isThere s a b n fs
 unfolding readFactors countField

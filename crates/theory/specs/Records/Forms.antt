@@ -1,6 +1,6 @@
 -- Form records (P3): a form in shape is read back from its record, bytes that are read are those that are written, and no record is longer than 770 bytes. Assumes nothing.
 use mathlib.Core.Path.{_≡_, refl, ap, sym, _∙_, subst}
-use mathlib.Core.Bool.{Bool, true, _&&_}
+use mathlib.Core.Bool.{Bool, _&&_}
 use mathlib.Core.List.{List, [], _∷_, _++_, map, append-nil}
 use Prim.Native.Nat.{ℕ, zero, suc, _+_, _*_, _≤_}
 use native.Mathlib.Omega.{arith}
@@ -12,7 +12,7 @@ use Rattle.specification.specs.Lists.{all, ascend, follows, joined}
 use Rattle.specification.specs.Results.{given}
 use Rattle.specification.specs.Terms.{Term, Form, termBefore, termInShape}
 use Rattle.specification.specs.Records.{writeTerm, writeForm, readTermAt, partFits, readTerms, readFormAt, readForm}
-use Rattle.theory.specs.Tests.{is-true, and-both, and-split, given-same, required, past, into}
+use Rattle.theory.specs.Tests.{is-true, and-both, and-split, given-same, past, into}
 use Rattle.theory.specs.Shape.Forms.{FormInShape}
 use Rattle.theory.specs.Records.Positions.{Spells, Bytes, spells-none, spells-cons, spells-join, spells-first, spells-rest, spells-all, spells-whole, spelled-there, spelled-byte, spelled-tail}
 use Rattle.theory.specs.Records.Terms.{term-read, term-short, term-written}

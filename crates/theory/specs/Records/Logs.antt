@@ -1,7 +1,7 @@
 -- Logs: a log written from a form, steps and a form, all in shape, is read back with exactly these parts and positions; and bytes that are read as a log are such a log. Assumes nothing.
 use mathlib.Core.Path.{_≡_, refl, ap, sym, _∙_, subst}
-use mathlib.Core.Bool.{true, _&&_}
-use mathlib.Core.List.{List, [], _∷_, _++_, map, append-nil, append-assoc}
+use mathlib.Core.Bool.{_&&_}
+use mathlib.Core.List.{List, [], _∷_, _++_, map, append-nil}
 use Prim.Native.Nat.{ℕ, zero, suc, _+_, _≤_, _<_}
 use native.Mathlib.Omega.{arith}
 use lib.ListN.{length, getD, length-append}
@@ -19,8 +19,8 @@ use Rattle.theory.specs.Elements.{All}
 use Rattle.theory.specs.Shape.Forms.{FormInShape}
 use Rattle.theory.specs.Rules.Steps.{StepShape, step-opens}
 use Rattle.theory.specs.Records.Positions.{Spells, Bytes, spells-none, spells-cons, spells-join, spells-all, spells-whole, spells-first, spells-rest, spelled-there, spelled-byte, spelled-tail}
-use Rattle.theory.specs.Records.Fields.{LettersRead, letters-read, letters-written}
-use Rattle.theory.specs.Records.Terms.{TermRead, term-read, term-written}
+use Rattle.theory.specs.Records.Fields.{letters-read, letters-written}
+use Rattle.theory.specs.Records.Terms.{term-read, term-written}
 use Rattle.theory.specs.Records.Forms.{FormRead, form-read, form-written}
 
 -- every step is in shape

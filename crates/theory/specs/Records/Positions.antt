@@ -38,6 +38,7 @@ module _ (s : List ℕ) where
   pub spells-cons : (a b : ℕ) (xs : List ℕ) → a < length s → Spells s (a + 1) b xs → Spells s a b (getD s a 0 ∷ xs)
   spells-cons a b xs h p = spells-join a (a + 1) b (getD s a 0 ∷ []) xs (spells-one a h) p
 
+  -- what stands behind the first part
   pub spells-rest : (a c : ℕ) (xs ys : List ℕ) → Spells s a c (xs ++ ys) → Spells s (a + length xs) c ys
   spells-rest a c xs ys p = record {
     ends = omega (arith, simp length-append at (p .ends));
@@ -45,6 +46,7 @@ module _ (s : List ℕ) where
     bytes = sym (drop-drop (length xs) a s) ∙ ap (drop (length xs)) (p .bytes ∙ append-assoc xs ys (drop c s)) ∙ drop-append-seam xs (ys ++ drop c s);
   }
 
+  -- the first part
   pub spells-first : (a c : ℕ) (xs ys : List ℕ) → Spells s a c (xs ++ ys) → Spells s a (a + length xs) xs
   spells-first a c xs ys p = record {
     ends = refl;
@@ -52,37 +54,35 @@ module _ (s : List ℕ) where
     bytes = p .bytes ∙ append-assoc xs ys (drop c s) ∙ ap (λ (l : List ℕ). xs ++ l) (sym (spells-rest a c xs ys p .bytes));
   }
 
+  -- the bytes taken are those spelled
   pub spelled-take : (a b : ℕ) (xs : List ℕ) → Spells s a b xs → take (length xs) (drop a s) ≡ xs
   spelled-take a b xs p = rw (p .bytes) (take-at xs (drop b s) (length xs) refl)
 
+  -- there is a first byte
   pub spelled-there : (a b x : ℕ) (xs : List ℕ) → Spells s a b (x ∷ xs) → a < length s
   spelled-there a b x xs p = omega (arith, p .ends, p .fits)
 
+  -- it is the first one spelled
   pub spelled-byte : (a b x : ℕ) (xs : List ℕ) → Spells s a b (x ∷ xs) → getD s a 0 ≡ x
   spelled-byte a b x xs p = ap (λ (l : List ℕ). getD l 0 0) (sym (drop-cons s a 0 (spelled-there a b x xs p)) ∙ p .bytes)
 
+  -- and the others stand behind it
   pub spelled-tail : (a b x : ℕ) (xs : List ℕ) → Spells s a b (x ∷ xs) → Spells s (a + 1) b xs
   spelled-tail a b x xs p = spells-rest a b (x ∷ []) xs p
 
+  -- all bytes spell themselves
   pub spells-all : Spells s 0 (length s) s
   spells-all = record { ends = omega arith; fits = omega arith; bytes = sym (ap (λ (l : List ℕ). s ++ l) (drop-length s) ∙ append-nil s) }
 
+  -- and nothing else
   pub spells-whole : (xs : List ℕ) → Spells s 0 (length s) xs → xs ≡ s
   spells-whole xs p = sym (p .bytes ∙ ap (λ (l : List ℕ). xs ++ l) (drop-length s) ∙ append-nil xs)
-
-pub spells-between : (pre xs post : List ℕ) → Spells (pre ++ xs ++ post) (length pre) (length pre + length xs) xs
-spells-between pre xs post =
-    let e : drop (length pre) (pre ++ xs ++ post) ≡ xs ++ post = rw append-assoc (drop-append-seam pre (xs ++ post)) in
-    record {
-      ends = refl;
-      fits = simp length-append (omega arith);
-      bytes = e ∙ ap (λ (l : List ℕ). xs ++ l) (sym (sym (drop-drop (length xs) (length pre) (pre ++ xs ++ post)) ∙ ap (drop (length xs)) e ∙ drop-append-seam xs post));
-    }
 
 -- every element is a byte
 abbrev pub Bytes : List ℕ → Type 0
 Bytes s = All (λ (b : ℕ). b < 256) s
 
+-- each is below 256
 pub byte-small : (s : List ℕ) → Bytes s → (i : ℕ) → getD s i 0 < 256
 byte-small [] h i = omega arith
 byte-small (x ∷ s) h zero = h .0

@@ -1,15 +1,15 @@
 -- Term records: a term in shape is read back from its record, and a record that is read is the one that is written; it has at most 16 bytes. Assumes nothing.
 use mathlib.Core.Path.{_≡_, refl, _∙_, subst}
-use mathlib.Core.Bool.{true, not, _&&_}
-use mathlib.Core.List.{List, [], _∷_, _++_, append-nil}
+use mathlib.Core.Bool.{not}
+use mathlib.Core.List.{List, _∷_, _++_, append-nil}
 use Prim.Native.Nat.{ℕ, _+_, _≤_, _<_}
 use native.Mathlib.Omega.{arith}
 use lib.IntN.{ℤ, natAbs}
 use lib.ListN.{length, getD, length-append}
-use lib.Dec.{T, ltb, leb, ltb→lt, leb→le}
+use lib.Dec.{T, ltb, ltb→lt, leb→le}
 use borrow.Author.Tests.{lt-ltb}
 use Rattle.specification.specs.Results.{given}
-use Rattle.specification.specs.Terms.{Term, coefWithin, vectorLetters, termInShape}
+use Rattle.specification.specs.Terms.{Term, coefWithin, termInShape}
 use Rattle.specification.specs.Records.{isOne, coefField, countField, factorsOf, writeTerm, stands, goodBits, partLetters, readCoef, readFactors, readLetters, testShape, readTermAt}
 use Rattle.theory.specs.Tests.{passes, given-same, past, into}
 use Rattle.theory.specs.Shape.Terms.{TermShape, term-opens}

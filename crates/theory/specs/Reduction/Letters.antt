@@ -1,16 +1,16 @@
 -- The letters of an expression that is read are in the table, with their kinds. Assumes nothing.
-use mathlib.Core.Path.{_≡_, refl, _∙_, ap, subst}
+use mathlib.Core.Path.{_≡_, refl, _∙_, subst}
 use mathlib.Core.Bool.{Bool, true, false, _&&_}
 use mathlib.Core.List.{List, [], _∷_}
 use Prim.Native.Nat.{ℕ, zero, suc, _+_, _≤_}
 use native.Mathlib.Omega.{arith}
 use lib.Dec.{T, ltb, leb, eqb, leb→le}
 use lib.ListN.{length, getD}
-use Rattle.specification.specs.Results.{Result, given, require, _>>_, if_then_else_}
+use Rattle.specification.specs.Results.{Result, given, require, if_then_else_}
 use Rattle.specification.specs.Lists.{all}
 use Rattle.specification.specs.Letters.{isKind, goodTable, kindOf, testLetter}
 use Rattle.specification.specs.Expressions.{Expr, Letter, Constant, Sum, Difference, Negation, Times, Dot, Wedge, Triple, Token, leaf, one, two, three, tokenBytes, testBytes, readLetter, readToken, readOperands, readTree, readExpr}
-use Rattle.theory.specs.Tests.{and-split, eqb-T, given-same, refused≢given, required, passes, tested, bound}
+use Rattle.theory.specs.Tests.{and-split, eqb-T, given-same, refused≢given, required, passes, tested, bound, into}
 use Rattle.theory.specs.Shape.Letters.{Known}
 
 -- every letter is in the table, with its kind, which is scalar or vector
@@ -99,15 +99,14 @@ module _ (table : List ℕ) (good : T (goodTable table)) where
       let x = bound (tree at) _ p r in
       subst (λ (q : Expr × ℕ). LettersIn table (q .0)) (given-same (x .2)) (t (x .0 .0) (h at (x .0) (x .1)))
   operands-fit tree h at (two op) t p r =
-      let x = bound (tree at) _ p r in
-      let y = bound (tree (x .0 .1)) _ p (x .2) in
-      subst (λ (q : Expr × ℕ). LettersIn table (q .0)) (given-same (y .2)) (t (x .0 .0) (y .0 .0) (h at (x .0) (x .1)) (h (x .0 .1) (y .0) (y .1)))
+      into (tree at) _ p r λ x r₁ e₁.
+      into (tree (x .1)) _ p e₁ λ y r₂ e₂.
+      subst (λ (q : Expr × ℕ). LettersIn table (q .0)) (given-same e₂) (t (x .0) (y .0) (h at x r₁) (h (x .1) y r₂))
   operands-fit tree h at (three op) t p r =
-      let x = bound (tree at) _ p r in
-      let y = bound (tree (x .0 .1)) _ p (x .2) in
-      let z = bound (tree (y .0 .1)) _ p (y .2) in
-      subst (λ (q : Expr × ℕ). LettersIn table (q .0)) (given-same (z .2))
-      (t (x .0 .0) (y .0 .0) (z .0 .0) (h at (x .0) (x .1)) (h (x .0 .1) (y .0) (y .1)) (h (y .0 .1) (z .0) (z .1)))
+      into (tree at) _ p r λ x r₁ e₁.
+      into (tree (x .1)) _ p e₁ λ y r₂ e₂.
+      into (tree (y .1)) _ p e₂ λ z r₃ e₃.
+      subst (λ (q : Expr × ℕ). LettersIn table (q .0)) (given-same e₃) (t (x .0) (y .0) (z .0) (h at x r₁) (h (x .1) y r₂) (h (y .1) z r₃))
 
   tree-fits : (depth : ℕ) (s : List ℕ) (at : ℕ) → TreeFits (readTree depth table s at)
   unfolding readTree

@@ -4,7 +4,7 @@ use mathlib.Core.Bool.{Bool, true, false, _&&_, _||_}
 use mathlib.Core.List.{List, [], _∷_, _++_, map, append-nil}
 use Prim.Native.Nat.{ℕ, _+_, _≤_}
 use native.Mathlib.Omega.{arith}
-use lib.IntN.{ℤ, pos, negsuc, negℤ, natAbs, _+ℤ_, _*ℤ_}
+use lib.IntN.{ℤ, pos, negsuc, negℤ, _+ℤ_, _*ℤ_}
 use lib.IntN as I
 use lib.Dec.{T, leb, eqb, eqb→eq}
 use lib.ListN.{length, length-append, length-map}
@@ -39,6 +39,7 @@ timesLeft a b = a .x • b
 abbrev timesRight : Vec → Vec → Vec
 timesRight a b = b .x • a
 
+-- the dot as a vector with 0 in the last two
 abbrev dotOp : Vec → Vec → Vec
 dotOp a b = scalarValue (dot a b)
 

@@ -16,7 +16,7 @@ use Rattle.specification.specs.Terms.{Term, Form, timesTerm, gather, within, ve
 use Rattle.specification.specs.Reduction.{joinedScalars, pairTerms, pairsOf, pairLettersFit, pairCoefFits, product}
 use Rattle.specification.specs.Evaluation.{factorValue, factorsValue, partValue, termValue, termsValue, value}
 use Rattle.theory.specs.Tests.{and-split, required}
-use Rattle.theory.specs.Elements.{All, all-append, all-implies, both-all, all-T, all-map, all-flatMap}
+use Rattle.theory.specs.Elements.{All, all-append, both-all, all-T, all-map, all-flatMap}
 use Rattle.theory.specs.Order.{monomial}
 use Rattle.theory.specs.Shape.Terms.{OneToThree, kindOfPart, Fits, vectors-append, scalars-append}
 use Rattle.theory.specs.Shape.Forms.{FormInShape, AllFit, Within, within-given, within-in-shape}
@@ -50,6 +50,7 @@ within-denotes table kind ts f k h known e =
 -- ════ a term without a vector part times a term
 
 module _ (σ : ℕ → Vec) where
+  -- joined factors multiply
   pub factors-append : (fs gs : List (List ℕ)) → factorsValue σ (fs ++ gs) ≡ factorsValue σ fs *ℤ factorsValue σ gs
   unfolding factorsValue
   factors-append [] gs = sym (R.one-*ℤ (factorsValue σ gs))
@@ -75,6 +76,7 @@ module _ (σ : ℕ → Vec) where
 
 -- ════ bilinear operations
 
+-- sums and multiples come out on both sides
 pub record Bilinear (op : Vec → Vec → Vec) : Type 0 where
   pub sumLeft : (a b c : Vec) → op (a +v b) c ≡ op a c +v op b c
   pub sumRight : (a b c : Vec) → op a (b +v c) ≡ op a b +v op a c
@@ -185,6 +187,7 @@ module _ (op : Vec → Vec → Vec) (L : Bilinear op) where
 
     -- ---- the product
 
+    -- the product of two forms denotes the operation on their values
     pub product-denotes : (table : List ℕ) (f g r : Form) → kind ≤ 1 → AllFit left (f .terms) → AllFit right (g .terms)
         → AllKnown table (f .terms) → AllKnown table (g .terms) → product kind parts f g ≡ given r
         → Denotes table r kind (λ σ. op (value σ f) (value σ g))

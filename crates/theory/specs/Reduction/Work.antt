@@ -1,5 +1,5 @@
 -- Reduction keeps the value (P2): an expression that is taken has, under every assignment of integers, the value of its form, which is in shape, with letters of the table. Assumes nothing.
-use mathlib.Core.Path.{_≡_, refl, sym, _∙_, ap, subst}
+use mathlib.Core.Path.{_≡_, refl, sym, _∙_, subst}
 use mathlib.Core.List.{List, [], _∷_}
 use Prim.Native.Nat.{ℕ, zero, suc, _≤_}
 use native.Mathlib.Omega.{arith}
@@ -10,15 +10,15 @@ use Rattle.algebra.specs.Integers as R
 use Rattle.algebra.specs.Integers.{NonZero, pos-nonzero, negsuc-nonzero}
 use Rattle.specification.specs.Results.{given}
 use Rattle.specification.specs.Lists.{all, ascend}
-use Rattle.specification.specs.Values.{Vec, scalarValue, _+v_, _-v_, _•_, dot, wedge, triple}
-use Rattle.specification.specs.Letters.{scalar, vector, goodTable}
+use Rattle.specification.specs.Values.{Vec, scalarValue, _•_}
+use Rattle.specification.specs.Letters.{scalar, goodTable}
 use Rattle.specification.specs.Terms.{Term, Form, plus, termKind, isZero, keep, insert, coefWithin, vectorLettersOf, scalarLettersOf, vectorLetters, scalarLetters, factorInShape, partInShape, termInShape}
 use Rattle.specification.specs.Records.{partFits, testTerms}
 use Rattle.specification.specs.Expressions.{Expr, Letter, Constant, Sum, Difference, Negation, Times, Dot, Wedge, Triple, readExpr}
-use Rattle.specification.specs.Reduction.{negateForm, sumForms, timesForms, dotForms, wedgeForms, tripleForms, letterForm, constantForm, work, reduced}
+use Rattle.specification.specs.Reduction.{letterForm, constantForm, work, reduced}
 use Rattle.specification.specs.Evaluation.{factorsValue, partValue, termValue, termsValue, value, exprKind, exprValue}
 use Rattle.theory.specs.Tests.{given-same, required, bound}
-use Rattle.theory.specs.Elements.{All, T-all}
+use Rattle.theory.specs.Elements.{T-all}
 use Rattle.theory.specs.Shape.Terms.{term-closes}
 use Rattle.theory.specs.Shape.Forms.{FormInShape}
 use Rattle.theory.specs.Shape.Bare.{shapes}

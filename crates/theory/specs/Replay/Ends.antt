@@ -4,7 +4,6 @@ use mathlib.Core.Bool.{true}
 use mathlib.Core.List.{List, [], _∷_, _++_, append-assoc}
 use Prim.Native.Nat.{ℕ, _≤_}
 use native.Mathlib.Omega.{arith}
-use lib.Dec.{eqb}
 use lib.ListN.{length, take, drop, length-append}
 use lib.Seq.{take-at, drop-append-seam}
 use borrow.Author.Tests.{eq-eqb, le-leb}
@@ -15,7 +14,7 @@ use Rattle.specification.specs.Terms.{Form}
 use Rattle.specification.specs.Records.{writeForm, readForm, testTerms}
 use Rattle.specification.specs.Rules.{Step, takeStep, testStepLetters}
 use Rattle.specification.specs.Evaluation.{value, assignment}
-use Rattle.specification.specs.Logs.{Checked, accepted, checkCall}
+use Rattle.specification.specs.Logs.{accepted, checkCall}
 use Rattle.specification.specs.Decision.{Decision, holds, differs, undecided, takeTwoForms, decideTested, DecidedBy, Decided}
 use Rattle.theory.specs.Tests.{is-true, given-same, tested, bound}
 use Rattle.theory.specs.Shape.Forms.{FormInShape}
@@ -74,13 +73,14 @@ ends-read table s a b n r =
       lastIs = ap readForm back ∙ form-read-back (r .last) (r .derives .inShape .lastForm);
     }
 
--- P7: an accepted log's first and last forms, read as parts of the log, have equal values under every assignment
+-- the ends of an accepted log, read as its parts
 pub record AcceptedEnds (s : List ℕ) (a b : ℕ) : Type 0 where
   pub first : Form
   pub last : Form
   pub areRead : EndsRead s a b first last
   pub agree : EndsAgree first last
 
+-- P7: an accepted log's first and last forms, read as parts of the log, have equal values under every assignment
 pub accepted-ends : (table s : List ℕ) (a b n : ℕ) → Bytes s → checkCall table s ≡ accepted a b n → AcceptedEnds s a b
 accepted-ends table s a b n bs e =
     let r = accepted-derives table s a b n bs e in

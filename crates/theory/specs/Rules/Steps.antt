@@ -3,11 +3,10 @@ use mathlib.Core.Path.{_≡_, refl, sym, _∙_, ap, subst}
 use mathlib.Core.Bool.{Bool, true, false, _&&_}
 use mathlib.Core.List.{List, [], _∷_, _++_, map, append-nil}
 use Prim.Native.Nat.{ℕ, _+_, _≤_}
-use native.Mathlib.Omega.{arith}
 use lib.IntN.{ℤ, pos, _*ℤ_}
 use lib.IntN as I
 use lib.Dec.{T, leb, eqb, leb→le, eqb→eq}
-use lib.ListN.{length, length-append}
+use lib.ListN.{length}
 use Rattle.algebra.specs.Integers as R
 use Rattle.specification.specs.Results.{given, if_then_else_}
 use Rattle.specification.specs.Values.{Vec, scalarValue, _+v_, _•_}
@@ -36,6 +35,7 @@ pub record StepShape (s : Step) : Type 0 where
   pub long : length (s .letters) ≡ ruleLetters (s .rule)
   pub m : T (termInShape (s .m))
 
+-- what the test of a step's shape says
 pub step-opens : (s : Step) → T (stepInShape s) → StepShape s
 unfolding stepInShape
 step-opens s h =
@@ -87,9 +87,11 @@ module _ (σ : ℕ → Vec) (t : Term) where
 -- ════ what a step adds
 
 module _ (f : Form) (s : Step) (agree : Agreeing f s) (shape : StepShape s) where
+  -- the terms of the rule at its letters
   abbrev rs : List Term
   rs = ruleTerms (s .rule) (s .letters)
 
+  -- what they are
   abbrev IsRuleTerm : Term → Type 0
   IsRuleTerm u = Bare (ruleKind (s .rule)) (ruleLetters (s .rule)) u
 

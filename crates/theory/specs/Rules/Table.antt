@@ -4,14 +4,14 @@
 use mathlib.Core.Path.{_≡_, refl, sym, _∙_, ap, subst}
 use mathlib.Core.Bool.{Bool, true, false, _&&_}
 use mathlib.Core.List.{List, [], _∷_, _++_, map}
-use Prim.Native.Nat.{ℕ, zero, suc, _<_, _≤_}
+use Prim.Native.Nat.{ℕ, zero, suc, _<_}
 use native.Mathlib.Nat as N
 use native.Mathlib.Omega.{arith}
 use lib.Dec.{T, eqb, leb, ltb, leb→le, ltb→lt, eqb→eq}
 use lib.ListN.{length, getD, length-map}
-use lib.IntN.{ℤ, pos, negsuc, _*ℤ_}
+use lib.IntN.{pos, _*ℤ_}
 use Rattle.algebra.specs.Integers as R
-use Rattle.specification.specs.Results.{given, if_then_else_}
+use Rattle.specification.specs.Results.{if_then_else_}
 use Rattle.specification.specs.Lists.{all}
 use Rattle.specification.specs.Values.{Vec, scalarValue, _+v_, _•_}
 use Rattle.specification.specs.Letters.{scalar, vector}
@@ -19,9 +19,9 @@ use Rattle.specification.specs.Terms.{Term, timesTerm, negated}
 use Rattle.specification.specs.Rules.{Sides, rule1, rule2, rule3, rule4, bracket, rule5, sides, ruleLetters, ruleKind, isRule, Step, stepTerms}
 use Rattle.specification.specs.Evaluation.{factorValue, factorsValue, partValue, termValue, termsValue}
 use Rattle.theory.specs.Tests.{and-split}
-use Rattle.theory.specs.Elements.{All, all-implies, all-map, all-T}
+use Rattle.theory.specs.Elements.{All, all-map, all-T}
 use Rattle.theory.specs.Order.{monomial}
-use Rattle.theory.specs.Shape.Bare.{Bare, isBare, all-bare, shapes}
+use Rattle.theory.specs.Shape.Bare.{Bare, all-bare, shapes}
 use Rattle.theory.specs.Shape.Letters.{Known, FactorKnown, MonomialKnown, AllKnown}
 use Rattle.theory.specs.Values.Vectors.{+v-negated}
 use Rattle.theory.specs.Values.Expressions.{termsE, SameE, same-vectors, terms-expand, expanding}
@@ -37,6 +37,7 @@ positions = 0 ∷ 1 ∷ 2 ∷ 3 ∷ 4 ∷ 5 ∷ []
 abbrev relabel : (ℕ → ℕ) → Term → Term
 relabel f t = record { coef = t .coef; factors = map (map f) (t .factors); part = map f (t .part) }
 
+-- both sides with other letters
 abbrev relabelSides : (ℕ → ℕ) → Sides → Sides
 relabelSides f s = record { left = map (relabel f) (s .left); right = map (relabel f) (s .right) }
 
@@ -60,6 +61,7 @@ sides-relabelled =
 -- ════ values
 
 module _ (σ : ℕ → Vec) (f : ℕ → ℕ) where
+  -- the assignment behind the letters
   abbrev τ : ℕ → Vec
   τ n = σ (f n)
 
@@ -170,6 +172,7 @@ all-at P (x ∷ ls) zero h l = h .0
 all-at P (x ∷ ls) (suc i) h l = all-at P ls i (h .1) (omega arith)
 
 module _ (table ls : List ℕ) (known : All (Known table vector) ls) where
+  -- the letter at a position
   abbrev put : ℕ → ℕ
   put i = getD ls i 0
 

@@ -1,13 +1,12 @@
 -- A form in shape: what the tests of a form say. Its terms are gathered; and what is gathered from terms of one kind within the limits, and passes 9 and 10, is a form in shape.
 -- Assumes nothing.
-use mathlib.Core.Path.{_≡_, refl, sym, ap, subst}
-use mathlib.Core.Bool.{Bool}
+use mathlib.Core.Path.{_≡_, sym, subst}
 use mathlib.Core.List.{List, [], _∷_}
 use Prim.Native.Nat.{ℕ, _≤_, Ordering}
-use lib.Dec.{T, eqb, leb, leb→le, eqb→eq}
+use lib.Dec.{T, leb, leb→le, eqb→eq}
 use lib.ListN.{length}
 use Rattle.algebra.specs.Integers.{NonZero}
-use Rattle.specification.specs.Results.{Result, given, require, _>>_}
+use Rattle.specification.specs.Results.{given}
 use Rattle.specification.specs.Lists.{isLess, all, ascend}
 use Rattle.specification.specs.Terms.{Term, Form, termKind, tidy, gather, termWithin, within, termBefore, termInShape}
 use Rattle.specification.specs.Records.{partFits}
@@ -17,7 +16,7 @@ use Rattle.theory.specs.Order.{View, vlt, veq, vgt, Monomial, monomial, 
 use Rattle.theory.specs.Gathering.Tidy.{InOrder, tidy-in-order}
 use Rattle.theory.specs.Gathering.Coefficients.{Ascending}
 use Rattle.theory.specs.Gathering.Gathered.{Good, Unless0, gather-good, gather-asc, Gathered}
-use Rattle.theory.specs.Shape.Terms.{kindOfPart, Fits, TermShape, term-opens, term-closes, in-shape-tidy, tidy-fits}
+use Rattle.theory.specs.Shape.Terms.{kindOfPart, Fits, term-opens, term-closes, in-shape-tidy, tidy-fits}
 
 -- ════ the order of terms
 
@@ -38,6 +37,7 @@ ascend-terms (u ∷ []) t = (tt, tt)
 ascend-terms (u ∷ v ∷ ts) t =
     let w = and-split (termBefore u v) (ascend termBefore (v ∷ ts)) t in (before (term-view u v) (w .0), ascend-terms (v ∷ ts) (w .1))
 
+-- and back
 pub terms-ascend : (ts : List Term) → Ascending ts → T (ascend termBefore ts)
 unfolding ascend
 terms-ascend [] a = tt
@@ -68,6 +68,7 @@ form-gathered f s =
 abbrev pub AllFit : (kind : ℕ) → List Term → Type 0
 AllFit kind ts = All (λ (t : Term). Fits kind (monomial t)) ts
 
+-- the terms of a form in shape
 pub form-fits : (f : Form) → FormInShape f → AllFit (f .kind) (f .terms)
 unfolding partFits termKind
 form-fits f s =
@@ -83,6 +84,7 @@ pub record Within (kind : ℕ) (ts : List Term) (f : Form) : Type 0 where
   pub short : length ts ≤ 48
   pub is : f ≡ record { kind = kind; terms = ts }
 
+-- what 9 and 10 say of a form that is given
 pub within-given : (kind : ℕ) (ts : List Term) (f : Form) → within kind ts ≡ given f → Within kind ts f
 unfolding within
 within-given kind ts f e =
@@ -90,6 +92,7 @@ within-given kind ts f e =
     let w₂ = required (leb (length ts) 48) 10 _ f (w₁ .1) in
     record { coefs = w₁ .0; short = leb→le (length ts) 48 (w₂ .0); is = given-same (sym (w₂ .1)) }
 
+-- in the order of forms, of the kind, within the limits
 abbrev Whole : ℕ → Monomial → Type 0
 Whole kind m = InOrder m × Fits kind m
 

@@ -1,6 +1,6 @@
 -- Letters that are in the table and of their kind: tidying, products and gathering keep them. Assumes nothing.
 use mathlib.Core.Path.{_≡_, refl, sym, _∙_, ap, subst}
-use mathlib.Core.List.{List, [], _∷_, _++_, map}
+use mathlib.Core.List.{List, [], _∷_, map}
 use Prim.Native.Nat.{ℕ}
 use lib.Dec.{eqb}
 use lib.ListN.{length}
@@ -20,6 +20,7 @@ module _ (table : List ℕ) where
   abbrev pub Known : (kind n : ℕ) → Type 0
   Known kind n = testLetter table kind n ≡ given tt
 
+  -- letters that pass the test are known
   pub letters-known : (kind : ℕ) (ls : List ℕ) → testLetters table kind ls ≡ given tt → All (Known kind) ls
   unfolding testLetters
   letters-known kind [] e = tt
@@ -34,6 +35,7 @@ module _ (table : List ℕ) where
   abbrev kindOfFactor : List ℕ → ℕ
   kindOfFactor f = if eqb (length f) 1 then scalar else vector
 
+  -- the letters of a factor are known
   abbrev pub FactorKnown : List ℕ → Type 0
   FactorKnown f = All (Known (kindOfFactor f)) f
 
@@ -59,6 +61,7 @@ module _ (table : List ℕ) where
   known-factors [] h = refl
   known-factors (f ∷ fs) h = ap (λ r. r >> testFactors table fs) (known-letters (kindOfFactor f) f (h .0)) ∙ known-factors fs (h .1)
 
+  -- the letters of a term that passes are known
   pub term-known : (t : Term) → testTerm table t ≡ given tt → MonomialKnown (monomial t)
   unfolding testTerm
   term-known t e =
@@ -98,6 +101,7 @@ module _ (table : List ℕ) where
     part = O.all-sorted order (Known vector) (t .part) (h .part);
   }
 
+  -- a product has the letters of both
   pub times-known : (t u : Term) → MonomialKnown (monomial t) → MonomialKnown (monomial u) → MonomialKnown (monomial (timesTerm t u))
   unfolding timesTerm
   times-known t u h k = record {

@@ -13,7 +13,7 @@ use Rattle.algebra.specs.Integers.{NonZero, pos-nonzero, negsuc-nonzero}
 use Rattle.specification.specs.Results.{if_then_else_}
 use Rattle.specification.specs.Lists.{isNotMore, all, ascend, order, putInto, sorted}
 use Rattle.specification.specs.Letters.{scalar, vector}
-use Rattle.specification.specs.Terms.{Term, compareLetters, termKind, tidy, isZero, coefWithin, vectorLettersOf, scalarLettersOf, vectorLetters, scalarLetters, factorInShape, partInShape, factorNotAfter, termInShape}
+use Rattle.specification.specs.Terms.{Term, compareLetters, tidy, isZero, coefWithin, vectorLettersOf, scalarLettersOf, vectorLetters, scalarLetters, factorInShape, partInShape, factorNotAfter, termInShape}
 use Rattle.theory.specs.Tests.{and-both, and-split}
 use Rattle.theory.specs.Elements.{All, all-implies, both-all, all-T, T-all}
 use Rattle.theory.specs.Order.{View, vlt, veq, vgt, Monomial, monomial, LtLetters, letters-laws}
@@ -72,6 +72,7 @@ le-of : (a b : ℕ) → (a < b) ⊎ (a ≡ b) → a ≤ b
 le-of a b (inl h) = omega arith
 le-of a b (inr h) = omega arith
 
+-- one, two or three letters
 abbrev pub OneToThree : List ℕ → Type 0
 OneToThree f = (1 ≤ length f) × (length f ≤ 3)
 
@@ -159,6 +160,7 @@ seven-split a b c d e f g t =
     let w₁ = and-split a b (w₂ .0) in
     (w₁ .0, w₁ .1, w₂ .1, w₃ .1, w₄ .1, w₅ .1, w₆ .1)
 
+-- what the test says
 pub term-opens : (t : Term) → T (termInShape t) → TermShape t
 unfolding termInShape vectorLetters scalarLetters
 term-opens t h =
@@ -182,6 +184,7 @@ term-opens t h =
       };
     }
 
+-- what makes the test hold
 pub term-closes : (t : Term) → TermShape t → T (termInShape t)
 unfolding termInShape vectorLetters scalarLetters
 term-closes t s =
@@ -233,10 +236,12 @@ scalars-tidy : (l : List (List ℕ)) → scalarLettersOf (sorted compareLetters 
 unfolding scalarLettersOf
 scalars-tidy = sum-sorted scalarLettersOf (λ f. if eqb (length f) 1 then 1 else 0) refl (λ f l. refl) (λ f. ap (λ (n : ℕ). if eqb n 1 then 1 else 0) (length-same f))
 
+-- vector letters of joined factors
 pub vectors-append : (k l : List (List ℕ)) → vectorLettersOf (k ++ l) ≡ vectorLettersOf k + vectorLettersOf l
 unfolding vectorLettersOf
 vectors-append = sum-append vectorLettersOf (λ f. if eqb (length f) 1 then 0 else length f) refl (λ f l. refl) (λ f. ap (λ (n : ℕ). if eqb n 1 then 0 else n) (length-same f))
 
+-- scalar letters of joined factors
 pub scalars-append : (k l : List (List ℕ)) → scalarLettersOf (k ++ l) ≡ scalarLettersOf k + scalarLettersOf l
 unfolding scalarLettersOf
 scalars-append = sum-append scalarLettersOf (λ f. if eqb (length f) 1 then 1 else 0) refl (λ f l. refl) (λ f. ap (λ (n : ℕ). if eqb n 1 then 1 else 0) (length-same f))

@@ -30,39 +30,47 @@ pub dot-comm : (a b : Vec) → dot a b ≡ dot b a
 unfolding normalising
 dot-comm a b = same-numbers (dotE A B) (dotE B A) (letters (a ∷ b ∷ [])) refl
 
+-- b∧a = −(a∧b)
 pub wedge-exchange : (a b : Vec) → wedge a b ≡ negsuc 0 • wedge b a
 unfolding normalising
 wedge-exchange a b =
     same-vectors (wedgeE A B) (lit (negsuc 0) •e wedgeE B A) (letters (a ∷ b ∷ [])) (refl, refl, refl)
 
+-- a∧a = 0
 pub wedge-same : (a : Vec) → wedge a a ≡ scalarValue (pos 0)
 wedge-same a = by-components (component (a .y) (a .z)) (component (a .z) (a .x)) (component (a .x) (a .y))
   where
     component : (x y : ℤ) → x *ℤ y -ℤ y *ℤ x ≡ pos 0
     component x y = ap (λ (u : ℤ). u -ℤ y *ℤ x) (I.*ℤ-comm x y) ∙ I.+ℤ-invr (y *ℤ x)
 
+-- (bac) = −(abc)
 pub triple-exchange-first : (a b c : Vec) → triple a b c ≡ negsuc 0 *ℤ triple b a c
 unfolding normalising
 triple-exchange-first a b c =
     same-numbers (tripleE A B C) (lit (negsuc 0) ⊗ tripleE B A C) (letters (a ∷ b ∷ c ∷ [])) refl
 
+-- (acb) = −(abc)
 pub triple-exchange-last : (a b c : Vec) → triple a b c ≡ negsuc 0 *ℤ triple a c b
 unfolding normalising
 triple-exchange-last a b c =
     same-numbers (tripleE A B C) (lit (negsuc 0) ⊗ tripleE A C B) (letters (a ∷ b ∷ c ∷ [])) refl
 
+-- (abc) = (bca)
 pub triple-turn : (a b c : Vec) → triple a b c ≡ triple b c a
 unfolding normalising
 triple-turn a b c =
     same-numbers (tripleE A B C) (tripleE B C A) (letters (a ∷ b ∷ c ∷ [])) refl
 
+-- (aab) = 0
 pub triple-same-first : (a b : Vec) → triple a a b ≡ pos 0
 unfolding normalising
 triple-same-first a b = same-numbers (tripleE A A B) (lit (pos 0)) (letters (a ∷ b ∷ [])) refl
 
+-- (abb) = 0
 pub triple-same-last : (a b : Vec) → triple a b b ≡ pos 0
 triple-same-last a b = triple-turn a b b ∙ triple-same-first b a
 
+-- (aba) = 0
 pub triple-same-ends : (a b : Vec) → triple a b a ≡ pos 0
 triple-same-ends a b = triple-turn a b a ∙ triple-same-last b a
 
@@ -193,6 +201,7 @@ module _ (σ : ℕ → Vec) where
       test true e = refl
       test false e = ap (λ (k : ℤ). factorValue σ g *ℤ k) e ∙ R.*ℤ-left-comm (factorValue σ g) (factorValue σ f) (factorsValue σ gs)
 
+  -- sorted factors have the value of the factors, up to the sign of the exchanges
   pub factors-sorted : (fs : List (List ℕ)) → All OneToThree fs
       → factorsSign fs *ℤ factorsValue σ (sorted compareLetters (map (sorted order) fs)) ≡ factorsValue σ fs
   unfolding factorsSign sorted factorsValue
@@ -203,6 +212,7 @@ module _ (σ : ℕ → Vec) where
       ∙ R.*ℤ-interchange (factorSign f) (factorsSign fs) (factorValue σ (sorted order f)) (factorsValue σ rest)
       ∙ (λ i. factor-sorted f (h .0) i *ℤ factors-sorted fs (h .1) i)
 
+  -- a sorted vector part has its value, up to the sign of the exchange
   pub part-sorted : (p : List ℕ) → length p ≤ 2 → exchangeSign p • partValue σ (sorted order p) ≡ partValue σ p
   unfolding exchangeSign signBefore sorted partValue
   part-sorted [] h = one-• (scalarValue (pos 1))

@@ -1,10 +1,10 @@
 -- Vectors whose components are ring expressions, and terms as such vectors: equal normal forms give equal values. Assumes nothing.
-use mathlib.Core.Path.{_≡_, refl, sym, _∙_, ap}
+use mathlib.Core.Path.{_≡_, refl, ap}
 use mathlib.Core.List.{List, [], _∷_}
 use Prim.Native.Nat.{ℕ, zero, suc, _+_, _*_, _/_, _%_}
 use native.Mathlib.Omega.{arith}
-use lib.IntN.{ℤ, pos, _+ℤ_, _*ℤ_}
-use Rattle.algebra.specs.Polynomials.{Poly, nil}
+use lib.IntN.{ℤ, pos, _*ℤ_}
+use Rattle.algebra.specs.Polynomials.{nil}
 use Rattle.algebra.specs.Normaliser.{Ex, var, lit, _⊕_, _⊖_, _⊗_, ⟦_⟧_, norm, solve, normalising}
 use Rattle.specification.specs.Values.{Vec, scalarValue, _+v_, _•_, dot, wedge, triple}
 use Rattle.specification.specs.Terms.{Term}
@@ -66,6 +66,7 @@ H = letterE 5
 
 -- ════ their values
 
+-- the first, second or third component
 abbrev component : ℕ → Vec → ℤ
 component zero v = v .x
 component (suc zero) v = v .y
@@ -75,6 +76,7 @@ component (suc (suc n)) v = v .z
 abbrev pub numbers : (ℕ → Vec) → ℕ → ℤ
 numbers σ n = component (n % 3) (σ (n / 3))
 
+-- the value of a vector of expressions
 abbrev pub vectorOf : (ℕ → Vec) → VectorE → Vec
 vectorOf σ u = record { x = ⟦ u .x ⟧ numbers σ; y = ⟦ u .y ⟧ numbers σ; z = ⟦ u .z ⟧ numbers σ }
 
@@ -99,16 +101,19 @@ same-vectors u v σ h =
 
 -- ════ terms as expressions
 
+-- a scalar letter, a dot or a triple
 abbrev factorE : List ℕ → Ex
 factorE [] = lit (pos 1)
 factorE (a ∷ []) = letterE a .x
 factorE (a ∷ b ∷ []) = dotE (letterE a) (letterE b)
 factorE (a ∷ b ∷ c ∷ f) = tripleE (letterE a) (letterE b) (letterE c)
 
+-- the product of factors
 abbrev factorsE : List (List ℕ) → Ex
 factorsE [] = lit (pos 1)
 factorsE (f ∷ fs) = factorE f ⊗ factorsE fs
 
+-- nothing, a letter or a wedge
 abbrev partE : List ℕ → VectorE
 partE [] = scalarE (lit (pos 1))
 partE (a ∷ []) = letterE a

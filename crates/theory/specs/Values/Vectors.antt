@@ -1,5 +1,5 @@
 -- Vectors of three integers: the laws of a module over the integers, component by component. Assumes nothing.
-use mathlib.Core.Path.{_≡_, refl, sym, _∙_, ap}
+use mathlib.Core.Path.{_≡_, sym, _∙_, ap}
 use lib.IntN.{ℤ, pos, negsuc, _+ℤ_, _-ℤ_, _*ℤ_}
 use lib.IntN as I
 use Rattle.algebra.specs.Integers as R
@@ -11,16 +11,9 @@ by-components p q r = λ i. record { x = p i; y = q i; z = r i }
 
 -- ════ the laws of a module
 
-pub +v-comm : (a b : Vec) → a +v b ≡ b +v a
-+v-comm a b = by-components (I.+ℤ-comm (a .x) (b .x)) (I.+ℤ-comm (a .y) (b .y)) (I.+ℤ-comm (a .z) (b .z))
-
 pub +v-assoc : (a b c : Vec) → (a +v b) +v c ≡ a +v (b +v c)
 +v-assoc a b c =
     by-components (I.+ℤ-assoc (a .x) (b .x) (c .x)) (I.+ℤ-assoc (a .y) (b .y) (c .y)) (I.+ℤ-assoc (a .z) (b .z) (c .z))
-
-pub +v-left-comm : (a b c : Vec) → a +v (b +v c) ≡ b +v (a +v c)
-+v-left-comm a b c =
-    by-components (R.+ℤ-left-comm (a .x) (b .x) (c .x)) (R.+ℤ-left-comm (a .y) (b .y) (c .y)) (R.+ℤ-left-comm (a .z) (b .z) (c .z))
 
 pub zero-+v : (a : Vec) → scalarValue (pos 0) +v a ≡ a
 zero-+v a = by-components (I.+ℤ-idl (a .x)) (I.+ℤ-idl (a .y)) (I.+ℤ-idl (a .z))
