@@ -183,36 +183,49 @@ monomial-laws = record { view = monomial-view; trans = monomial-trans; irr = mon
 pub term-view : (t u : Term) → View LtMonomial (monomial t) (monomial u) (compareTerms t u)
 term-view t u = subst (View LtMonomial (monomial t) (monomial u)) (sym (compareTerms-monomial t u)) (monomial-view (monomial t) (monomial u))
 
--- ════ the test for equality that a comparison gives
+-- ════ what a comparison finds
 
 module _ {A : Type 0} {cmp : A → A → Ordering} {Lt : A → A → Type 0} (L : Laws cmp Lt) where
-  same-from : {x y : A} {o : Ordering} → View Lt x y o → isEq o ≡ true → x ≡ y
-  same-from (vlt h) e = absurd (subst T (sym e) tt)
-  same-from (veq h) e = h
-  same-from (vgt h) e = absurd (subst T (sym e) tt)
+  less-from : {x y : A} {o : Ordering} → View Lt x y o → Lt x y → o ≡ Ordering·lt
+  less-from (vlt h) l = refl
+  less-from {x} (veq h) l = absurd (L .irr x (subst (λ (w : A). Lt x w) (sym h) l))
+  less-from {x} {y} (vgt h) l = absurd (L .irr x (L .trans x y x l h))
 
-  self-from : {x y : A} {o : Ordering} → View Lt x y o → x ≡ y → isEq o ≡ true
-  self-from {x} (vlt h) e = absurd (L .irr x (subst (λ (w : A). Lt x w) (sym e) h))
-  self-from (veq h) e = refl
-  self-from {x} (vgt h) e = absurd (L .irr x (subst (λ (w : A). Lt w x) (sym e) h))
+  equal-from : {x y : A} {o : Ordering} → View Lt x y o → x ≡ y → o ≡ Ordering·eq
+  equal-from {x} (vlt h) e = absurd (L .irr x (subst (λ (w : A). Lt x w) (sym e) h))
+  equal-from (veq h) e = refl
+  equal-from {x} (vgt h) e = absurd (L .irr x (subst (λ (w : A). Lt w x) (sym e) h))
 
-  pub same : (x y : A) → isEq (cmp x y) ≡ true → x ≡ y
-  same x y e = same-from (L .view x y) e
+  more-from : {x y : A} {o : Ordering} → View Lt x y o → Lt y x → o ≡ Ordering·gt
+  more-from {x} {y} (vlt h) l = absurd (L .irr x (L .trans x y x h l))
+  more-from {x} (veq h) l = absurd (L .irr x (subst (λ (w : A). Lt w x) (sym h) l))
+  more-from (vgt h) l = refl
 
-  pub self : (x y : A) → x ≡ y → isEq (cmp x y) ≡ true
-  self x y e = self-from (L .view x y) e
+  -- it finds what is less, what is equal and what is more
+  pub compares-less : (x y : A) → Lt x y → cmp x y ≡ Ordering·lt
+  compares-less x y h = less-from (L .view x y) h
+
+  pub compares-equal : (x y : A) → x ≡ y → cmp x y ≡ Ordering·eq
+  compares-equal x y e = equal-from (L .view x y) e
+
+  pub compares-more : (x y : A) → Lt y x → cmp x y ≡ Ordering·gt
+  compares-more x y h = more-from (L .view x y) h
+
+  found-equal : {x y : A} {o : Ordering} → View Lt x y o → o ≡ Ordering·eq → x ≡ y
+  found-equal (vlt h) e = absurd (subst (λ (o : Ordering). T (not (isEq o))) e tt)
+  found-equal (veq h) e = h
+  found-equal (vgt h) e = absurd (subst (λ (o : Ordering). T (not (isEq o))) e tt)
+
+  -- what it finds equal is equal
+  pub compared-equal : (x y : A) → cmp x y ≡ Ordering·eq → x ≡ y
+  compared-equal x y e = found-equal (L .view x y) e
 
 -- terms compare as equal exactly where part and factors are equal
 pub compareTerms-eq : (t u : Term) → compareTerms t u ≡ Ordering·eq → (t .part ≡ u .part) × (t .factors ≡ u .factors)
 compareTerms-eq t u e =
-    let m : monomial t ≡ monomial u = same monomial-laws (monomial t) (monomial u) (ap isEq (sym (compareTerms-monomial t u) ∙ e)) in
+    let m : monomial t ≡ monomial u = compared-equal monomial-laws (monomial t) (monomial u) (sym (compareTerms-monomial t u) ∙ e) in
     (ap (λ (n : Monomial). n .0) m, ap (λ (n : Monomial). n .1) m)
 
 -- and the other way round
 pub eq-compareTerms : (t u : Term) → t .part ≡ u .part → t .factors ≡ u .factors → compareTerms t u ≡ Ordering·eq
-eq-compareTerms t u p f = go (term-view t u) (λ i. (p i, f i))
-  where
-    go : {o : Ordering} → View LtMonomial (monomial t) (monomial u) o → monomial t ≡ monomial u → o ≡ Ordering·eq
-    go (vlt h) e = absurd (monomial-irr (monomial t) (subst (LtMonomial (monomial t)) (sym e) h))
-    go (veq h) e = refl
-    go (vgt h) e = absurd (monomial-irr (monomial t) (subst (λ (n : Monomial). LtMonomial n (monomial t)) (sym e) h))
+eq-compareTerms t u p f = compareTerms-monomial t u ∙ compares-equal monomial-laws (monomial t) (monomial u) (λ i. (p i, f i))

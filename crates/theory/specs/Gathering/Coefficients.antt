@@ -1,6 +1,7 @@
 -- The coefficient of a monomial in a list of terms, and what it is where the terms ascend strictly. Assumes nothing.
 use mathlib.Core.Path.{_≡_, refl, sym, _∙_, ap, subst}
-use mathlib.Core.Bool.{Bool, true, false, cond}
+use mathlib.Core.Bool.{cond}
+use Prim.Native.Nat.{Ordering, Ordering·lt, Ordering·eq, Ordering·gt}
 use mathlib.Core.List.{List, [], _∷_}
 use lib.Dec.{isEq}
 use lib.IntN.{ℤ, pos, _+ℤ_, _*ℤ_}
@@ -8,8 +9,7 @@ use lib.IntN as I
 use Rattle.algebra.specs.Integers as R
 use Rattle.specification.specs.Terms.{Term}
 use Rattle.theory.specs.Elements.{All}
-use Rattle.theory.specs.Order as O
-use Rattle.theory.specs.Order.{Monomial, monomial, LtMonomial, compareMonomials, monomial-laws}
+use Rattle.theory.specs.Order.{Monomial, monomial, LtMonomial, compareMonomials, monomial-laws, compares-equal, compared-equal}
 use Rattle.theory.specs.Gathering.Weights.{weigh}
 
 -- 1 at the monomial m, 0 at any other
@@ -18,15 +18,16 @@ only m n = cond (isEq (compareMonomials m n)) (pos 1) (pos 0)
 
 pub only-same : (m n : Monomial) → m ≡ n → only m n ≡ pos 1
 unfolding only
-only-same m n e = ap (λ (b : Bool). cond b (pos 1) (pos 0)) (O.self monomial-laws m n e)
+only-same m n e = ap (λ (o : Ordering). cond (isEq o) (pos 1) (pos 0)) (compares-equal monomial-laws m n e)
 
 pub only-other : (m n : Monomial) → (m ≡ n → ⊥) → only m n ≡ pos 0
 unfolding only
-only-other m n h = go (isEq (compareMonomials m n)) (O.same monomial-laws m n)
+only-other m n h = go (compareMonomials m n) (compared-equal monomial-laws m n)
   where
-    go : (b : Bool) → (b ≡ true → m ≡ n) → cond b (pos 1) (pos 0) ≡ pos 0
-    go true f = absurd (h (f refl))
-    go false f = refl
+    go : (o : Ordering) → (o ≡ Ordering·eq → m ≡ n) → cond (isEq o) (pos 1) (pos 0) ≡ pos 0
+    go Ordering·lt f = refl
+    go Ordering·eq f = absurd (h (f refl))
+    go Ordering·gt f = refl
 
 -- the coefficient of the monomial m: the sum over the terms that have it
 abbrev pub coeff : Monomial → List Term → ℤ

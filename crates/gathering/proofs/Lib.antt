@@ -1,0 +1,1 @@
+-- Lemmas that belong to no one function.

@@ -1,0 +1,43 @@
+-- A sum as the specification's gathered terms, its invariant, and what bringing a term in gives. Assumes nothing.
+use mathlib.Core.Path.{_≡_}
+use mathlib.Core.List.{List, map}
+use Prim.Native.Nat.{ℕ, _+_, _*_, _≤_}
+use lib.IntN.{natAbs}
+use lib.ListN.{take, length}
+use Rattle.specification.specs.Terms.{insert}
+use Rattle.specification.specs.Terms as S
+use Rattle.theory.specs.Elements.{All}
+use Rattle.terms.specs.declared.types.Term.{Term}
+use Rattle.terms.specs.Abstraction.{termOf, Counted}
+use Rattle.gathering.specs.declared.Sum.{Sum}
+
+-- the terms that stand
+unfoldable pub held : Sum → List Term
+held s = take (s .count) (s .terms)
+
+-- as the specification has them
+unfoldable pub sumOf : Sum → List S.Term
+sumOf s = map termOf (held s)
+
+-- a term that may stand after so many were brought in: no coefficient is larger than they can make it
+pub record Standing (brought : ℕ) (t : Term) : Type 0 where
+  pub counted : Counted t
+  pub light : natAbs (t .coef) ≤ brought * 2147483647
+
+-- a sum under way
+pub record SumValid (s : Sum) : Type 0 where
+  pub fewer : s .count ≤ s .brought
+  pub few : s .brought ≤ 96
+  pub standing : All (Standing (s .brought)) (held s)
+
+-- a sum that now holds these terms
+pub record Held (s : Sum) (ts : List Term) (r : Sum) : Type 0 where
+  pub is : held r ≡ ts
+  pub count : r .count ≡ length ts
+  pub brought : r .brought ≡ s .brought
+
+-- what bringing a term in gives
+pub record Brought (s : Sum) (t : Term) (r : Sum) : Type 0 where
+  pub is : sumOf r ≡ insert (termOf t) (sumOf s)
+  pub valid : SumValid r
+  pub brought : r .brought ≡ s .brought + 1

@@ -1,0 +1,5 @@
+-- Lemmas that belong to no one function.
+pub mod Numbers
+pub mod Orders
+pub mod Shift
+pub mod Places

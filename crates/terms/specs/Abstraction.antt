@@ -1,0 +1,38 @@
+-- The structs as the specification's terms and forms: each array up to its count. Assumes nothing.
+use mathlib.Core.List.{List, [], _∷_, map}
+use Prim.Native.Nat.{ℕ, Ordering, Ordering·lt, Ordering·eq, Ordering·gt, _≤_, _<_}
+use lib.ListN.{take}
+use Rattle.specification.specs.Terms as S
+use Rattle.theory.specs.Elements.{All}
+use Rattle.terms.specs.declared.types.Part.{Part}
+use Rattle.terms.specs.declared.types.Part.the-variants.{Nothing, Letter, Wedge}
+use Rattle.terms.specs.declared.types.Term.{Term}
+use Rattle.terms.specs.declared.types.Form.{Form}
+use Rattle.terms.specs.declared.order.Order.{Order}
+use Rattle.terms.specs.declared.order.Order.the-variants.{Less, Equal, Greater}
+use Rattle.terms.specs.Numbers.{lettersOf}
+
+-- the letters of a vector part
+unfoldable pub partOf : Part → List ℕ
+partOf Nothing = []
+partOf (Letter x) = x ∷ []
+partOf (Wedge x y) = x ∷ y ∷ []
+
+-- a term
+unfoldable pub termOf : Term → S.Term
+termOf t = record { coef = t .coef; factors = map lettersOf (take (t .«factor_count») (t .factors)); part = partOf (t .part) }
+
+-- a form
+unfoldable pub formOf : Form → S.Form
+formOf f = record { kind = f .kind; terms = map termOf (take (f .count) (f .terms)) }
+
+-- what a comparison found
+unfoldable pub orderingOf : Order → Ordering
+orderingOf Less = Ordering·lt
+orderingOf Equal = Ordering·eq
+orderingOf Greater = Ordering·gt
+
+-- a term's count is within its array, and its factors' letters are bytes
+pub record Counted (t : Term) : Type 0 where
+  pub few : t .«factor_count» ≤ 5
+  pub small : All (λ (k : ℕ). k < 16843008) (take (t .«factor_count») (t .factors))

@@ -1,0 +1,5 @@
+-- What the contracts cite.
+pub mod Numbers
+pub mod Abstraction
+pub mod Build
+pub mod Valid

@@ -1,0 +1,76 @@
+// The order of terms: by vector part, then by the number of factors, then at the first factor that differs.
+ghost use mathlib.Core.Path.{_≡_};
+ghost use Prim.Native.Nat.{_≤_};
+ghost use lib.ListN.{take};
+ghost use Rattle.specification.specs.Lists.{order, firstDifference};
+ghost use Rattle.specification.specs.Terms.{compareTerms};
+ghost use Rattle.terms.specs.Numbers.{partLettersOf};
+ghost use Rattle.terms.specs.Abstraction.{partOf, termOf, orderingOf, Counted};
+use crate::factors::dot_number;
+use crate::factors::scalar_number;
+use crate::types::Part;
+use crate::types::Term;
+
+// What a comparison finds.
+pub enum Order {
+    Less,
+    Equal,
+    Greater,
+}
+
+// The number of a vector part: shorter parts first, then in the order of their letters.
+fn part_number(p: Part) -> u32
+    ensures { λ r. ⌜ partLettersOf r ≡ partOf p ⌝ }
+{
+    match p {
+        Part::Nothing => 0,
+        Part::Letter(x) => 1 + scalar_number(x),
+        Part::Wedge(x, y) => 1 + dot_number(x, y),
+    }
+}
+
+// The first of n factors that differs decides.
+fn compare_factors(f: [u32; 5], g: [u32; 5], n: usize) -> Order
+    requires { ⌜ n ≤ 5 ⌝ }
+    ensures { λ r. ⌜ orderingOf r ≡ firstDifference order (take n f) (take n g) ⌝ }
+{
+    let mut k: usize = 0;
+    while k < n {
+        if f[k] < g[k] {
+            return Order::Less;
+        }
+        if g[k] < f[k] {
+            return Order::Greater;
+        }
+        k += 1;
+    }
+    Order::Equal
+}
+
+// Two terms.
+pub fn compare(a: Term, b: Term) -> Order
+    requires { ⌜ Counted a × Counted b ⌝ }
+    ensures { λ r. ⌜ orderingOf r ≡ compareTerms (termOf a) (termOf b) ⌝ }
+{
+    let p = a.part;
+    let q = b.part;
+    let x = part_number(p);
+    let y = part_number(q);
+    if x < y {
+        return Order::Less;
+    }
+    if y < x {
+        return Order::Greater;
+    }
+    let n = a.factor_count;
+    let m = b.factor_count;
+    if n < m {
+        return Order::Less;
+    }
+    if m < n {
+        return Order::Greater;
+    }
+    let f = a.factors;
+    let g = b.factors;
+    compare_factors(f, g, n)
+}

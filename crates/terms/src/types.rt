@@ -1,0 +1,23 @@
+// The data of terms and forms.
+
+// A vector part: nothing, one letter, or a wedge of two.
+pub enum Part {
+    Nothing,
+    Letter(u8),
+    Wedge(u8, u8),
+}
+
+// A term: a coefficient, the numbers of its factors with their count, and a vector part.
+pub struct Term {
+    pub coef: i64,
+    pub factors: [u32; 5],
+    pub factor_count: usize,
+    pub part: Part,
+}
+
+// A form: a kind (0 scalar, 1 vector) and 0 to 48 terms.
+pub struct Form {
+    pub kind: u8,
+    pub count: usize,
+    pub terms: [Term; 48],
+}
