@@ -34,5 +34,5 @@ orderingOf Greater = Ordering·gt
 
 -- a term's count is within its array, and its factors' letters are bytes
 pub record Counted (t : Term) : Type 0 where
-  pub few : t .«factor_count» ≤ 5
+  pub few : t .«factor_count» ≤ 7
   pub small : All (λ (k : ℕ). k < 16843008) (take (t .«factor_count») (t .factors))

@@ -30,8 +30,8 @@ fn part_number(p: Part) -> u32
 }
 
 // The first of n factors that differs decides.
-fn compare_factors(f: [u32; 5], g: [u32; 5], n: usize) -> Order
-    requires { ⌜ n ≤ 5 ⌝ }
+fn compare_factors(f: [u32; 7], g: [u32; 7], n: usize) -> Order
+    requires { ⌜ n ≤ 7 ⌝ }
     ensures { λ r. ⌜ orderingOf r ≡ firstDifference order (take n f) (take n g) ⌝ }
 {
     let mut k: usize = 0;

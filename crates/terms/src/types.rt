@@ -8,9 +8,10 @@ pub enum Part {
 }
 
 // A term: a coefficient, the numbers of its factors with their count, and a vector part.
+// A record can name 2 + 3 + 2 factors before its letters are counted; a term in shape has at most 5.
 pub struct Term {
     pub coef: i64,
-    pub factors: [u32; 5],
+    pub factors: [u32; 7],
     pub factor_count: usize,
     pub part: Part,
 }

@@ -12,17 +12,17 @@ use Rattle.terms.proofs.order.compare.Lts as lts
 use Rattle.terms.proofs.order.compare_factors.Reads as compare-factors-reads
 use Rattle.terms.proofs.order.part_number.Reads as part-number-reads
 
-five-a : (c : tie.Start) → length (c .args .a .factors) ≡ 5
-five-a c = search needs
+places-a : (c : tie.Start) → length (c .args .a .factors) ≡ 7
+places-a c = search needs
 
-five-b : (c : tie.Start) → length (c .args .b .factors) ≡ 5
-five-b c = search needs
+places-b : (c : tie.Start) → length (c .args .b .factors) ≡ 7
+places-b c = search needs
 
 few-a : (c : tie.Start) → c .args .a .«factor_count» ≤ length (c .args .a .factors)
-few-a c = omega (arith, five-a c, c .pre .0 .few)
+few-a c = omega (arith, places-a c, c .pre .0 .few)
 
 few-b : (c : tie.Start) → c .args .b .«factor_count» ≤ length (c .args .b .factors)
-few-b c = omega (arith, five-b c, c .pre .1 .few)
+few-b c = omega (arith, places-b c, c .pre .1 .few)
 
 -- src/order.rt:58:9
 part-number-requires : tie.Need-part-number-requires

@@ -17,17 +17,17 @@ Inv-loop n f g k₀ k = (k ≤ n) × (firstDifference order (take n f) (take n g
 abbrev μ-loop : tie.MeasureT-loop
 μ-loop n f g k₀ k = n - k
 
-five-f : (c : tie.Start Inv-loop μ-loop) → length (c .args .t1) ≡ 5
-five-f c = search needs
+places-f : (c : tie.Start Inv-loop μ-loop) → length (c .args .t1) ≡ 7
+places-f c = search needs
 
-five-g : (c : tie.Start Inv-loop μ-loop) → length (c .args .t2) ≡ 5
-five-g c = search needs
+places-g : (c : tie.Start Inv-loop μ-loop) → length (c .args .t2) ≡ 7
+places-g c = search needs
 
 len-f : (c : tie.Start Inv-loop μ-loop) → c .args .n ≤ length (c .args .t1)
-len-f c = omega (arith, five-f c)
+len-f c = omega (arith, places-f c)
 
 len-g : (c : tie.Start Inv-loop μ-loop) → c .args .n ≤ length (c .args .t2)
-len-g c = omega (arith, five-g c)
+len-g c = omega (arith, places-g c)
 
 -- src/order.rt:39:5
 loop-holds : tie.Need-loop-holds Inv-loop μ-loop
