@@ -3,3 +3,4 @@ pub mod Numbers
 pub mod Orders
 pub mod Shift
 pub mod Places
+pub mod InShape

@@ -47,15 +47,15 @@ three-letters x y z a b c h g i =
 
 -- ════ the order
 
-one-is : (k : ℕ) → k < 256 → lettersOf k ≡ k ∷ []
+pub one-is : (k : ℕ) → k < 256 → lettersOf k ≡ k ∷ []
 unfolding lettersOf
 one-is k h = rw (lt-ltb k 256 h)
 
-two-is : (k : ℕ) → 256 ≤ k → k < 65792 → lettersOf k ≡ (k - 256) / 256 ∷ (k - 256) % 256 ∷ []
+pub two-is : (k : ℕ) → 256 ≤ k → k < 65792 → lettersOf k ≡ (k - 256) / 256 ∷ (k - 256) % 256 ∷ []
 unfolding lettersOf
 two-is k h g = rw (le-ltb k 256 h, lt-ltb k 65792 g)
 
-three-is : (k : ℕ) → 65792 ≤ k → lettersOf k ≡ (k - 65792) / 65536 ∷ (k - 65792) / 256 % 256 ∷ (k - 65792) % 256 ∷ []
+pub three-is : (k : ℕ) → 65792 ≤ k → lettersOf k ≡ (k - 65792) / 65536 ∷ (k - 65792) / 256 % 256 ∷ (k - 65792) % 256 ∷ []
 unfolding lettersOf
 three-is k h = rw (le-ltb k 256 (omega arith), le-ltb k 65792 h)
 

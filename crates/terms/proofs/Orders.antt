@@ -16,16 +16,17 @@ use Rattle.terms.proofs.Numbers.{number-order, part-order}
 
 -- ════ the first difference, from a place on
 
-module _ (f g : List ℕ) (n k : ℕ) (fl : n ≤ length f) (gl : n ≤ length g) (kn : k < n) where
-  split : (h : List ℕ) → n ≤ length h → drop k (take n h) ≡ getD h k 0 ∷ drop (k + 1) (take n h)
-  split h l =
-      let e : k < length (take n h) = omega (arith, length-take-le n h l) in
-      drop-cons (take n h) k 0 e ∙ rw (getD-take n h k 0 kn, add-one)
+-- what is left from a place on begins with what stands there
+pub rest-at : (h : List ℕ) (n k : ℕ) → n ≤ length h → k < n → drop k (take n h) ≡ getD h k 0 ∷ drop (k + 1) (take n h)
+rest-at h n k l kn =
+    let e : k < length (take n h) = omega (arith, length-take-le n h l) in
+    drop-cons (take n h) k 0 e ∙ rw (getD-take n h k 0 kn, add-one)
 
+module _ (f g : List ℕ) (n k : ℕ) (fl : n ≤ length f) (gl : n ≤ length g) (kn : k < n) where
   -- it is here, or further on
   pub first-here : (o : Ordering) → order (getD f k 0) (getD g k 0) ≡ o → firstDifference order (drop k (take n f)) (drop k (take n g)) ≡ thenBy o (firstDifference order (drop (k + 1) (take n f)) (drop (k + 1) (take n g)))
   unfolding firstDifference
-  first-here o e = rw (split f fl, split g gl, e)
+  first-here o e = rw (rest-at f n k fl kn, rest-at g n k gl kn, e)
 
   pub first-less : getD f k 0 < getD g k 0 → firstDifference order (drop k (take n f)) (drop k (take n g)) ≡ Ordering·lt
   first-less h = first-here Ordering·lt (compares-less nat-laws _ _ h)

@@ -3,3 +3,4 @@ pub mod Numbers
 pub mod Abstraction
 pub mod Build
 pub mod Valid
+pub mod Used

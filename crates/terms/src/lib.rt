@@ -2,4 +2,5 @@
 pub mod build;
 pub mod factors;
 pub mod order;
+pub mod shape;
 pub mod types;

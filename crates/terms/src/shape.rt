@@ -1,0 +1,162 @@
+// The one shape of a term: letters in order, factors in order, at most 6 vector letters and 2 scalar letters.
+ghost use mathlib.Core.Path.{_≡_};
+ghost use mathlib.Core.Bool.{_&&_};
+ghost use mathlib.Core.List.{[], _∷_, map};
+ghost use Prim.Native.Nat.{_≤_};
+ghost use lib.ListN.{length, take};
+ghost use Rattle.specification.specs.Lists.{all, ascend};
+ghost use Rattle.specification.specs.Terms.{factorInShape, factorNotAfter, partInShape, vectorLettersOf, scalarLettersOf, vectorLetters, scalarLetters, termInShape};
+ghost use lib.Dec.{leb};
+ghost use Rattle.terms.specs.Numbers.{lettersOf};
+ghost use Rattle.terms.specs.Abstraction.{partOf, termOf, Counted};
+ghost use Rattle.terms.specs.Used.{UsedBy};
+use crate::types::Part;
+use crate::types::Term;
+use integers::is_zero;
+use integers::within;
+
+// How many letters factors use.
+pub struct Used {
+    pub vectors: usize,
+    pub scalars: usize,
+}
+
+// The letters of one factor are in order.
+fn factor_in_shape(k: u32) -> bool
+    ensures { λ r. ⌜ r ≡ factorInShape (lettersOf k) ⌝ }
+{
+    if k < 256 {
+        return true;
+    }
+    if k < 65792 {
+        let j = k - 256;
+        return j / 256 <= j % 256;
+    }
+    let j = k - 65792;
+    if j / 65536 < j / 256 % 256 {
+        return j / 256 % 256 < j % 256;
+    }
+    false
+}
+
+// The letters of each of n factors are in order, and so are the factors.
+fn factors_in_shape(f: [u32; 7], n: usize) -> bool
+    requires { ⌜ n ≤ 7 ⌝ }
+    ensures { λ r. ⌜ r ≡ (all factorInShape (map lettersOf (take n f)) && ascend factorNotAfter (map lettersOf (take n f))) ⌝ }
+{
+    let mut last: u32 = 0;
+    let mut i: usize = 0;
+    while i < n {
+        let k = f[i];
+        if k < last {
+            return false;
+        }
+        if !factor_in_shape(k) {
+            return false;
+        }
+        last = k;
+        i += 1;
+    }
+    true
+}
+
+// The vector letters of one factor.
+fn vector_count(k: u32) -> usize
+    ensures { λ r. ⌜ (r ≡ vectorLettersOf (lettersOf k ∷ [])) × (r ≤ 3) ⌝ }
+{
+    if k < 256 {
+        return 0;
+    }
+    if k < 65792 {
+        return 2;
+    }
+    3
+}
+
+// The scalar letters of one factor.
+fn scalar_count(k: u32) -> usize
+    ensures { λ r. ⌜ (r ≡ scalarLettersOf (lettersOf k ∷ [])) × (r ≤ 1) ⌝ }
+{
+    if k < 256 { 1 } else { 0 }
+}
+
+// The letters that n factors use, repeats counted.
+pub fn letters_used(f: [u32; 7], n: usize) -> Used
+    requires { ⌜ n ≤ 7 ⌝ }
+    ensures { λ r. ⌜ UsedBy (map lettersOf (take n f)) r ⌝ }
+{
+    let mut vectors: usize = 0;
+    let mut scalars: usize = 0;
+    let mut i: usize = 0;
+    while i < n {
+        let k = f[i];
+        vectors += vector_count(k);
+        scalars += scalar_count(k);
+        i += 1;
+    }
+    Used {
+        vectors: vectors,
+        scalars: scalars,
+    }
+}
+
+// The letters of a vector part are in order.
+fn part_in_shape(p: Part) -> bool
+    ensures { λ r. ⌜ r ≡ partInShape (partOf p) ⌝ }
+{
+    match p {
+        Part::Nothing => true,
+        Part::Letter(_) => true,
+        Part::Wedge(x, y) => x < y,
+    }
+}
+
+// How many letters a vector part has.
+pub fn part_letters(p: Part) -> usize
+    ensures { λ r. ⌜ r ≡ length (partOf p) ⌝ }
+{
+    match p {
+        Part::Nothing => 0,
+        Part::Letter(_) => 1,
+        Part::Wedge(_, _) => 2,
+    }
+}
+
+// The letters of a term are not too many.
+fn letters_in_shape(t: Term) -> bool
+    requires { ⌜ Counted t ⌝ }
+    ensures { λ r. ⌜ r ≡ (leb (vectorLetters (termOf t)) 6 && leb (scalarLetters (termOf t)) 2) ⌝ }
+{
+    let f = t.factors;
+    let n = t.factor_count;
+    let p = t.part;
+    let u = letters_used(f, n);
+    if u.vectors + part_letters(p) > 6 {
+        return false;
+    }
+    u.scalars <= 2
+}
+
+// A term is in shape.
+pub fn in_shape(t: Term) -> bool
+    requires { ⌜ Counted t ⌝ }
+    ensures { λ r. ⌜ r ≡ termInShape (termOf t) ⌝ }
+{
+    let c = t.coef;
+    let f = t.factors;
+    let n = t.factor_count;
+    let p = t.part;
+    if is_zero(c) {
+        return false;
+    }
+    if !within(c) {
+        return false;
+    }
+    if !factors_in_shape(f, n) {
+        return false;
+    }
+    if !part_in_shape(p) {
+        return false;
+    }
+    letters_in_shape(t)
+}
