@@ -1,6 +1,6 @@
 -- An integer as a number of 32 bits and back, by sums that are made with 64, and the four stores of its bytes.
 -- Assumes nothing.
-use mathlib.Core.Path.{_≡_, refl, sym, ap, _∙_}
+use mathlib.Core.Path.{_≡_, refl, _∙_}
 use mathlib.Core.Bool.{Bool, true, false, true≢false}
 use mathlib.Core.List.{List}
 use Prim.Native.Nat.{ℕ, suc, _+_, _-_, _/_, _%_, _≤_, _<_}
@@ -24,28 +24,30 @@ use Rattle.integers.proofs.Over.{sets-over}
 -- ════ from bits
 
 -- below 2147483648 the number is its own bits
-pub low-bits : (u : ℕ) → u < 2147483648 → toZ w64 u ≡ fromBits32 u
+pub low-bits : {u : ℕ} → u < 2147483648 → toZ w64 u ≡ fromBits32 u
 unfolding fromBits32
-low-bits u h = rw (toZ-pos w64 u (omega arith), lt-ltb u 2147483648 h)
+low-bits {u} h = rw (toZ-pos w64 u (omega arith), lt-ltb u 2147483648 h)
 
--- the bits less 4294967296
-minus : (u : ℕ) → u < 4294967296 → toZ w64 u -ℤ pos 4294967296 ≡ negsuc (4294967295 - u)
-minus u h =
-    let e : 4294967296 - suc u ≡ 4294967295 - u = omega arith in rw (toZ-pos w64 u (omega arith), lt-ltb u 4294967296 h, e)
+-- from 2147483648 on
+module _ {u : ℕ} (g : 2147483648 ≤ u) (h : u < 4294967296) where
+  -- the bits less 4294967296
+  minus : toZ w64 u -ℤ pos 4294967296 ≡ negsuc (4294967295 - u)
+  minus =
+      let e : 4294967296 - suc u ≡ 4294967295 - u = omega arith in rw (toZ-pos w64 u (omega arith), lt-ltb u 4294967296 h, e)
 
--- they fit
-pub high-bits-ask : (u : ℕ) → u < 4294967296 → SFits w64 (toZ w64 u -ℤ pos 4294967296)
-high-bits-ask u h = rw (minus u h) (record { sfits = omega arith })
+  -- they fit
+  pub high-bits-ask : SFits w64 (toZ w64 u -ℤ pos 4294967296)
+  high-bits-ask = rw minus (record { sfits = omega arith })
 
--- and from 2147483648 on they are the number
-pub high-bits : (u : ℕ) → u < 4294967296 → 2147483648 ≤ u → back (toZ w64 u -ℤ pos 4294967296) ≡ fromBits32 u
-unfolding fromBits32
-high-bits u h g = back-is (high-bits-ask u h) ∙ rw (minus u h, le-ltb u 2147483648 g)
+  -- and are the number
+  pub high-bits : back (toZ w64 u -ℤ pos 4294967296) ≡ fromBits32 u
+  unfolding fromBits32
+  high-bits = back-is high-bits-ask ∙ rw (minus, le-ltb u 2147483648 g)
 
 -- what 32 bits spell is at most 2147483648 in size
-pub from-bits-bound : (u : ℕ) → u < 4294967296 → natAbs (fromBits32 u) ≤ 2147483648
+pub from-bits-bound : {u : ℕ} → u < 4294967296 → natAbs (fromBits32 u) ≤ 2147483648
 unfolding fromBits32
-from-bits-bound u h = go (ltb u 2147483648) refl
+from-bits-bound {u} h = go (ltb u 2147483648) refl
   where
     go : (t : Bool) → ltb u 2147483648 ≡ t → natAbs (if t then pos u else negsuc (4294967295 - u)) ≤ 2147483648
     go true e = omega (arith, ltb-true u 2147483648 e)
@@ -85,8 +87,8 @@ positive-bits {z = negsuc n} f e = absurd (true≢false (rw (back-is f) at e))
 -- ════ the bytes
 
 -- four stores in a row write the four bytes
-pub four-stores : (l : List ℕ) (at : ℕ) (z : ℤ) (u a b c d : ℕ) → at + 4 ≤ length l → u ≡ toBits32 z
-    → a ≡ u / 16777216 % 256 → b ≡ u / 65536 % 256 → c ≡ u / 256 % 256 → d ≡ u % 256
-    → set (set (set (set l at a) (at + 1) b) (at + 2) c) (at + 3) d ≡ over l at (fourBytes z)
+pub four-stores : (l : List ℕ) (at : ℕ) (z : ℤ) (u : ℕ) → at + 4 ≤ length l → u ≡ toBits32 z
+    → set (set (set (set l at (u / 16777216 % 256)) (at + 1) (u / 65536 % 256)) (at + 2) (u / 256 % 256)) (at + 3) (u % 256)
+    ≡ over l at (fourBytes z)
 unfolding fourBytes
-four-stores l at z u a b c d h e p q r s = rw (p, q, r, s, e, ← sets-over l at (fourBytes z) h) (simp towards-suc)
+four-stores l at z u h e = rw (e, ← sets-over l at (fourBytes z) h) (simp towards-suc)

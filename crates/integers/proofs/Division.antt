@@ -2,7 +2,7 @@
 -- Assumes nothing.
 use mathlib.Core.Path.{_≡_, refl, sym, ap, _∙_}
 use mathlib.Core.Bool.{true, false, true≢false}
-use Prim.Native.Nat.{ℕ, zero, suc, _+_, _*_, _/_, _%_, _^_, _≤_, _<_}
+use Prim.Native.Nat.{zero, suc, _*_, _/_, _%_, _^_, _≤_, _<_}
 use native.Mathlib.Nat.{div-le-self, div-add-mod', mul-mod-left, lt-of-le-of-lt}
 use native.Mathlib.Omega.{arith}
 use lib.IntN.{ℤ, pos, negsuc, natAbs, negℤ, _*ℤ_, negℤ-negℤ}
@@ -12,9 +12,9 @@ use mir.Syntax.{w64}
 use mir.Val.{SFits, ofZ, toZ}
 use mir.ValLaws.{sfits-le}
 use Rattle.specification.specs.Terms.{isZero}
-use Rattle.algebra.specs.Integers.{NonZero, natAbs-neg, natAbs-*ℤ, natAbs-zero, neg-*ℤ, sfits-natAbs}
+use Rattle.algebra.specs.Integers.{natAbs-neg, natAbs-*ℤ, natAbs-zero, neg-*ℤ, sfits-natAbs}
 use Rattle.integers.specs.Arithmetic.{Divided}
-use Rattle.integers.proofs.Machine.{back, back-is, asks, gives, bits-of-zero}
+use Rattle.integers.proofs.Machine.{back, back-is, bits-of-zero}
 
 -- ════ over the integers
 

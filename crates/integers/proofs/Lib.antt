@@ -1,5 +1,5 @@
--- The laws that the proofs of this crate and of its callers cite.
+-- What the proofs of this crate cite: Machine and Over are for its callers too.
 pub mod Machine
 pub mod Over
-pub mod Bits
-pub mod Division
+mod Bits
+mod Division

@@ -1,19 +1,19 @@
 -- Signed numbers of 64 bits as a need has them: a local holds bits, so an operand z is read back as `toZ w64 (ofZ w64 z)`.
 -- Assumes nothing.
-use mathlib.Core.Path.{_≡_, refl, ap, sym, _∙_}
+use mathlib.Core.Path.{_≡_, refl, sym, _∙_}
 use mathlib.Core.Bool.{true, false, true≢false}
-use Prim.Native.Nat.{ℕ, zero, suc, _-_, _+_, _*_, _/_, _%_, _^_, _≤_, _<_}
+use Prim.Native.Nat.{ℕ, zero, suc, _^_, _<_}
 use native.Mathlib.Omega.{arith}
-use lib.IntN.{ℤ, pos, negsuc, natAbs, negℤ, _+ℤ_, _-ℤ_, _*ℤ_, +ℤ-idl}
+use lib.IntN.{ℤ, pos, negsuc, natAbs, negℤ, _-ℤ_, +ℤ-idl}
 use lib.Signed.{ltZ, leZ}
 use lib.Dec.{eqb, eqb·suc-zero, leb·suc-suc}
-use borrow.Author.Tests.{lt-ltb, le-ltb, ltb-true, ne-eqb}
+use borrow.Author.Tests.{le-ltb, ltb-true, ne-eqb}
 use mir.Syntax.{w64}
 use mir.Val.{SFits, toZ, ofZ}
-use mir.ValLaws.{toZ-ofZ, toZ-pos}
+use mir.ValLaws.{toZ-ofZ}
 use Rattle.specification.specs.Terms.{isZero, coefWithin}
-use Rattle.specification.specs.Records.{isOne, toBits32, fromBits32}
-use Rattle.algebra.specs.Integers.{sfits-diff, sfits-sum}
+use Rattle.specification.specs.Records.{isOne}
+use Rattle.algebra.specs.Integers.{sfits-diff}
 use Rattle.integers.specs.Arithmetic.{isNegative}
 
 -- ════ reading back
@@ -85,12 +85,12 @@ positive-within {z = negsuc n} f e = absurd (true≢false (rw (back-is f) at e))
 
 -- ════ the absolute value
 
--- below 0 the negative is the absolute value
-pub negative-size : {z : ℤ} → SFits w64 z → ltZ (back z) (pos 0) ≡ true → negℤ z ≡ pos (natAbs z)
-negative-size {z = pos n} f e = absurd (omega (arith, ltb-true n 0 (rw (back-is f) at e)))
-negative-size {z = negsuc n} f e = refl
+-- below 0 it is the negative
+pub negative-size : {z : ℤ} → SFits w64 z → natAbs z < 2 ^ 63 → ltZ (back z) (pos 0) ≡ true → back (pos 0 -ℤ back z) ≡ pos (natAbs z)
+negative-size {z = pos n} f h e = absurd (omega (arith, ltb-true n 0 (rw (back-is f) at e)))
+negative-size {z = negsuc n} f h e = negative-gives f h
 
--- from 0 on the number is
+-- from 0 on the number itself
 pub positive-size : {z : ℤ} → SFits w64 z → ltZ (back z) (pos 0) ≡ false → back z ≡ pos (natAbs z)
 positive-size {z = pos n} f e = back-is f
 positive-size {z = negsuc n} f e = absurd (true≢false (rw (back-is f) at e))

@@ -1,6 +1,6 @@
 -- Laws of `over`, a part of a list written over: its length, what stands before and behind, and writes one after the other.
 -- Assumes nothing.
-use mathlib.Core.Path.{_≡_, refl, sym, ap, _∙_}
+use mathlib.Core.Path.{_≡_, ap, _∙_}
 use mathlib.Core.List.{List, [], _∷_, _++_, append-assoc}
 use Prim.Native.Nat.{ℕ, suc, _+_, _-_, _≤_, _<_}
 use native.Mathlib.Nat.{add-assoc}
@@ -13,22 +13,22 @@ use Rattle.integers.specs.Over.{over}
 module _ {ℓ} {A : Type ℓ} where
   -- ════ the length, and the parts
 
-  -- what stands before the end of what is written
-  length-front : (l : List A) (at : ℕ) (xs : List A) → at ≤ length l → length (take at l ++ xs) ≡ at + length xs
-  length-front l at xs h = length-append (take at l) xs ∙ ap (λ (k : ℕ). k + length xs) (length-take-le at l h)
+  -- the length up to the end of what is written
+  length-before : (l : List A) (at : ℕ) (xs : List A) → at ≤ length l → length (take at l ++ xs) ≡ at + length xs
+  length-before l at xs h = length-append (take at l) xs ∙ ap (λ (k : ℕ). k + length xs) (length-take-le at l h)
 
   -- a write that fits keeps the length
   pub length-over : (l : List A) (at : ℕ) (xs : List A) → at + length xs ≤ length l → length (over l at xs) ≡ length l
   unfolding over
   length-over l at xs h =
-      let e = length-front l at xs (omega arith) in
+      let e = length-before l at xs (omega arith) in
       simp (length-append (take at l ++ xs), e, length-drop) (omega arith)
 
   -- what stands before the position is kept
   pub take-over : (n : ℕ) (l : List A) (at : ℕ) (xs : List A) → n ≤ at → at ≤ length l → take n (over l at xs) ≡ take n l
   unfolding over
   take-over n l at xs h g =
-      let f = length-front l at xs g in
+      let f = length-before l at xs g in
       let e = length-take-le at l g in
       take-append-le n (take at l ++ xs) (drop (at + length xs) l) (omega arith)
       ∙ take-append-le n (take at l) xs (omega arith)
@@ -37,7 +37,7 @@ module _ {ℓ} {A : Type ℓ} where
   -- up to the end of what is written
   pub take-over-end : (l : List A) (at : ℕ) (xs : List A) → at ≤ length l → take (at + length xs) (over l at xs) ≡ take at l ++ xs
   unfolding over
-  take-over-end l at xs h = take-at (take at l ++ xs) (drop (at + length xs) l) (at + length xs) (length-front l at xs h)
+  take-over-end l at xs h = take-at (take at l ++ xs) (drop (at + length xs) l) (at + length xs) (length-before l at xs h)
 
   -- from the position on
   pub drop-over-start : (l : List A) (at : ℕ) (xs : List A) → at ≤ length l → drop at (over l at xs) ≡ xs ++ drop (at + length xs) l
@@ -50,7 +50,7 @@ module _ {ℓ} {A : Type ℓ} where
   unfolding over
   drop-over n l at xs h g =
       let e : at + length xs + (n - (at + length xs)) ≡ n = omega arith in
-      rw (← e, ← drop-drop (n - (at + length xs)) (at + length xs) (over l at xs), drop-at (take at l ++ xs) (drop (at + length xs) l) (at + length xs) (length-front l at xs g), drop-drop)
+      rw (← e, ← drop-drop (n - (at + length xs)) (at + length xs) (over l at xs), drop-at (take at l ++ xs) (drop (at + length xs) l) (at + length xs) (length-before l at xs g), drop-drop)
 
   -- ════ writes
 

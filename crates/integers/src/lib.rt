@@ -1,6 +1,6 @@
 // Signed numbers of 64 bits: sums, products, tests, exact division, and the four bytes of a coefficient.
 ghost use mathlib.Core.Path.{_≡_};
-ghost use Prim.Native.Nat.{_+_, _*_, _≤_, _<_, _%_, _^_};
+ghost use Prim.Native.Nat.{_+_, _*_, _≤_, _<_, _^_};
 ghost use lib.IntN.{natAbs, _+ℤ_, _-ℤ_, _*ℤ_, negℤ};
 ghost use lib.Signed.{ltZ};
 ghost use lib.ListN.{length};
@@ -153,21 +153,14 @@ fn to_bits(a: i64) -> u64
     }
 }
 
-// The lowest byte.
-fn low(x: u64) -> u8
-    ensures { λ r. ⌜ r ≡ x % 256 ⌝ }
-{
-    (x % 256) as u8
-}
-
 // Writes the four bytes of a number, the most significant first.
 pub fn write_four_bytes(out: &mut [u8], at: usize, a: i64)
     requires { ⌜ (natAbs a ≤ 2147483647) × (at + 4 ≤ length (now out)) ⌝ }
     ensures { λ r. ⌜ now (out .exit) ≡ over (now (out .entry)) at (fourBytes a) ⌝ }
 {
     let u = to_bits(a);
-    out[at] = low(u / 16777216);
-    out[at + 1] = low(u / 65536);
-    out[at + 2] = low(u / 256);
-    out[at + 3] = low(u);
+    out[at] = (u / 16777216 % 256) as u8;
+    out[at + 1] = (u / 65536 % 256) as u8;
+    out[at + 2] = (u / 256 % 256) as u8;
+    out[at + 3] = (u % 256) as u8;
 }

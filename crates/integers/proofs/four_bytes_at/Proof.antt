@@ -38,7 +38,7 @@ returns : tie.Need-returns
 unfolding fourBytesAt
 returns c =
     let e = back-is (record { sfits = c .from-bits .ok }) ∙ c .from-bits .ensures in
-    (e ∙ ap fromBits32 (c .before .join .ensures .0), rw e (from-bits-bound _ (c .before .join .ensures .1)))
+    (e ∙ ap fromBits32 (c .before .join .ensures .0), rw e (from-bits-bound (c .before .join .ensures .1)))
 
 pub four-bytes-at-spec : {M : Type 1} → statement M
 four-bytes-at-spec =

@@ -1,0 +1,15 @@
+use mathlib.Core.Path.{_≡_, refl, sym, ap, _∙_}
+use native.Mathlib.Omega.{arith}
+use Rattle.records.specs.Reading.{readOf}
+use Rattle.records.proofs.read.refuse.Statement.{statement}
+use Rattle.records.proofs.read.refuse.Tie as tie
+use Rattle.records.proofs.read.refuse.Reads as reads
+use Rattle.records.proofs.read.refuse.Lts as lts
+
+-- src/read.rt:69:1
+returns : tie.Need-returns
+unfolding readOf
+returns c = (refl, refl)
+
+pub refuse-spec : {M : Type 1} → statement M
+refuse-spec = tie.close (tie.spec returns)

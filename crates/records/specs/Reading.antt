@@ -1,0 +1,125 @@
+-- What the readers' structs say, and a term record as steps from one to the next. Assumes nothing.
+use mathlib.Core.Bool.{Bool, _&&_}
+use mathlib.Core.Path.{_≡_}
+use mathlib.Core.List.{List, [], _∷_, _++_, map}
+use Prim.Native.Nat.{ℕ, _+_, _≤_}
+use lib.Dec.{eqb}
+use lib.IntN.{pos}
+use lib.ListN.{take}
+use Rattle.specification.specs.Lists.{follows}
+use Rattle.specification.specs.Results.{Result, refused, given, _>>=_, _>>_, require, if_then_else_}
+use Rattle.specification.specs.Terms.{withCoef, plus, termBefore}
+use Rattle.specification.specs.Terms as S
+use Rattle.specification.specs.Records.{readCoef, readFactors, readLetters, testShape, readTermAt, stands, partLetters, partFits}
+use Rattle.theory.specs.Elements.{All}
+use Rattle.terms.specs.declared.types.Term.{Term}
+use Rattle.terms.specs.declared.types.Form.{Form}
+use Rattle.terms.specs.Abstraction.{termOf, formOf, Counted}
+use Rattle.records.specs.declared.read.TermReading.{TermReading}
+use Rattle.records.specs.declared.read.FormReading.{FormReading}
+
+-- ════ a term
+
+-- what was read of a term, and the position behind it; the only refusal here is 11
+unfoldable pub readOf : TermReading → Result (S.Term × ℕ)
+readOf r = if r .ok then given (termOf (r .term), r .next) else refused 11
+
+-- the coefficient read
+unfoldable pub coefStep : (isThere : Bool) (s : List ℕ) → S.Term × ℕ → Result (S.Term × ℕ)
+coefStep isThere s r = do
+  (coef, next) ← readCoef isThere s (r .1)
+  given (withCoef coef (r .0), next)
+
+-- factors behind those of a term
+unfoldable pub behind : List (List ℕ) → S.Term → S.Term
+behind fs t = record { coef = t .coef; factors = t .factors ++ fs; part = t .part }
+
+-- the factors of one number of letters read
+unfoldable pub factorsStep : (isThere : Bool) (most size : ℕ) (s : List ℕ) → S.Term × ℕ → Result (S.Term × ℕ)
+factorsStep isThere most size s r = do
+  (fs, next) ← readFactors isThere most size s (r .1)
+  given (behind fs (r .0), next)
+
+-- a term with another vector part
+unfoldable pub withPart : List ℕ → S.Term → S.Term
+withPart part t = record { coef = t .coef; factors = t .factors; part = part }
+
+-- a vector part of so many letters read
+unfoldable pub partStep : (letters : ℕ) (s : List ℕ) → S.Term × ℕ → Result (S.Term × ℕ)
+partStep letters s r = do
+  (part, next) ← readLetters letters s (r .1)
+  given (withPart part (r .0), next)
+
+-- the shape tested
+unfoldable pub shapeStep : S.Term × ℕ → Result (S.Term × ℕ)
+shapeStep r = testShape (r .0) (r .1)
+
+-- the fields behind a bit map, read one after the other
+unfoldable pub readFields : (bits : ℕ) (s : List ℕ) (at : ℕ) → Result (S.Term × ℕ)
+readFields bits s at =
+    coefStep (stands 0 bits) s (plus [] [], at)
+    >>= factorsStep (stands 1 bits) 2 1 s
+    >>= factorsStep (stands 2 bits) 3 2 s
+    >>= factorsStep (stands 3 bits) 2 3 s
+    >>= partStep (partLetters bits) s
+    >>= shapeStep
+
+-- a step made: a refusal stays, and so many factors more at most
+pub record Stepped (step : S.Term × ℕ → Result (S.Term × ℕ)) (more : ℕ) (r q : TermReading) : Type 0 where
+  pub is : readOf q ≡ (readOf r >>= step)
+  pub counted : Counted (q .term)
+  pub few : q .term .«factor_count» ≤ r .term .«factor_count» + more
+
+-- so many factors read behind those of a term
+pub record Appended (fs : List (List ℕ)) (n : ℕ) (t r : Term) : Type 0 where
+  pub is : termOf r ≡ behind fs (termOf t)
+  pub counted : Counted r
+  pub count : r .«factor_count» ≡ t .«factor_count» + n
+
+-- a term with another vector part
+pub record Parted (part : List ℕ) (t r : Term) : Type 0 where
+  pub is : termOf r ≡ withPart part (termOf t)
+  pub counted : Counted r
+  pub count : r .«factor_count» ≡ t .«factor_count»
+
+-- a term read
+pub record TermRead (read : Result (S.Term × ℕ)) (q : TermReading) : Type 0 where
+  pub is : readOf q ≡ read
+  pub counted : Counted (q .term)
+
+-- ════ a form
+
+-- the terms of a form
+unfoldable pub termsOf : Form → List S.Term
+termsOf f = map termOf (take (f .count) (f .terms))
+
+-- the terms read so far
+unfoldable pub termsReadOf : FormReading → Result (List S.Term × ℕ)
+termsReadOf r = if r .ok then given (termsOf (r .form), r .next) else refused 11
+
+-- one term more
+unfoldable pub termStep : (kind : ℕ) (s : List ℕ) → List S.Term × ℕ → Result (List S.Term × ℕ)
+termStep kind s r = do
+  (t, next) ← readTermAt s (r .1)
+  require (partFits kind t && follows termBefore (r .0) t) 11
+  given (r .0 ++ t ∷ [], next)
+
+-- a form that a reader can go on with
+pub record Readable (n : ℕ) (f : Form) : Type 0 where
+  pub few : f .count ≤ n
+  pub counted : All Counted (take (f .count) (f .terms))
+
+-- one term more read
+pub record TermTaken (s : List ℕ) (n : ℕ) (r q : FormReading) : Type 0 where
+  pub is : termsReadOf q ≡ (termsReadOf r >>= termStep (r .form .kind) s)
+  pub readable : Readable n (q .form)
+  pub kind : q .form .kind ≡ r .form .kind
+
+-- what was read of a form, and the position behind it
+unfoldable pub formReadOf : FormReading → Result (S.Form × ℕ)
+formReadOf r = if r .ok then given (formOf (r .form), r .next) else refused 11
+
+-- a form read
+pub record FormRead (read : Result (S.Form × ℕ)) (q : FormReading) : Type 0 where
+  pub is : formReadOf q ≡ read
+  pub readable : Readable 48 (q .form)
