@@ -96,6 +96,21 @@ module _ (s : List ℕ) (at : ℕ) where
       let e : suc (suc at) ≡ at + 2 = omega arith in
       rw (drop-cons s at 0 (omega arith), drop-cons s (suc at) 0 p, drop-cons s (suc (suc at)) 0 q, e, add-one)
 
+-- ════ one behind the others
+
+module _ {A : Type 0} where
+  pub stored-behind : (l : List A) (n : ℕ) (x : A) → n < length l → take (n + 1) (set l n x) ≡ take n l ++ x ∷ []
+  stored-behind l n x g = rw add-one (go l n g)
+    where
+      go : (l : List A) (n : ℕ) → n < length l → take (suc n) (set l n x) ≡ take n l ++ x ∷ []
+      go [] n g = absurd (omega arith)
+      go (y ∷ l) zero g = refl
+      go (y ∷ l) (suc n) g = ap (λ (z : List A). y ∷ z) (go l n (omega arith))
+
+  pub mapped-behind : {B : Type 0} (f : A → B) (l : List A) (x : A) → map f (l ++ x ∷ []) ≡ map f l ++ f x ∷ []
+  mapped-behind f [] x = refl
+  mapped-behind f (y ∷ l) x = ap (_∷_ (f y)) (mapped-behind f l x)
+
 -- ════ factors
 
 pub appended-one : (t r : Term) (k : ℕ) → Counted t → t .«factor_count» < 7 → k < 16843008 → length (t .factors) ≡ 7
@@ -109,19 +124,10 @@ appended-one t r k h n b l ec ef en ep = record {
 }
   where
     numbers : take (t .«factor_count» + 1) (set (t .factors) (t .«factor_count») k) ≡ take (t .«factor_count») (t .factors) ++ k ∷ []
-    numbers = rw add-one (stored (t .factors) (t .«factor_count») (omega arith))
-      where
-        stored : (l : List ℕ) (n : ℕ) → n < length l → take (suc n) (set l n k) ≡ take n l ++ k ∷ []
-        stored [] n g = absurd (omega arith)
-        stored (x ∷ l) zero g = refl
-        stored (x ∷ l) (suc n) g = ap (λ (z : List ℕ). x ∷ z) (stored l n (omega arith))
+    numbers = stored-behind (t .factors) (t .«factor_count») k (omega arith)
 
     factors : map lettersOf (take (r .«factor_count») (r .factors)) ≡ map lettersOf (take (t .«factor_count») (t .factors)) ++ lettersOf k ∷ []
-    factors = rw (en, ef, numbers) (mapped (take (t .«factor_count») (t .factors)))
-      where
-        mapped : (l : List ℕ) → map lettersOf (l ++ k ∷ []) ≡ map lettersOf l ++ lettersOf k ∷ []
-        mapped [] = refl
-        mapped (x ∷ l) = ap (λ (z : List (List ℕ)). lettersOf x ∷ z) (mapped l)
+    factors = rw (en, ef, numbers) (mapped-behind lettersOf (take (t .«factor_count») (t .factors)) k)
 
 pub appended-none : (t : Term) (size : ℕ) (s : List ℕ) (at : ℕ) → Counted t → Appended (factorsAt 0 size s at) 0 t t
 unfolding behind factorsAt

@@ -1,2 +1,4 @@
 -- What the contracts cite.
 pub mod Reading
+pub mod Written
+pub mod Tested

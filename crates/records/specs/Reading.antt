@@ -10,13 +10,15 @@ use Rattle.specification.specs.Lists.{follows}
 use Rattle.specification.specs.Results.{Result, refused, given, _>>=_, _>>_, require, if_then_else_}
 use Rattle.specification.specs.Terms.{withCoef, plus, termBefore}
 use Rattle.specification.specs.Terms as S
-use Rattle.specification.specs.Records.{readCoef, readFactors, readLetters, testShape, readTermAt, stands, partLetters, partFits}
+use Rattle.specification.specs.Records.{readCoef, readFactors, readLetters, testShape, readTermAt, readTerms, stands, partLetters, partFits}
 use Rattle.theory.specs.Elements.{All}
 use Rattle.terms.specs.declared.types.Term.{Term}
 use Rattle.terms.specs.declared.types.Form.{Form}
 use Rattle.terms.specs.Abstraction.{termOf, formOf, Counted}
+use Rattle.terms.specs.Valid.{FormValid}
 use Rattle.records.specs.declared.read.TermReading.{TermReading}
-use Rattle.records.specs.declared.read.FormReading.{FormReading}
+use Rattle.records.specs.declared.take.FormReading.{FormReading}
+use Rattle.records.specs.declared.take.Taken.{Taken}
 
 -- ════ a term
 
@@ -109,9 +111,21 @@ pub record Readable (n : ℕ) (f : Form) : Type 0 where
   pub few : f .count ≤ n
   pub counted : All Counted (take (f .count) (f .terms))
 
+-- a form with one term more
+pub record Pushed (t : Term) (f g : Form) : Type 0 where
+  pub is : termsOf g ≡ termsOf f ++ termOf t ∷ []
+  pub readable : Readable (f .count + 1) g
+  pub kind : g .kind ≡ f .kind
+
 -- one term more read
 pub record TermTaken (s : List ℕ) (n : ℕ) (r q : FormReading) : Type 0 where
   pub is : termsReadOf q ≡ (termsReadOf r >>= termStep (r .form .kind) s)
+  pub readable : Readable n (q .form)
+  pub kind : q .form .kind ≡ r .form .kind
+
+-- so many terms more read
+pub record TermsTaken (s : List ℕ) (n : ℕ) (r q : FormReading) : Type 0 where
+  pub is : termsReadOf q ≡ (termsReadOf r >>= (λ (x : List S.Term × ℕ). readTerms n (r .form .kind) (x .0) s (x .1)))
   pub readable : Readable n (q .form)
   pub kind : q .form .kind ≡ r .form .kind
 
@@ -123,3 +137,12 @@ formReadOf r = if r .ok then given (formOf (r .form), r .next) else refused 11
 pub record FormRead (read : Result (S.Form × ℕ)) (q : FormReading) : Type 0 where
   pub is : formReadOf q ≡ read
   pub readable : Readable 48 (q .form)
+
+-- a form taken from its sender, or the number: 0 stands for no refusal
+unfoldable pub takenOf : Taken → Result S.Form
+takenOf r = if eqb (r .refusal) 0 then given (formOf (r .form)) else refused (r .refusal)
+
+-- the answer, and the named invariant of a form that was taken
+pub record FormTaken (answer : Result S.Form) (r : Taken) : Type 0 where
+  pub is : takenOf r ≡ answer
+  pub valid : r .refusal ≡ 0 → FormValid (r .form)

@@ -1,4 +1,4 @@
-// Term and form records read: any bytes whatsoever, from any position.
+// Term records read: any bytes whatsoever, from any position.
 ghost use mathlib.Core.Path.{_≡_};
 ghost use mathlib.Core.Bool.{not, _&&_};
 ghost use mathlib.Core.List.{[], _∷_};
@@ -17,7 +17,6 @@ use terms::factors::dot_number;
 use terms::factors::scalar_number;
 use terms::factors::triple_number;
 use terms::shape::in_shape;
-use terms::types::Form;
 use terms::types::Part;
 use terms::types::Term;
 
@@ -28,15 +27,8 @@ pub struct TermReading {
     pub term: Term,
 }
 
-// A form under way.
-pub struct FormReading {
-    pub ok: bool,
-    pub next: usize,
-    pub form: Form,
-}
-
 // Whether n bytes stand at a position.
-fn room(s: &[u8], at: usize, n: usize) -> bool
+pub fn room(s: &[u8], at: usize, n: usize) -> bool
     ensures { λ r. ⌜ r ≡ leb (at + n) (length (now (s .entry))) ⌝ }
 {
     if s.len() < n {

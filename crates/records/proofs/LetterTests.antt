@@ -1,0 +1,183 @@
+-- Tables and letters: each test as its comparisons decide it. Assumes nothing.
+use mathlib.Core.Path.{_≡_, refl, ap, sym, _∙_}
+use mathlib.Core.Bool.{Bool, true, false, _&&_}
+use mathlib.Core.List.{List, [], _∷_, map}
+use Prim.Native.Nat.{ℕ, zero, suc, _+_, _-_, _/_, _%_, _<_, _≤_}
+use native.Mathlib.Omega.{arith}
+use native.Mathlib.Numerals.{add-one}
+use lib.Dec.{ltb, leb, eqb}
+use lib.IntN.{pos}
+use lib.ListN.{length, getD, take, drop, drop-of-length-le}
+use lib.Seq.{drop-cons, getD-take, length-take-le}
+use borrow.Author.Tests.{lt-ltb, le-ltb, le-leb, lt-leb, eq-eqb, ne-eqb}
+use Rattle.specification.specs.Lists.{all}
+use Rattle.specification.specs.Results.{Test, refused, given, _>>_, require, if_then_else_}
+use Rattle.specification.specs.Letters.{scalar, vector, isKind, goodTable, testTable, testLetter, testLetters}
+use Rattle.specification.specs.Records.{testFactors, testTerm, testTerms}
+use Rattle.terms.specs.declared.types.Part.{Part}
+use Rattle.terms.specs.declared.types.Part.the-variants.{Nothing, Letter, Wedge}
+use Rattle.terms.specs.declared.types.Term.{Term}
+use Rattle.terms.specs.Numbers.{lettersOf}
+use Rattle.terms.specs.Abstraction.{partOf, termOf}
+use Rattle.records.specs.Tested.{testOf}
+use Rattle.records.proofs.Letters.{one-byte, two-bytes, three-bytes}
+
+-- ════ a test's number
+
+-- not 0: what follows is not tested
+pub stops : (n : ℕ) (t u : Test) → testOf n ≡ t → (n ≡ 0 → ⊥) → testOf n ≡ (t >> u)
+unfolding testOf
+stops n t u e h = let q : testOf n ≡ refused n = rw (ne-eqb n 0 h) in q ∙ ap (λ (z : Test). z >> u) (sym q ∙ e)
+
+-- 0: what follows decides
+pub goes-on : (n : ℕ) (t u : Test) → testOf n ≡ t → n ≡ 0 → (t >> u) ≡ u
+unfolding testOf
+goes-on n t u e p = let q : testOf n ≡ given tt = rw p in ap (λ (z : Test). z >> u) (sym e ∙ q)
+
+-- what is left from a place on begins with what stands there
+pub rest-from : {A : Type 0} (l : List A) (n i : ℕ) (d : A) → n ≤ length l → i < n → drop i (take n l) ≡ getD l i d ∷ drop (i + 1) (take n l)
+rest-from l n i d g h =
+    let e : i < length (take n l) = omega (arith, length-take-le n l g) in
+    drop-cons (take n l) i d e ∙ rw (getD-take n l i d h, add-one)
+
+pub nothing-from : {A : Type 0} (l : List A) (n i : ℕ) → n ≤ length l → n ≤ i → drop i (take n l) ≡ []
+nothing-from l n i g h = let a : length (take n l) ≤ i = omega (arith, length-take-le n l g) in drop-of-length-le (take n l) a
+
+-- ════ the table
+
+module _ (t : List ℕ) where
+  pub table-empty : length t < 1 → testOf 1 ≡ testTable t
+  unfolding testOf testTable goodTable
+  table-empty h = rw (lt-leb 1 (length t) h)
+
+  pub table-long : 1 ≤ length t → 24 < length t → testOf 1 ≡ testTable t
+  unfolding testOf testTable goodTable
+  table-long h g = rw (le-leb 1 (length t) h, lt-leb (length t) 24 g)
+
+  module _ (h : 1 ≤ length t) (g : length t ≤ 24) where
+    pub table-bad : all isKind t ≡ false → testOf 1 ≡ testTable t
+    unfolding testOf testTable goodTable
+    table-bad e = rw (le-leb 1 (length t) h, le-leb (length t) 24 g, e)
+
+    pub table-good : all isKind t ≡ true → testOf 0 ≡ testTable t
+    unfolding testOf testTable goodTable
+    table-good e = rw (le-leb 1 (length t) h, le-leb (length t) 24 g, e)
+
+  module _ (i : ℕ) where
+    here : i < length t → drop i t ≡ getD t i 0 ∷ drop (i + 1) t
+    here h = drop-cons t i 0 h ∙ rw add-one
+
+    pub kind-bad : i < length t → 1 < getD t i 0 → all isKind (drop i t) ≡ false
+    unfolding all isKind
+    kind-bad h g = rw (here h, lt-leb (getD t i 0) 1 g)
+
+    pub kind-good : i < length t → getD t i 0 ≤ 1 → all isKind (drop i t) ≡ all isKind (drop (i + 1) t)
+    unfolding all isKind
+    kind-good h g = rw (here h, le-leb (getD t i 0) 1 g)
+
+    pub kind-end : length t ≤ i → all isKind (drop i t) ≡ true
+    unfolding all
+    kind-end h = rw (drop-of-length-le t h)
+
+-- ════ letters
+
+module _ (t : List ℕ) (kind x : ℕ) where
+  pub letter-absent : length t ≤ x → testOf 5 ≡ testLetter t kind x
+  unfolding testOf testLetter
+  letter-absent h = rw (le-ltb x (length t) h)
+
+  pub letter-other : x < length t → (getD t x 0 ≡ kind → ⊥) → testOf 6 ≡ testLetter t kind x
+  unfolding testOf testLetter
+  letter-other h g = rw (lt-ltb x (length t) h, ne-eqb (getD t x 0) kind g)
+
+  pub letter-good : x < length t → getD t x 0 ≡ kind → testOf 0 ≡ testLetter t kind x
+  unfolding testOf testLetter
+  letter-good h g = rw (lt-ltb x (length t) h, eq-eqb (getD t x 0) kind g)
+
+  pub letters-one : (r : ℕ) → testOf r ≡ testLetter t kind x → testOf r ≡ testLetters t kind (x ∷ [])
+  unfolding testLetters
+  letters-one r e = e ∙ sym (last (testLetter t kind x))
+    where
+      last : (u : Test) → (u >> given tt) ≡ u
+      last (refused n) = refl
+      last (given v) = refl
+
+  pub letters-stop : (xs : List ℕ) (r : ℕ) → testOf r ≡ testLetter t kind x → (r ≡ 0 → ⊥) → testOf r ≡ testLetters t kind (x ∷ xs)
+  unfolding testLetters
+  letters-stop xs r e h = stops r _ _ e h
+
+  pub letters-on : (xs : List ℕ) (r q : ℕ) → testOf r ≡ testLetter t kind x → r ≡ 0 → testOf q ≡ testLetters t kind xs → testOf q ≡ testLetters t kind (x ∷ xs)
+  unfolding testLetters
+  letters-on xs r q e p f = f ∙ sym (goes-on r _ _ e p)
+
+-- ════ a factor
+
+module _ (t : List ℕ) (k r : ℕ) where
+  abbrev FactorTest : Test
+  FactorTest = testLetters t (if eqb (length (lettersOf k)) 1 then scalar else vector) (lettersOf k)
+
+  pub factor-one : (a : ℕ) → k < 256 → a ≡ k % 256 → testOf r ≡ testLetter t scalar a → testOf r ≡ FactorTest
+  factor-one a h p e = rw (one-byte k a h p) (letters-one t scalar a r e)
+
+  pub factor-two : (a b : ℕ) → 256 ≤ k → k < 65792 → a ≡ (k - 256) / 256 % 256 → b ≡ (k - 256) % 256 → testOf r ≡ testLetters t vector (a ∷ b ∷ []) → testOf r ≡ FactorTest
+  factor-two a b h g p q e = rw (two-bytes k a b h g p q) e
+
+  pub factor-three : (a b c : ℕ) → 65792 ≤ k → k < 16843008 → a ≡ (k - 65792) / 65536 % 256 → b ≡ (k - 65792) / 256 % 256 → c ≡ (k - 65792) % 256
+      → testOf r ≡ testLetters t vector (a ∷ b ∷ c ∷ []) → testOf r ≡ FactorTest
+  factor-three a b c h g p q s e = rw (three-bytes k a b c h g p q s) e
+
+-- ════ a vector part
+
+pub part-none : (t : List ℕ) (p : Part) → p ≡ Nothing → testOf 0 ≡ testLetters t vector (partOf p)
+unfolding testOf testLetters partOf
+part-none t p e = rw e
+
+pub part-letter : (t : List ℕ) (p : Part) (x r : ℕ) → p ≡ Letter x → testOf r ≡ testLetter t vector x → testOf r ≡ testLetters t vector (partOf p)
+unfolding partOf
+part-letter t p x r e h = rw e (letters-one t vector x r h)
+
+pub part-wedge : (t : List ℕ) (p : Part) (x y r : ℕ) → p ≡ Wedge x y → testOf r ≡ testLetters t vector (x ∷ y ∷ []) → testOf r ≡ testLetters t vector (partOf p)
+unfolding partOf
+part-wedge t p x y r e h = rw e h
+
+-- ════ a term, from a factor on
+
+module _ (t f : List ℕ) (n i r : ℕ) (rest : Test) (fl : n ≤ length f) where
+  abbrev From : ℕ → Test
+  From j = testFactors t (map lettersOf (drop j (take n f))) >> rest
+
+  module _ (h : i < n) (e : testOf r ≡ testLetters t (if eqb (length (lettersOf (getD f i 0))) 1 then scalar else vector) (lettersOf (getD f i 0))) where
+    pub factor-stops : (r ≡ 0 → ⊥) → testOf r ≡ From i
+    unfolding testFactors
+    factor-stops g = rw (rest-from f n i 0 fl h) (stops r _ rest (stops r _ (testFactors t (map lettersOf (drop (i + 1) (take n f)))) e g) g)
+
+    pub factor-passes : r ≡ 0 → From i ≡ From (i + 1)
+    unfolding testFactors
+    factor-passes p = rw (rest-from f n i 0 fl h) (ap (λ (z : Test). z >> rest) (goes-on r _ _ e p))
+
+  pub factors-end : n ≤ i → From i ≡ rest
+  unfolding testFactors
+  factors-end h = rw (nothing-from f n i fl h)
+
+-- ════ the terms of a form, from one on
+
+-- what a list has past its end
+abbrev pub noTerm : Term
+noTerm = record { coef = pos 0; factors = []; «factor_count» = 0; part = Nothing }
+
+module _ (t : List ℕ) (l : List Term) (n i r : ℕ) (d : Term) (fl : n ≤ length l) where
+  abbrev TermsFrom : ℕ → Test
+  TermsFrom j = testTerms t (map termOf (drop j (take n l)))
+
+  module _ (h : i < n) (e : testOf r ≡ testTerm t (termOf (getD l i d))) where
+    pub term-stops : (r ≡ 0 → ⊥) → testOf r ≡ TermsFrom i
+    unfolding testTerms
+    term-stops g = rw (rest-from l n i d fl h) (stops r _ _ e g)
+
+    pub term-passes : r ≡ 0 → TermsFrom i ≡ TermsFrom (i + 1)
+    unfolding testTerms
+    term-passes p = rw (rest-from l n i d fl h) (goes-on r _ _ e p)
+
+  pub terms-end : n ≤ i → TermsFrom i ≡ given tt
+  unfolding testTerms
+  terms-end h = rw (nothing-from l n i fl h)

@@ -1,0 +1,55 @@
+use mathlib.Core.Path.{_≡_, refl, sym, ap, _∙_}
+use native.Mathlib.Omega.{arith}
+use Rattle.records.proofs.LetterTests.{part-none, part-letter, part-wedge}
+use borrow.Author.Needs.{needs}
+use Rattle.records.proofs.table.test_part.Statement.{statement}
+use Rattle.records.proofs.table.test_part.Tie as tie
+use Rattle.records.proofs.table.test_part.Reads as reads
+use Rattle.records.proofs.table.test_part.Lts as lts
+use Rattle.records.proofs.table.test_letter.Reads as test-letter-reads
+use Rattle.records.proofs.table.test_two.Reads as test-two-reads
+
+-- src/table.rt:96:26
+enum-told : tie.Need-enum-told
+enum-told c = search needs
+
+-- src/table.rt:97:22
+enum-known-p : tie.Need-enum-known-p
+enum-known-p c = search needs
+
+-- src/table.rt:97:28
+test-letter-requires : tie.Need-test-letter-requires
+test-letter-requires c κs = search needs
+
+-- src/table.rt:98:21
+enum-known-p-2 : tie.Need-enum-known-p-2
+enum-known-p-2 c = search needs
+
+-- src/table.rt:98:30
+test-two-requires : tie.Need-test-two-requires
+test-two-requires c κs = search needs
+
+-- src/table.rt:92:1
+returns : tie.Need-returns
+returns c = part-none _ _ (c .enum-told .given .1)
+
+-- src/table.rt:92:1
+returns-2 : tie.Need-returns-2
+returns-2 c = part-letter _ _ _ _ (c .before .before .p .given .1) (c .test-letter .ensures)
+
+-- src/table.rt:92:1
+returns-3 : tie.Need-returns-3
+returns-3 c = part-wedge _ _ _ _ _ (c .before .before .p2 .given .1) (c .test-two .ensures)
+
+pub test-part-spec : {M : Type 1} → statement M
+test-part-spec =
+    tie.close
+    (tie.spec
+    enum-told
+    enum-known-p
+    test-letter-requires
+    enum-known-p-2
+    test-two-requires
+    returns
+    returns-2
+    returns-3)

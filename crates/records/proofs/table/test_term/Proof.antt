@@ -1,0 +1,90 @@
+use Rattle.records.proofs.LetterTests.{factor-stops, factor-passes, factors-end}
+use denote.Ref.{now}
+use borrow.Author.Needs.{needs}
+use Prim.Native.Nat.{ℕ, _-_, _≤_, _<_}
+use mathlib.Core.List.{map}
+use lib.ListN.{length, take, drop}
+use Rattle.specification.specs.Results.{_>>_}
+use Rattle.specification.specs.Letters.{vector, testLetters}
+use Rattle.specification.specs.Records.{testFactors, testTerm}
+use Rattle.terms.specs.Numbers.{lettersOf}
+use Rattle.terms.specs.Abstraction.{partOf, termOf}
+use Rattle.records.proofs.Factors.{all-at}
+use mathlib.Core.Path.{_≡_, refl, sym, ap, _∙_}
+use native.Mathlib.Omega.{arith}
+use Rattle.records.proofs.table.test_term.Statement.{statement}
+use Rattle.records.proofs.table.test_term.Tie as tie
+use Rattle.records.proofs.table.test_term.Reads as reads
+use Rattle.records.proofs.table.test_term.Lts as lts
+use Rattle.records.proofs.table.test_factor.Reads as test-factor-reads
+use Rattle.records.proofs.table.test_part.Reads as test-part-reads
+
+abbrev Inv-loop : tie.InvT-loop
+Inv-loop table t n p i₀ i = (i ≤ n) × (n ≡ t .«factor_count») × (n ≤ 7) × (testTerm table (termOf t) ≡ (testFactors table (map lettersOf (drop i (take n (t .factors)))) >> testLetters table vector (partOf (t .part))))
+
+abbrev μ-loop : tie.MeasureT-loop
+μ-loop table t n p i₀ i = n - i
+
+places : (c : tie.Start Inv-loop μ-loop) → length (c .args .t2 .factors) ≡ 7
+places c = search needs
+
+room : (c : tie.Start Inv-loop μ-loop) → c .args .t2 .«factor_count» ≤ length (c .args .t2 .factors)
+room c = omega (arith, places c, c .pre .few)
+
+-- src/table.rt:110:5
+loop-holds : tie.Need-loop-holds Inv-loop μ-loop
+unfolding testTerm termOf
+loop-holds c = (omega arith, refl, c .before .pre .few, refl)
+
+-- src/table.rt:111:36
+mul-test-factor : tie.Need-mul-test-factor Inv-loop μ-loop
+mul-test-factor c = omega arith
+
+-- src/table.rt:111:36
+element-copy-out-test-factor : tie.Need-element-copy-out-test-factor Inv-loop μ-loop
+element-copy-out-test-factor c = omega (arith, places (c .before .before .before))
+
+-- src/table.rt:111:13
+test-factor-requires : tie.Need-test-factor-requires Inv-loop μ-loop
+test-factor-requires c κs = all-at _ _ _ _ _ (room (c .before .before .before .before)) (c .before .loop-test .taken) (c .before .before .before .before .pre .small)
+
+-- src/table.rt:113:13
+returns : tie.Need-returns Inv-loop μ-loop
+returns c = sym ((c .before .before .before .before .loop .inv .3) ∙ sym (factor-stops (now (c .before .before .before .before .before .before .args .table)) (c .before .before .before .before .before .before .args .t2 .factors) (c .before .before .before .before .before .before .args .t2 .«factor_count») (c .before .before .before .before .loop .i) _ _ (room (c .before .before .before .before .before .before)) (c .before .before .before .loop-test .taken) (c .before .test-factor .ensures) (c .if1 .taken)))
+
+-- src/table.rt:115:9
+add-i : tie.Need-add-i Inv-loop μ-loop
+add-i c = omega arith
+
+-- src/table.rt:110:5
+loop-less : tie.Need-loop-less Inv-loop μ-loop
+loop-less c = omega arith
+
+-- src/table.rt:110:5
+loop-again : tie.Need-loop-again Inv-loop μ-loop
+loop-again c = let inv = (c .before .before .before .before .loop .inv) in (omega arith, inv .1, inv .2, inv .3 ∙ factor-passes (now (c .before .before .before .before .before .before .args .table)) (c .before .before .before .before .before .before .args .t2 .factors) (c .before .before .before .before .before .before .args .t2 .«factor_count») (c .before .before .before .before .loop .i) _ _ (room (c .before .before .before .before .before .before)) (c .before .before .before .loop-test .taken) (c .before .test-factor .ensures) (c .if1 .left))
+
+-- src/table.rt:117:5
+test-part-requires : tie.Need-test-part-requires Inv-loop μ-loop
+test-part-requires c κs = tt
+
+-- src/table.rt:103:1
+returns-2 : tie.Need-returns-2 Inv-loop μ-loop
+returns-2 c = c .test-part .ensures ∙ sym ((c .before .before .loop .inv .3) ∙ factors-end (now (c .before .before .before .before .args .table)) (c .before .before .before .before .args .t2 .factors) (c .before .before .before .before .args .t2 .«factor_count») (c .before .before .loop .i) 0 _ (room (c .before .before .before .before)) (c .before .loop-test .left))
+
+pub test-term-spec : {M : Type 1} → statement M
+test-term-spec =
+    tie.close
+    (tie.spec
+    Inv-loop
+    μ-loop
+    loop-holds
+    mul-test-factor
+    element-copy-out-test-factor
+    test-factor-requires
+    returns
+    add-i
+    loop-less
+    loop-again
+    test-part-requires
+    returns-2)

@@ -1,0 +1,29 @@
+use mathlib.Core.Path.{_≡_, refl, sym, ap, _∙_}
+use native.Mathlib.Omega.{arith}
+use Rattle.records.proofs.LetterTests.{letters-stop, letters-on}
+use borrow.Author.Needs.{needs}
+use Rattle.records.proofs.table.test_three.Statement.{statement}
+use Rattle.records.proofs.table.test_three.Tie as tie
+use Rattle.records.proofs.table.test_three.Reads as reads
+use Rattle.records.proofs.table.test_three.Lts as lts
+use Rattle.records.proofs.table.test_letter.Reads as test-letter-reads
+use Rattle.records.proofs.table.test_two.Reads as test-two-reads
+
+-- src/table.rt:70:9
+test-letter-requires : tie.Need-test-letter-requires
+test-letter-requires c κs = search needs
+
+-- src/table.rt:72:9
+returns : tie.Need-returns
+returns c = letters-stop _ _ _ _ _ (c .before .test-letter .ensures) (c .if1 .taken)
+
+-- src/table.rt:74:5
+test-two-requires : tie.Need-test-two-requires
+test-two-requires c κs = search needs
+
+-- src/table.rt:67:1
+returns-2 : tie.Need-returns-2
+returns-2 c = letters-on _ _ _ _ _ _ (c .before .before .test-letter .ensures) (c .before .if1 .left) (c .test-two .ensures)
+
+pub test-three-spec : {M : Type 1} → statement M
+test-three-spec = tie.close (tie.spec test-letter-requires returns test-two-requires returns-2)

@@ -1,0 +1,28 @@
+use mathlib.Core.Path.{_≡_, refl, sym, ap, _∙_}
+use native.Mathlib.Omega.{arith}
+use Rattle.records.proofs.LetterTests.{letters-stop, letters-on, letters-one}
+use borrow.Author.Needs.{needs}
+use Rattle.records.proofs.table.test_two.Statement.{statement}
+use Rattle.records.proofs.table.test_two.Tie as tie
+use Rattle.records.proofs.table.test_two.Reads as reads
+use Rattle.records.proofs.table.test_two.Lts as lts
+use Rattle.records.proofs.table.test_letter.Reads as test-letter-reads
+
+-- src/table.rt:59:9
+test-letter-requires : tie.Need-test-letter-requires
+test-letter-requires c κs = search needs
+
+-- src/table.rt:61:9
+returns : tie.Need-returns
+returns c = letters-stop _ _ _ _ _ (c .before .test-letter .ensures) (c .if1 .taken)
+
+-- src/table.rt:63:5
+test-letter-requires-2 : tie.Need-test-letter-requires-2
+test-letter-requires-2 c κs = search needs
+
+-- src/table.rt:56:1
+returns-2 : tie.Need-returns-2
+returns-2 c = letters-on _ _ _ _ _ _ (c .before .before .test-letter .ensures) (c .before .if1 .left) (letters-one _ _ _ _ (c .test-letter2 .ensures))
+
+pub test-two-spec : {M : Type 1} → statement M
+test-two-spec = tie.close (tie.spec test-letter-requires returns test-letter-requires-2 returns-2)

@@ -1,0 +1,24 @@
+use mathlib.Core.Path.{_≡_, refl, sym, ap, _∙_}
+use native.Mathlib.Omega.{arith}
+use Rattle.records.proofs.Takers.{kind-scalar, kind-vector}
+use borrow.Author.Needs.{needs}
+use Rattle.records.proofs.take.kind_fits.Statement.{statement}
+use Rattle.records.proofs.take.kind_fits.Tie as tie
+use Rattle.records.proofs.take.kind_fits.Reads as reads
+use Rattle.records.proofs.take.kind_fits.Lts as lts
+use Rattle.terms.proofs.shape.part_letters.Reads as part-letters-reads
+
+-- src/take.rt:75:8
+part-letters-requires : tie.Need-part-letters-requires
+part-letters-requires c κs = search needs
+
+-- src/take.rt:76:9
+returns : tie.Need-returns
+returns c = kind-scalar _ _ _ (c .before .part-letters .ensures) (c .if1 .taken)
+
+-- src/take.rt:71:1
+returns-2 : tie.Need-returns-2
+returns-2 c = kind-vector _ _ _ (c .before .part-letters .ensures) (c .if1 .left)
+
+pub kind-fits-spec : {M : Type 1} → statement M
+kind-fits-spec = tie.close (tie.spec part-letters-requires returns returns-2)

@@ -1,0 +1,190 @@
+// Term and form records written into lent bytes.
+ghost use mathlib.Core.Path.{_≡_};
+ghost use Prim.Native.Nat.{_+_, _≤_, _<_, _%_};
+ghost use lib.ListN.{length};
+ghost use Rattle.specification.specs.Lists.{joined};
+ghost use Rattle.specification.specs.Records.{factorsOf, coefField, countField, partBit, writeTerm};
+ghost use Rattle.terms.specs.Numbers.{lettersOf};
+ghost use Rattle.terms.specs.Abstraction.{partOf, termOf, formOf, Counted};
+ghost use Rattle.terms.specs.Valid.{TermValid, FormValid};
+ghost use Rattle.records.specs.Written.{Written, FieldBit, FormWritten};
+use integers::is_one;
+use integers::write_four_bytes;
+use terms::types::Form;
+use terms::types::Part;
+use terms::types::Term;
+
+// The lowest byte.
+pub fn low(x: u32) -> u8
+    ensures { λ r. ⌜ r ≡ x % 256 ⌝ }
+{
+    (x % 256) as u8
+}
+
+// How many letters a factor has.
+fn letter_count(k: u32) -> usize
+    ensures { λ r. ⌜ r ≡ length (lettersOf k) ⌝ }
+{
+    if k < 256 {
+        return 1;
+    }
+    if k < 65792 {
+        return 2;
+    }
+    3
+}
+
+// The letters of a factor.
+fn write_letters(out: &mut [u8], at: usize, k: u32) -> usize
+    requires { ⌜ (k < 16843008) × (at + length (lettersOf k) ≤ length (now out)) ⌝ }
+    ensures { λ r. ⌜ Written (now (out .entry)) (now (out .exit)) at r (lettersOf k) ⌝ }
+{
+    if k < 256 {
+        out[at] = low(k);
+        return at + 1;
+    }
+    if k < 65792 {
+        out[at] = low((k - 256) / 256);
+        out[at + 1] = low(k - 256);
+        return at + 2;
+    }
+    out[at] = low((k - 65792) / 65536);
+    out[at + 1] = low((k - 65792) / 256);
+    out[at + 2] = low(k - 65792);
+    at + 3
+}
+
+// How many factors of one number of letters a term has.
+fn count_of_size(t: Term, size: usize) -> u8
+    requires { ⌜ Counted t ⌝ }
+    ensures { λ r. ⌜ r ≡ length (factorsOf size (termOf t)) ⌝ }
+{
+    let n = t.factor_count;
+    let mut count: u8 = 0;
+    let mut i: usize = 0;
+    while i < n {
+        if letter_count(t.factors[i]) == size {
+            count += 1;
+        }
+        i += 1;
+    }
+    count
+}
+
+// The letters of all factors of one number of letters.
+fn write_joined(out: &mut [u8], at: usize, t: Term, size: usize) -> usize
+    requires { ⌜ Counted t × (at + length (joined (factorsOf size (termOf t))) ≤ length (now out)) ⌝ }
+    ensures { λ r. ⌜ Written (now (out .entry)) (now (out .exit)) at r (joined (factorsOf size (termOf t))) ⌝ }
+{
+    let n = t.factor_count;
+    let mut next = at;
+    let mut i: usize = 0;
+    while i < n {
+        let k = t.factors[i];
+        if letter_count(k) == size {
+            next = write_letters(out, next, k);
+        }
+        i += 1;
+    }
+    next
+}
+
+// The count and the letters of all factors of one number of letters; nothing where there are none.
+fn write_factors(out: &mut [u8], at: usize, t: Term, size: usize) -> usize
+    requires { ⌜ Counted t × (at + length (countField (factorsOf size (termOf t))) ≤ length (now out)) ⌝ }
+    ensures { λ r. ⌜ Written (now (out .entry)) (now (out .exit)) at r (countField (factorsOf size (termOf t))) ⌝ }
+{
+    let count = count_of_size(t, size);
+    if count == 0 {
+        return at;
+    }
+    out[at] = count;
+    write_joined(out, at + 1, t, size)
+}
+
+// The coefficient, left out where it is 1.
+fn write_coef(out: &mut [u8], at: usize, t: Term) -> usize
+    requires { ⌜ TermValid t × (at + length (coefField (t .coef)) ≤ length (now out)) ⌝ }
+    ensures { λ r. ⌜ Written (now (out .entry)) (now (out .exit)) at r (coefField (t .coef)) ⌝ }
+{
+    if is_one(t.coef) {
+        return at;
+    }
+    write_four_bytes(out, at, t.coef);
+    at + 4
+}
+
+// The letters of a vector part.
+fn write_part(out: &mut [u8], at: usize, p: Part) -> usize
+    requires { ⌜ at + length (partOf p) ≤ length (now out) ⌝ }
+    ensures { λ r. ⌜ Written (now (out .entry)) (now (out .exit)) at r (partOf p) ⌝ }
+{
+    match p {
+        Part::Nothing => at,
+        Part::Letter(x) => {
+            out[at] = x;
+            at + 1
+        }
+        Part::Wedge(x, y) => {
+            out[at] = x;
+            out[at + 1] = y;
+            at + 2
+        }
+    }
+}
+
+// The bit of a field that was written between two positions.
+fn field_bit(from: usize, to: usize, value: u8) -> u8
+    ensures { λ r. ⌜ FieldBit from to value r ⌝ }
+{
+    if from < to { value } else { 0 }
+}
+
+// The bit of a vector part.
+fn part_bit(p: Part) -> u8
+    ensures { λ r. ⌜ r ≡ partBit (partOf p) ⌝ }
+{
+    match p {
+        Part::Nothing => 0,
+        Part::Letter(_) => 16,
+        Part::Wedge(_, _) => 32,
+    }
+}
+
+// The record of a term: its fields, and in front of them the bit map of those that are there.
+pub fn write_term(out: &mut [u8], at: usize, t: Term) -> usize
+    requires { ⌜ TermValid t × (at + 16 ≤ length (now out)) ⌝ }
+    ensures { λ r. ⌜ Written (now (out .entry)) (now (out .exit)) at r (writeTerm (termOf t)) ⌝ }
+{
+    let p = t.part;
+    let coef = at + 1;
+    let scalars = write_coef(out, coef, t);
+    let dots = write_factors(out, scalars, t, 1);
+    let triples = write_factors(out, dots, t, 2);
+    let part = write_factors(out, triples, t, 3);
+    let end = write_part(out, part, p);
+    out[at] = field_bit(coef, scalars, 1)
+        + field_bit(scalars, dots, 2)
+        + field_bit(dots, triples, 4)
+        + field_bit(triples, part, 8)
+        + part_bit(p);
+    end
+}
+
+// The record of a form, at the start of the bytes lent.
+pub fn write_form(out: &mut [u8], f: Form) -> usize
+    requires { ⌜ FormValid f × (770 ≤ length (now out)) ⌝ }
+    ensures { λ r. ⌜ FormWritten (now (out .entry)) (now (out .exit)) r (formOf f) ⌝ }
+{
+    let n = f.count;
+    out[0] = f.kind;
+    out[1] = n as u8;
+    let mut at: usize = 2;
+    let mut i: usize = 0;
+    while i < n {
+        let t = f.terms[i];
+        at = write_term(out, at, t);
+        i += 1;
+    }
+    at
+}
