@@ -1,1 +1,3 @@
 -- Lemmas that belong to no one function.
+pub mod Steps
+pub mod Closing

@@ -1,10 +1,10 @@
 -- A sum as the specification's gathered terms, its invariant, and what bringing a term in gives. Assumes nothing.
 use mathlib.Core.Path.{_≡_}
-use mathlib.Core.List.{List, map}
+use mathlib.Core.List.{List, [], _∷_, map}
 use Prim.Native.Nat.{ℕ, _+_, _*_, _≤_}
-use lib.IntN.{natAbs}
+use lib.IntN.{natAbs, _+ℤ_}
 use lib.ListN.{take, length}
-use Rattle.specification.specs.Terms.{insert}
+use Rattle.specification.specs.Terms.{insert, keep, withCoef}
 use Rattle.specification.specs.Terms as S
 use Rattle.theory.specs.Elements.{All}
 use Rattle.terms.specs.declared.types.Term.{Term}
@@ -35,6 +35,24 @@ pub record Held (s : Sum) (ts : List Term) (r : Sum) : Type 0 where
   pub is : held r ≡ ts
   pub count : r .count ≡ length ts
   pub brought : r .brought ≡ s .brought
+
+-- the sum of no terms
+pub record Empty (r : Sum) : Type 0 where
+  pub is : sumOf r ≡ []
+  pub valid : SumValid r
+  pub brought : r .brought ≡ 0
+
+-- a term added to the first of a list
+unfoldable pub addedTo : S.Term → List S.Term → List S.Term
+addedTo t [] = []
+addedTo t (u ∷ us) = keep (withCoef (t .coef +ℤ u .coef) u) us
+
+-- a sum that now has these terms, before the one brought in is counted
+pub record Changed (s : Sum) (ts : List S.Term) (r : Sum) : Type 0 where
+  pub is : sumOf r ≡ ts
+  pub count : r .count ≤ s .count + 1
+  pub brought : r .brought ≡ s .brought
+  pub standing : All (Standing (s .brought + 1)) (held r)
 
 -- what bringing a term in gives
 pub record Brought (s : Sum) (t : Term) (r : Sum) : Type 0 where

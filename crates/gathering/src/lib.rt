@@ -4,9 +4,18 @@ ghost use mathlib.Core.List.{_∷_, _++_};
 ghost use Prim.Native.Nat.{_+_, _≤_, _<_};
 ghost use lib.IntN.{natAbs};
 ghost use lib.ListN.{take, drop};
-ghost use Rattle.terms.specs.Abstraction.{Counted};
-ghost use Rattle.gathering.specs.Sums.{held, SumValid, Held, Brought};
+ghost use Rattle.specification.specs.Lists.{all};
+ghost use Rattle.specification.specs.Terms.{keep, insert, termWithin};
+ghost use Rattle.terms.specs.Abstraction.{termOf, Counted};
+ghost use Rattle.gathering.specs.Sums.{held, sumOf, addedTo, Empty, SumValid, Held, Changed, Brought};
+ghost use Rattle.gathering.specs.Closing.{Copied, ClosedAs};
+use integers::add;
+use integers::is_zero;
+use integers::within;
 use terms::order::Order;
+use terms::order::compare;
+use terms::types::Form;
+use terms::types::Part;
 use terms::types::Term;
 
 // A sum under way: how many terms were brought in, and those that stand, strictly ascending.
@@ -14,6 +23,12 @@ pub struct Sum {
     pub brought: usize,
     pub count: usize,
     pub terms: [Term; 96],
+}
+
+// What closing a sum gives: a form, or where refusal is not 0, its number.
+pub struct Closed {
+    pub refusal: u8,
+    pub form: Form,
 }
 
 // The sum with a term at a place, those behind it moved up.
@@ -49,4 +64,150 @@ fn remove_at(s: Sum, i: usize) -> Sum
     }
     g.count = n - 1;
     g
+}
+
+// The sum of no terms.
+pub fn empty_sum() -> Sum
+    ensures { λ r. ⌜ Empty r ⌝ }
+{
+    let p = Part::Nothing;
+    let f: [u32; 7] = [0; 7];
+    let t = Term {
+        coef: 0,
+        factors: f,
+        factor_count: 0,
+        part: p,
+    };
+    let ts = [t; 96];
+    Sum {
+        brought: 0,
+        count: 0,
+        terms: ts,
+    }
+}
+
+// A term put at a place, unless its coefficient is 0.
+fn keep_at(s: Sum, i: usize, t: Term) -> Sum
+    requires { ⌜ SumValid s × (s .brought < 96) × (i ≤ s .count) × Counted t × (natAbs (t .coef) ≤ 2147483647) ⌝ }
+    ensures { λ r. ⌜ Changed s (take i (sumOf s) ++ keep (termOf t) (drop i (sumOf s))) r ⌝ }
+{
+    let c = t.coef;
+    if is_zero(c) {
+        return s;
+    }
+    insert_at(s, i, t)
+}
+
+// A like term added to the one at a place; a sum of 0 takes it out.
+fn add_at(s: Sum, i: usize, t: Term) -> Sum
+    requires { ⌜ SumValid s × (s .brought < 96) × (i < s .count) × Counted t × (natAbs (t .coef) ≤ 2147483647) ⌝ }
+    ensures { λ r. ⌜ Changed s (take i (sumOf s) ++ addedTo (termOf t) (drop i (sumOf s))) r ⌝ }
+{
+    let mut u = s.terms[i];
+    let sum = add(t.coef, u.coef);
+    if is_zero(sum) {
+        return remove_at(s, i);
+    }
+    u.coef = sum;
+    let mut g = s;
+    g.terms[i] = u;
+    g
+}
+
+// A term put where the order of terms has it, or added to the one like it.
+fn merge(s: Sum, t: Term) -> Sum
+    requires { ⌜ SumValid s × (s .brought < 96) × Counted t × (natAbs (t .coef) ≤ 2147483647) ⌝ }
+    ensures { λ r. ⌜ Changed s (insert (termOf t) (sumOf s)) r ⌝ }
+{
+    let n = s.count;
+    let mut i: usize = 0;
+    while i < n {
+        let u = s.terms[i];
+        let o = compare(t, u);
+        match o {
+            Order::Less => return keep_at(s, i, t),
+            Order::Equal => return add_at(s, i, t),
+            Order::Greater => {
+                i += 1;
+            }
+        }
+    }
+    keep_at(s, n, t)
+}
+
+// A term brought into a sum.
+pub fn bring(s: Sum, t: Term) -> Sum
+    requires { ⌜ SumValid s × (s .brought < 96) × Counted t × (natAbs (t .coef) ≤ 2147483647) ⌝ }
+    ensures { λ r. ⌜ Brought s t r ⌝ }
+{
+    let mut g = merge(s, t);
+    g.brought += 1;
+    g
+}
+
+// Whether every coefficient of a sum is within ±2147483647.
+fn all_within(s: Sum) -> bool
+    requires { ⌜ s .count ≤ 96 ⌝ }
+    ensures { λ r. ⌜ r ≡ all termWithin (sumOf s) ⌝ }
+{
+    let n = s.count;
+    let mut i: usize = 0;
+    while i < n {
+        let t = s.terms[i];
+        if !within(t.coef) {
+            return false;
+        }
+        i += 1;
+    }
+    true
+}
+
+// The form with the terms of a sum instead of its own.
+fn copy_terms(f: Form, s: Sum) -> Form
+    requires { ⌜ s .count ≤ 48 ⌝ }
+    ensures { λ r. ⌜ Copied f s r ⌝ }
+{
+    let mut g = f;
+    let n = s.count;
+    let mut i: usize = 0;
+    while i < n {
+        let t = s.terms[i];
+        g.terms[i] = t;
+        i += 1;
+    }
+    g.count = n;
+    g
+}
+
+// The form of a sum, refused with 9 where a coefficient is beyond ±2147483647, else with 10 where there are more than 48 terms.
+pub fn close(s: Sum, kind: u8) -> Closed
+    requires { ⌜ SumValid s ⌝ }
+    ensures { λ r. ⌜ ClosedAs s kind r ⌝ }
+{
+    let t = s.terms[0];
+    let ts = [t; 48];
+    let f = Form {
+        kind: kind,
+        count: 0,
+        terms: ts,
+    };
+    let fine = all_within(s);
+    let n = s.count;
+    if !fine {
+        return Closed {
+            refusal: 9,
+            form: f,
+        };
+    }
+    if n > 48 {
+        return Closed {
+            refusal: 10,
+            form: f,
+        };
+    }
+    let g = copy_terms(f, s);
+    Closed {
+        refusal: 0,
+        form: g,
+    }
 }

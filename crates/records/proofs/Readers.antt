@@ -19,8 +19,9 @@ use Rattle.theory.specs.Elements.{All, all-append}
 use Rattle.terms.specs.declared.types.Term.{Term}
 use Rattle.terms.specs.Numbers.{lettersOf, FactorNumber}
 use Rattle.terms.specs.Abstraction.{partOf, termOf, Counted}
+use Rattle.terms.specs.Build.{behind, Appended}
 use Rattle.records.specs.declared.read.TermReading.{TermReading}
-use Rattle.records.specs.Reading.{readOf, coefStep, behind, factorsStep, withPart, partStep, shapeStep, readFields, Stepped, Appended, Parted, TermRead}
+use Rattle.records.specs.Reading.{readOf, coefStep, factorsStep, withPart, partStep, shapeStep, readFields, Stepped, Parted, TermRead}
 
 -- ════ room
 
@@ -112,22 +113,6 @@ module _ {A : Type 0} where
   mapped-behind f (y ∷ l) x = ap (_∷_ (f y)) (mapped-behind f l x)
 
 -- ════ factors
-
-pub appended-one : (t r : Term) (k : ℕ) → Counted t → t .«factor_count» < 7 → k < 16843008 → length (t .factors) ≡ 7
-    → r .coef ≡ t .coef → r .factors ≡ set (t .factors) (t .«factor_count») k → r .«factor_count» ≡ t .«factor_count» + 1 → r .part ≡ t .part
-    → Appended (lettersOf k ∷ []) 1 t r
-unfolding termOf behind
-appended-one t r k h n b l ec ef en ep = record {
-  is = λ i. record { coef = ec i; factors = factors i; part = partOf (ep i) };
-  counted = record { few = rw en (omega arith); small = rw (en, ef, numbers) (all-append (λ (x : ℕ). x < 16843008) (take (t .«factor_count») (t .factors)) (k ∷ []) (h .small) (b, tt)) };
-  count = en;
-}
-  where
-    numbers : take (t .«factor_count» + 1) (set (t .factors) (t .«factor_count») k) ≡ take (t .«factor_count») (t .factors) ++ k ∷ []
-    numbers = stored-behind (t .factors) (t .«factor_count») k (omega arith)
-
-    factors : map lettersOf (take (r .«factor_count») (r .factors)) ≡ map lettersOf (take (t .«factor_count») (t .factors)) ++ lettersOf k ∷ []
-    factors = rw (en, ef, numbers) (mapped-behind lettersOf (take (t .«factor_count») (t .factors)) k)
 
 pub appended-none : (t : Term) (size : ℕ) (s : List ℕ) (at : ℕ) → Counted t → Appended (factorsAt 0 size s at) 0 t t
 unfolding behind factorsAt

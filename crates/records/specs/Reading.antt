@@ -15,6 +15,7 @@ use Rattle.theory.specs.Elements.{All}
 use Rattle.terms.specs.declared.types.Term.{Term}
 use Rattle.terms.specs.declared.types.Form.{Form}
 use Rattle.terms.specs.Abstraction.{termOf, formOf, Counted}
+use Rattle.terms.specs.Build.{behind}
 use Rattle.terms.specs.Valid.{FormValid}
 use Rattle.records.specs.declared.read.TermReading.{TermReading}
 use Rattle.records.specs.declared.take.FormReading.{FormReading}
@@ -31,10 +32,6 @@ unfoldable pub coefStep : (isThere : Bool) (s : List ℕ) → S.Term × ℕ → 
 coefStep isThere s r = do
   (coef, next) ← readCoef isThere s (r .1)
   given (withCoef coef (r .0), next)
-
--- factors behind those of a term
-unfoldable pub behind : List (List ℕ) → S.Term → S.Term
-behind fs t = record { coef = t .coef; factors = t .factors ++ fs; part = t .part }
 
 -- the factors of one number of letters read
 unfoldable pub factorsStep : (isThere : Bool) (most size : ℕ) (s : List ℕ) → S.Term × ℕ → Result (S.Term × ℕ)
@@ -71,12 +68,6 @@ pub record Stepped (step : S.Term × ℕ → Result (S.Term × ℕ)) (more : ℕ
   pub is : readOf q ≡ (readOf r >>= step)
   pub counted : Counted (q .term)
   pub few : q .term .«factor_count» ≤ r .term .«factor_count» + more
-
--- so many factors read behind those of a term
-pub record Appended (fs : List (List ℕ)) (n : ℕ) (t r : Term) : Type 0 where
-  pub is : termOf r ≡ behind fs (termOf t)
-  pub counted : Counted r
-  pub count : r .«factor_count» ≡ t .«factor_count» + n
 
 -- a term with another vector part
 pub record Parted (part : List ℕ) (t r : Term) : Type 0 where

@@ -8,11 +8,13 @@ ghost use lib.ListN.{length, getD, take, drop};
 ghost use Rattle.specification.specs.Results.{refused, given};
 ghost use Rattle.specification.specs.Terms.{plus};
 ghost use Rattle.specification.specs.Records.{factorsAt, goodBits, partLetters, readTermAt};
-ghost use Rattle.terms.specs.Numbers.{FactorNumber, lettersOf};
+ghost use Rattle.terms.specs.Numbers.{FactorNumber};
 ghost use Rattle.terms.specs.Abstraction.{partOf, termOf, Counted};
-ghost use Rattle.records.specs.Reading.{readOf, coefStep, factorsStep, partStep, shapeStep, Stepped, Appended, Parted, TermRead, readFields};
+ghost use Rattle.records.specs.Reading.{readOf, coefStep, factorsStep, partStep, shapeStep, Stepped, Parted, TermRead, readFields};
+ghost use Rattle.terms.specs.Build.{Appended};
 use integers::four_bytes_at;
 use integers::is_one;
+use terms::build::append_factor;
 use terms::factors::dot_number;
 use terms::factors::scalar_number;
 use terms::factors::triple_number;
@@ -111,18 +113,6 @@ fn factor_at(s: &[u8], at: usize, size: usize) -> u32
     triple_number(x, y, z)
 }
 
-// A factor behind those of a term.
-fn append(t: Term, k: u32) -> Term
-    requires { ⌜ Counted t × (t .«factor_count» < 7) × (k < 16843008) ⌝ }
-    ensures { λ r. ⌜ Appended (lettersOf k ∷ []) 1 t r ⌝ }
-{
-    let mut u = t;
-    let n = t.factor_count;
-    u.factors[n] = k;
-    u.factor_count = n + 1;
-    u
-}
-
 // So many factors of so many letters behind those of a term.
 fn append_factors(s: &[u8], at: usize, count: usize, size: usize, t: Term) -> Term
     requires { ⌜ Counted t × (t .«factor_count» + count ≤ 7) × (1 ≤ size) × (size ≤ 3) × (at + count * size ≤ length (now s)) ⌝ }
@@ -133,7 +123,7 @@ fn append_factors(s: &[u8], at: usize, count: usize, size: usize, t: Term) -> Te
     let mut i: usize = 0;
     while i < count {
         let k = factor_at(s, next, size);
-        u = append(u, k);
+        u = append_factor(u, k);
         next += size;
         i += 1;
     }

@@ -4,3 +4,6 @@ pub mod Orders
 pub mod Shift
 pub mod Places
 pub mod InShape
+pub mod Exchanges
+pub mod Tidying
+pub mod Joins

@@ -4,3 +4,4 @@ pub mod Abstraction
 pub mod Build
 pub mod Valid
 pub mod Used
+pub mod Tidy

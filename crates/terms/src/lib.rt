@@ -3,4 +3,5 @@ pub mod build;
 pub mod factors;
 pub mod order;
 pub mod shape;
+pub mod tidy;
 pub mod types;

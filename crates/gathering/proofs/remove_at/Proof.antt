@@ -1,11 +1,10 @@
 use mathlib.Core.Path.{_≡_, refl, sym, _∙_}
 use Prim.Native.Nat.{_+_, _-_, _≤_, _<_}
 use native.Mathlib.Omega.{arith}
-use borrow.Author.Needs.{needs}
 use lib.ListN.{length, take, length-map}
 use lib.Seq.{length-take-le}
-use Rattle.gathering.specs.Sums.{held}
 use Rattle.terms.proofs.Shift.{lowered, lowered-none, lowered-more, lowered-all, removed-length}
+use Rattle.gathering.specs.Sums.{held}
 use Rattle.gathering.proofs.remove_at.Statement.{statement}
 use Rattle.gathering.proofs.remove_at.Tie as tie
 use Rattle.gathering.proofs.remove_at.Reads as reads

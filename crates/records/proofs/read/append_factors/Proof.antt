@@ -5,12 +5,12 @@ use Prim.Native.Nat.{_+_, _-_, _*_, _≤_}
 use native.Mathlib.Nat.{suc-mul}
 use native.Mathlib.Numerals.{add-one}
 use Rattle.specification.specs.Records.{factorsAt}
-use Rattle.records.specs.Reading.{Appended}
+use Rattle.terms.specs.Build.{Appended}
 use Rattle.records.proofs.read.append_factors.Statement.{statement}
 use Rattle.records.proofs.read.append_factors.Tie as tie
 use Rattle.records.proofs.read.append_factors.Reads as reads
 use Rattle.records.proofs.read.append_factors.Lts as lts
-use Rattle.records.proofs.read.append.Reads as append-reads
+use Rattle.terms.proofs.build.append_factor.Reads as append-factor-reads
 use Rattle.records.proofs.read.factor_at.Reads as factor-at-reads
 
 abbrev Inv-loop : tie.InvT-loop
@@ -28,8 +28,8 @@ factor-at-requires : tie.Need-factor-at-requires Inv-loop μ-loop
 factor-at-requires c κs = let w = (c .before .before .before .pre) in let inv = c .before .loop .inv in (w .2, w .3, turn-fits _ _ _ _ _ _ (c .loop-test .taken) (w .4) (inv .1))
 
 -- src/read.rt:145:9
-append-requires : tie.Need-append-requires Inv-loop μ-loop
-append-requires c κs = let inv = c .before .before .loop .inv in (inv .2 .counted, omega (arith, inv .2 .count), c .factor-at .ensures .small)
+append-factor-requires : tie.Need-append-factor-requires Inv-loop μ-loop
+append-factor-requires c κs = let inv = c .before .before .loop .inv in (inv .2 .counted, omega (arith, inv .2 .count), c .factor-at .ensures .small)
 
 -- src/read.rt:146:9
 add-next : tie.Need-add-next Inv-loop μ-loop
@@ -45,7 +45,7 @@ loop-less c = omega arith
 
 -- src/read.rt:143:5
 loop-again : tie.Need-loop-again Inv-loop μ-loop
-loop-again c = let inv = c .before .before .before .loop .inv in (omega arith, omega (arith, inv .1, suc-mul (c .before .before .before .loop .i) (c .before .before .before .before .before .args .size), add-one (c .before .before .before .loop .i)), appended-more _ _ _ _ _ _ _ _ _ (inv .1) (c .before .factor-at .ensures) (inv .2) (c .append .ensures))
+loop-again c = let inv = c .before .before .before .loop .inv in (omega arith, omega (arith, inv .1, suc-mul (c .before .before .before .loop .i) (c .before .before .before .before .before .args .size), add-one (c .before .before .before .loop .i)), appended-more _ _ _ _ _ _ _ _ _ (inv .1) (c .before .factor-at .ensures) (inv .2) (c .append-factor .ensures))
 
 -- src/read.rt:136:1
 returns : tie.Need-returns Inv-loop μ-loop
@@ -59,7 +59,7 @@ append-factors-spec =
     μ-loop
     loop-holds
     factor-at-requires
-    append-requires
+    append-factor-requires
     add-next
     add-i
     loop-less

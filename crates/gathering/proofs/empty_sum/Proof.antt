@@ -1,0 +1,15 @@
+use mathlib.Core.Path.{refl}
+use native.Mathlib.Omega.{arith}
+use Rattle.gathering.specs.Sums.{held, sumOf}
+use Rattle.gathering.proofs.empty_sum.Statement.{statement}
+use Rattle.gathering.proofs.empty_sum.Tie as tie
+use Rattle.gathering.proofs.empty_sum.Reads as reads
+use Rattle.gathering.proofs.empty_sum.Lts as lts
+
+-- src/lib.rt:64:1
+returns : tie.Need-returns
+unfolding sumOf held
+returns c = record { is = refl; valid = record { fewer = omega arith; few = omega arith; standing = tt }; brought = refl }
+
+pub empty-sum-spec : {M : Type 1} → statement M
+empty-sum-spec = tie.close (tie.spec returns)

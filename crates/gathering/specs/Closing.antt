@@ -1,0 +1,30 @@
+-- A closed sum: a form, or the number of a refusal; and what closing gives. Assumes nothing.
+use mathlib.Core.Path.{_≡_}
+use Prim.Native.Nat.{ℕ, _≤_}
+use lib.Dec.{eqb}
+use lib.ListN.{take}
+use Rattle.specification.specs.Results.{Result, given, refused, if_then_else_}
+use Rattle.specification.specs.Terms.{within}
+use Rattle.specification.specs.Terms as S
+use Rattle.theory.specs.Elements.{All}
+use Rattle.terms.specs.declared.types.Form.{Form}
+use Rattle.terms.specs.Abstraction.{formOf, Counted}
+use Rattle.gathering.specs.declared.Sum.{Sum}
+use Rattle.gathering.specs.declared.Closed.{Closed}
+use Rattle.gathering.specs.Sums.{held, sumOf}
+
+-- the form, or the refusal where its number is not 0
+unfoldable pub closedOf : Closed → Result S.Form
+closedOf r = if eqb (r .refusal) 0 then given (formOf (r .form)) else refused (r .refusal)
+
+-- a form with the terms of a sum
+pub record Copied (f : Form) (s : Sum) (r : Form) : Type 0 where
+  pub terms : take (r .count) (r .terms) ≡ held s
+  pub count : r .count ≡ s .count
+  pub kind : r .kind ≡ f .kind
+
+-- what closing a sum gives
+pub record ClosedAs (s : Sum) (kind : ℕ) (r : Closed) : Type 0 where
+  pub is : closedOf r ≡ within kind (sumOf s)
+  pub few : r .form .count ≤ 48
+  pub counted : All Counted (take (r .form .count) (r .form .terms))

@@ -1,0 +1,41 @@
+-- Reading after writing and writing after reading, from the contracts of the calls `read_form` and `write_form`. Assumes nothing.
+use mathlib.Core.Path.{_≡_, refl, ap, sym, subst, _∙_}
+use mathlib.Core.List.{List, _++_}
+use Prim.Native.Nat.{ℕ}
+use lib.ListN.{length, take, drop}
+use lib.Seq.{take-at}
+use Rattle.specification.specs.Results.{Result, given, _>>=_, _>>_}
+use Rattle.specification.specs.Terms as S
+use Rattle.specification.specs.Records.{writeForm, writeInto, readForm, testTerms, takeForm}
+use Rattle.theory.specs.Tests.{given-same, tested, into}
+use Rattle.theory.specs.Records.Positions.{Bytes}
+use Rattle.theory.specs.Records.Forms.{form-read-back, form-one-record}
+use Rattle.terms.specs.declared.types.Form.{Form}
+use Rattle.terms.specs.Abstraction.{formOf}
+use Rattle.terms.specs.Valid.{FormValid}
+use Rattle.records.specs.declared.take.Taken.{Taken}
+use Rattle.records.specs.Reading.{takenOf, FormTaken}
+use Rattle.records.specs.Written.{FormWritten}
+
+-- what a write left in front of the bytes lent
+front : (before after : List ℕ) (n : ℕ) (f : S.Form) → FormWritten before after n f → take n after ≡ writeForm f
+unfolding writeInto
+front before after n f w = rw (w .bytes) (take-at (writeForm f) (drop (length (writeForm f)) before) n (sym (w .ends)))
+
+-- P3: the record that `write_form` wrote of a form is read by `read_form` as that form, under every table that has its letters
+pub read-after-write : (table before after : List ℕ) (n : ℕ) (f : Form) (r : Taken) → FormValid f → testTerms table (formOf f .terms) ≡ given tt
+    → FormWritten before after n (formOf f) → FormTaken (takeForm table (take n after)) r → takenOf r ≡ given (formOf f)
+unfolding takeForm
+read-after-write table before after n f r v t w k = k .is ∙ rw (front before after n (formOf f) w, form-read-back (formOf f) (v .inShape), t)
+
+-- P3: where `read_form` took a form, `write_form` writes the bytes that were read, and as many
+pub write-after-read : (table s before after : List ℕ) (n : ℕ) (r : Taken) → Bytes s → r .refusal ≡ 0
+    → FormTaken (takeForm table s) r → FormWritten before after n (formOf (r .form)) → (take n after ≡ s) × (n ≡ length s)
+unfolding takeForm takenOf
+write-after-read table s before after n r bs z k w =
+    let q : takeForm table s ≡ given (formOf (r .form)) = sym (k .is) ∙ rw z in
+    let e : writeForm (formOf (r .form)) ≡ s =
+    into (readForm s) _ (formOf (r .form)) q λ f e₁ e₂.
+    let u = tested (testTerms table (f .terms)) (given f) (formOf (r .form)) e₂ in
+    form-one-record s (formOf (r .form)) bs (e₁ ∙ u .1) .isWritten in
+    (front before after n (formOf (r .form)) w ∙ e, w .ends ∙ ap length e)
