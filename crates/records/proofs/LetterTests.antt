@@ -1,17 +1,17 @@
 -- Tables and letters: each test as its comparisons decide it. Assumes nothing.
 use mathlib.Core.Path.{_≡_, refl, ap, sym, _∙_}
-use mathlib.Core.Bool.{Bool, true, false, _&&_}
+use mathlib.Core.Bool.{true, false}
 use mathlib.Core.List.{List, [], _∷_, map}
-use Prim.Native.Nat.{ℕ, zero, suc, _+_, _-_, _/_, _%_, _<_, _≤_}
+use Prim.Native.Nat.{ℕ, _+_, _-_, _/_, _%_, _<_, _≤_}
 use native.Mathlib.Omega.{arith}
 use native.Mathlib.Numerals.{add-one}
-use lib.Dec.{ltb, leb, eqb}
+use lib.Dec.{eqb}
 use lib.IntN.{pos}
 use lib.ListN.{length, getD, take, drop, drop-of-length-le}
 use lib.Seq.{drop-cons, getD-take, length-take-le}
 use borrow.Author.Tests.{lt-ltb, le-ltb, le-leb, lt-leb, eq-eqb, ne-eqb}
 use Rattle.specification.specs.Lists.{all}
-use Rattle.specification.specs.Results.{Test, refused, given, _>>_, require, if_then_else_}
+use Rattle.specification.specs.Results.{Test, refused, given, _>>_, if_then_else_}
 use Rattle.specification.specs.Letters.{scalar, vector, isKind, goodTable, testTable, testLetter, testLetters}
 use Rattle.specification.specs.Records.{testFactors, testTerm, testTerms}
 use Rattle.terms.specs.declared.types.Part.{Part}

@@ -6,7 +6,6 @@ use Prim.Native.Nat.{ℕ, _+_, _-_, _/_, _%_, _<_, _≤_}
 use native.Mathlib.Omega.{arith}
 use lib.Dec.{eqb}
 use lib.ListN.{length}
-use borrow.Author.Tests.{lt-ltb, le-ltb}
 use Rattle.specification.specs.Results.{if_then_else_}
 use Rattle.specification.specs.Records.{bitOf, partBit}
 use Rattle.terms.specs.declared.types.Part.{Part}

@@ -9,19 +9,18 @@ use native.Mathlib.Numerals.{add-one}
 use lib.Dec.{ltb, leb, eqb, lit<}
 use lib.IntN.{ℤ, pos}
 use lib.ListN.{length, getD, take, drop, set}
-use lib.Seq.{drop-cons, take-suc, take-set-lt, set-split, length-take-le}
+use lib.Seq.{drop-cons}
 use borrow.Author.Tests.{lt-ltb, le-ltb, le-leb, lt-leb, ltb-true, leb-true, leb-false}
-use Rattle.specification.specs.Results.{Result, refused, given, _>>=_, _>>_, require, if_then_else_}
+use Rattle.specification.specs.Results.{Result, refused, given, _>>=_, _>>_, require}
 use Rattle.specification.specs.Terms.{withCoef, plus, termInShape}
 use Rattle.specification.specs.Terms as S
 use Rattle.specification.specs.Records.{isOne, fourBytesAt, stands, partLetters, goodBits, readCoef, readFactors, readLetters, factorsAt, testShape, readTermAt}
-use Rattle.theory.specs.Elements.{All, all-append}
 use Rattle.terms.specs.declared.types.Term.{Term}
 use Rattle.terms.specs.Numbers.{lettersOf, FactorNumber}
-use Rattle.terms.specs.Abstraction.{partOf, termOf, Counted}
+use Rattle.terms.specs.Abstraction.{termOf, Counted}
 use Rattle.terms.specs.Build.{behind, Appended}
 use Rattle.records.specs.declared.read.TermReading.{TermReading}
-use Rattle.records.specs.Reading.{readOf, coefStep, factorsStep, withPart, partStep, shapeStep, readFields, Stepped, Parted, TermRead}
+use Rattle.records.specs.Reading.{readOf, coefStep, factorsStep, withPart, partStep, shapeStep, readFields, Stepped}
 
 -- ════ room
 

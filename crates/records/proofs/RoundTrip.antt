@@ -1,13 +1,13 @@
 -- Reading after writing and writing after reading, from the contracts of the calls `read_form` and `write_form`. Assumes nothing.
-use mathlib.Core.Path.{_≡_, refl, ap, sym, subst, _∙_}
-use mathlib.Core.List.{List, _++_}
+use mathlib.Core.Path.{_≡_, ap, sym, _∙_}
+use mathlib.Core.List.{List}
 use Prim.Native.Nat.{ℕ}
 use lib.ListN.{length, take, drop}
 use lib.Seq.{take-at}
-use Rattle.specification.specs.Results.{Result, given, _>>=_, _>>_}
+use Rattle.specification.specs.Results.{given}
 use Rattle.specification.specs.Terms as S
 use Rattle.specification.specs.Records.{writeForm, writeInto, readForm, testTerms, takeForm}
-use Rattle.theory.specs.Tests.{given-same, tested, into}
+use Rattle.theory.specs.Tests.{tested, into}
 use Rattle.theory.specs.Records.Positions.{Bytes}
 use Rattle.theory.specs.Records.Forms.{form-read-back, form-one-record}
 use Rattle.terms.specs.declared.types.Form.{Form}

@@ -1,31 +1,29 @@
 -- Taking a form: one term more, so many terms, and the whole. Assumes nothing.
-use mathlib.Core.Path.{_≡_, refl, ap, sym, _∙_, subst}
-use mathlib.Core.Bool.{Bool, true, false, true≢false, _&&_}
+use mathlib.Core.Path.{_≡_, refl, ap, sym, _∙_}
+use mathlib.Core.Bool.{Bool, true, false, _&&_}
 use mathlib.Core.List.{List, [], _∷_, _++_, map}
-use Prim.Native.Nat.{ℕ, zero, suc, _+_, _-_, _<_, _≤_, Ordering}
+use Prim.Native.Nat.{ℕ, suc, _+_, _-_, _<_, _≤_}
 use native.Mathlib.Omega.{arith}
-use native.Mathlib.Numerals.{add-one}
-use lib.Dec.{ltb, leb, eqb}
-use lib.ListN.{length, getD, take, drop, set}
-use lib.Seq.{take-suc, length-take-le}
+use lib.Dec.{leb, eqb}
+use lib.ListN.{length, getD, take, set}
+use lib.Seq.{take-suc}
 use borrow.Author.Tests.{le-leb, lt-leb, eq-eqb, ne-eqb, eqb-true, eqb-false}
 use Rattle.specification.specs.Lists.{isLess, follows}
 use Rattle.specification.specs.Results.{Result, Test, refused, given, _>>=_, _>>_, require, if_then_else_}
 use Rattle.specification.specs.Terms.{termKind, termBefore, compareTerms}
 use Rattle.specification.specs.Terms as S
 use Rattle.specification.specs.Records.{readTermAt, partFits, readTerms, readFormAt, readForm, testTerms, takeForm}
-use Rattle.theory.specs.Elements.{All, all-append}
+use Rattle.theory.specs.Elements.{all-append}
 use Rattle.theory.specs.Records.Positions.{Bytes}
 use Rattle.theory.specs.Records.Forms.{form-one-record}
 use Rattle.terms.specs.declared.types.Term.{Term}
 use Rattle.terms.specs.declared.types.Form.{Form}
 use Rattle.terms.specs.declared.order.Order.{Order}
 use Rattle.terms.specs.Abstraction.{partOf, termOf, formOf, orderingOf, Counted}
-use Rattle.terms.specs.Valid.{FormValid}
 use Rattle.records.specs.declared.read.TermReading.{TermReading}
 use Rattle.records.specs.declared.take.FormReading.{FormReading}
 use Rattle.records.specs.declared.take.Taken.{Taken}
-use Rattle.records.specs.Reading.{readOf, termsOf, termsReadOf, termStep, Readable, Pushed, TermTaken, TermsTaken, formReadOf, FormRead, takenOf, FormTaken}
+use Rattle.records.specs.Reading.{readOf, termsOf, termsReadOf, termStep, Readable, Pushed, TermTaken, TermsTaken, formReadOf, takenOf, FormTaken}
 use Rattle.records.specs.Tested.{testOf}
 use Rattle.records.proofs.Readers.{stored-behind, mapped-behind}
 

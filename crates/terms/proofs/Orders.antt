@@ -1,13 +1,13 @@
 -- Comparing: one turn at a time at the first difference, and terms by their numbers. Assumes nothing.
-use mathlib.Core.Path.{_≡_, refl, ap, sym, _∙_}
+use mathlib.Core.Path.{_≡_, refl, sym, _∙_}
 use mathlib.Core.List.{List, [], _∷_, map}
-use Prim.Native.Nat.{ℕ, zero, suc, _+_, _<_, _≤_, Ordering, Ordering·lt, Ordering·eq, Ordering·gt}
+use Prim.Native.Nat.{ℕ, _+_, _<_, _≤_, Ordering, Ordering·lt, Ordering·eq, Ordering·gt}
 use native.Mathlib.Omega.{arith}
 use native.Mathlib.Numerals.{add-one}
 use lib.ListN.{length, getD, take, drop, length-map, drop-of-length-le}
 use lib.Seq.{drop-cons, getD-take, length-take-le}
 use Rattle.specification.specs.Lists.{thenBy, order, firstDifference, compareLists}
-use Rattle.specification.specs.Terms.{compareLetters, compareFactors, compareTerms}
+use Rattle.specification.specs.Terms.{compareLetters, compareTerms}
 use Rattle.theory.specs.Order.{nat-laws, compares-less, compares-equal, compares-more}
 use Rattle.terms.specs.declared.types.Term.{Term}
 use Rattle.terms.specs.Numbers.{lettersOf, partLettersOf}

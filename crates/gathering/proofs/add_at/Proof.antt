@@ -1,5 +1,5 @@
 use mathlib.Core.Path.{_≡_, sym, _∙_}
-use Prim.Native.Nat.{_+_, _-_, _≤_}
+use Prim.Native.Nat.{_≤_}
 use native.Mathlib.Omega.{arith}
 use borrow.Author.Needs.{needs}
 use lib.ListN.{length, length-map, getD}
@@ -12,11 +12,6 @@ use Rattle.gathering.specs.Sums.{Standing}
 use Rattle.gathering.proofs.Steps.{noTerm, stands-at, standing-small, standing-fits, added-none, added-some}
 use Rattle.gathering.proofs.add_at.Statement.{statement}
 use Rattle.gathering.proofs.add_at.Tie as tie
-use Rattle.gathering.proofs.add_at.Reads as reads
-use Rattle.gathering.proofs.add_at.Lts as lts
-use Rattle.gathering.proofs.remove_at.Reads as remove-at-reads
-use Rattle.integers.proofs.add.Reads as add-reads
-use Rattle.integers.proofs.is_zero.Reads as is-zero-reads
 
 places : (c : tie.Start) → length (c .args .t1 .terms) ≡ 96
 places c = sym (length-map (c .args .t1 .terms) _) ∙ c .good .0 .1 .1 .1 .1 .0 .1 .0 .1

@@ -13,9 +13,6 @@ use Rattle.gathering.specs.Sums.{sumOf}
 use Rattle.gathering.proofs.Steps.{noTerm, split, length-sum, beyond, inside, inside-all}
 use Rattle.gathering.proofs.all_within.Statement.{statement}
 use Rattle.gathering.proofs.all_within.Tie as tie
-use Rattle.gathering.proofs.all_within.Reads as reads
-use Rattle.gathering.proofs.all_within.Lts as lts
-use Rattle.integers.proofs.within.Reads as within-reads
 
 abbrev Inv-loop : tie.InvT-loop
 Inv-loop s n i₀ i = (i ≤ n) × (all termWithin (sumOf s) ≡ all termWithin (drop i (sumOf s)))

@@ -7,10 +7,6 @@ use lib.ListN.{length, length-map}
 use Rattle.gathering.proofs.Closing.{refused-9, refused-10, given-form}
 use Rattle.gathering.proofs.close.Statement.{statement}
 use Rattle.gathering.proofs.close.Tie as tie
-use Rattle.gathering.proofs.close.Reads as reads
-use Rattle.gathering.proofs.close.Lts as lts
-use Rattle.gathering.proofs.all_within.Reads as all-within-reads
-use Rattle.gathering.proofs.copy_terms.Reads as copy-terms-reads
 
 places : (c : tie.Start) → length (c .args .t1 .terms) ≡ 96
 places c = sym (length-map (c .args .t1 .terms) _) ∙ c .good .0 .1 .1 .1 .1 .0 .1 .0 .1

@@ -6,8 +6,6 @@ use Rattle.gathering.specs.Sums.{held}
 use Rattle.gathering.proofs.Steps.{noTerm, copied-more}
 use Rattle.gathering.proofs.copy_terms.Statement.{statement}
 use Rattle.gathering.proofs.copy_terms.Tie as tie
-use Rattle.gathering.proofs.copy_terms.Reads as reads
-use Rattle.gathering.proofs.copy_terms.Lts as lts
 
 abbrev Inv-loop : tie.InvT-loop
 Inv-loop s g₀ n i₀ g i = (i ≤ n) × (take i (g .terms) ≡ take i (s .terms)) × (length (g .terms) ≡ 48) × (g .kind ≡ g₀ .kind)

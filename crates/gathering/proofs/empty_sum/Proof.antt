@@ -3,8 +3,6 @@ use native.Mathlib.Omega.{arith}
 use Rattle.gathering.specs.Sums.{held, sumOf}
 use Rattle.gathering.proofs.empty_sum.Statement.{statement}
 use Rattle.gathering.proofs.empty_sum.Tie as tie
-use Rattle.gathering.proofs.empty_sum.Reads as reads
-use Rattle.gathering.proofs.empty_sum.Lts as lts
 
 -- src/lib.rt:64:1
 returns : tie.Need-returns

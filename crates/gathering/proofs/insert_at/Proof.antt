@@ -1,5 +1,5 @@
 use mathlib.Core.Path.{_≡_, refl, sym, _∙_}
-use Prim.Native.Nat.{_-_, _≤_, _<_}
+use Prim.Native.Nat.{_≤_, _<_}
 use native.Mathlib.Omega.{arith}
 use lib.ListN.{length, take, length-map}
 use lib.Seq.{length-take-le}
@@ -7,8 +7,6 @@ use Rattle.terms.proofs.Shift.{shifted, shifted-none, shifted-more, shifted-set
 use Rattle.gathering.specs.Sums.{held}
 use Rattle.gathering.proofs.insert_at.Statement.{statement}
 use Rattle.gathering.proofs.insert_at.Tie as tie
-use Rattle.gathering.proofs.insert_at.Reads as reads
-use Rattle.gathering.proofs.insert_at.Lts as lts
 
 abbrev Inv-loop : tie.InvT-loop
 Inv-loop i t g₀ n j₀ g j = (i ≤ j) × (j ≤ n) × (n ≡ g₀ .count) × (n < 96) × (g .terms ≡ shifted (g₀ .terms) j n) × (g .brought ≡ g₀ .brought)

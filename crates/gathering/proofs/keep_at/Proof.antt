@@ -1,5 +1,5 @@
 use mathlib.Core.Path.{_≡_, sym, ap, _∙_}
-use Prim.Native.Nat.{_-_, _≤_}
+use Prim.Native.Nat.{_≤_}
 use native.Mathlib.Omega.{arith}
 use borrow.Author.Needs.{needs}
 use lib.ListN.{length, length-map}
@@ -8,10 +8,6 @@ use Rattle.integers.proofs.Machine.{back-is}
 use Rattle.gathering.proofs.Steps.{kept-none, kept-some}
 use Rattle.gathering.proofs.keep_at.Statement.{statement}
 use Rattle.gathering.proofs.keep_at.Tie as tie
-use Rattle.gathering.proofs.keep_at.Reads as reads
-use Rattle.gathering.proofs.keep_at.Lts as lts
-use Rattle.gathering.proofs.insert_at.Reads as insert-at-reads
-use Rattle.integers.proofs.is_zero.Reads as is-zero-reads
 
 places : (c : tie.Start) → length (c .args .s .terms) ≡ 96
 places c = sym (length-map (c .args .s .terms) _) ∙ c .good .0 .1 .1 .1 .1 .0 .1 .0 .1

@@ -10,11 +10,6 @@ use Rattle.gathering.specs.Sums.{sumOf}
 use Rattle.gathering.proofs.Steps.{noTerm, changed-as, split, stands-at, length-sum, at-less, at-equal, at-greater, at-end}
 use Rattle.gathering.proofs.merge.Statement.{statement}
 use Rattle.gathering.proofs.merge.Tie as tie
-use Rattle.gathering.proofs.merge.Reads as reads
-use Rattle.gathering.proofs.merge.Lts as lts
-use Rattle.gathering.proofs.add_at.Reads as add-at-reads
-use Rattle.gathering.proofs.keep_at.Reads as keep-at-reads
-use Rattle.terms.proofs.order.compare.Reads as compare-reads
 
 abbrev Inv-loop : tie.InvT-loop
 Inv-loop t s n i₀ i = (i ≤ n) × (insert (termOf t) (sumOf s) ≡ take i (sumOf s) ++ insert (termOf t) (drop i (sumOf s)))

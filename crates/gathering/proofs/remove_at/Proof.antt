@@ -7,8 +7,6 @@ use Rattle.terms.proofs.Shift.{lowered, lowered-none, lowered-more, lowered-all
 use Rattle.gathering.specs.Sums.{held}
 use Rattle.gathering.proofs.remove_at.Statement.{statement}
 use Rattle.gathering.proofs.remove_at.Tie as tie
-use Rattle.gathering.proofs.remove_at.Reads as reads
-use Rattle.gathering.proofs.remove_at.Lts as lts
 
 abbrev Inv-loop : tie.InvT-loop
 Inv-loop i g₀ n j₀ g j = (i ≤ j) × (j < n) × (n ≡ g₀ .count) × (n ≤ 96) × (g .terms ≡ lowered (g₀ .terms) i j) × (g .brought ≡ g₀ .brought)

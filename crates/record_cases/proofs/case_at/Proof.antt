@@ -4,9 +4,6 @@ use lib.ListN.{getD}
 use borrow.Author.Needs.{needs}
 use Rattle.record_cases.proofs.case_at.Statement.{statement}
 use Rattle.record_cases.proofs.case_at.Tie as tie
-use Rattle.record_cases.proofs.case_at.Reads as reads
-use Rattle.record_cases.proofs.case_at.Lts as lts
-use Rattle.record_cases.proofs.print_case.Reads as print-case-reads
 
 -- src/main.rt:49:13
 shared-slice-read-t : tie.Need-shared-slice-read-t

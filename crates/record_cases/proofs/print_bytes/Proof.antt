@@ -1,12 +1,9 @@
 use borrow.Author.Needs.{needs}
 use native.Mathlib.Omega.{arith}
-use Prim.Native.Nat.{_-_, _≤_}
+use Prim.Native.Nat.{_-_}
 use lib.ListN.{length}
 use Rattle.record_cases.proofs.print_bytes.Statement.{statement}
 use Rattle.record_cases.proofs.print_bytes.Tie as tie
-use Rattle.record_cases.proofs.print_bytes.Reads as reads
-use Rattle.record_cases.proofs.print_bytes.Lts as lts
-use Rattle.io.proofs.print_hex.Reads as print-hex-reads
 
 abbrev Inv-loop : tie.InvT-loop
 Inv-loop s i₀ i = Unit {0}

@@ -1,13 +1,6 @@
 use borrow.Author.Needs.{needs}
 use Rattle.record_cases.proofs.print_case.Statement.{statement}
 use Rattle.record_cases.proofs.print_case.Tie as tie
-use Rattle.record_cases.proofs.print_case.Reads as reads
-use Rattle.record_cases.proofs.print_case.Lts as lts
-use Rattle.io.proofs.print_decimal.Reads as print-decimal-reads
-use Rattle.io.proofs.write_all.Reads as write-all-reads
-use Rattle.record_cases.proofs.print_form.Reads as print-form-reads
-use Rattle.records.proofs.table.check_table.Reads as check-table-reads
-use Rattle.records.proofs.take.read_form.Reads as read-form-reads
 
 -- src/main.rt:32:26
 check-table-requires : tie.Need-check-table-requires

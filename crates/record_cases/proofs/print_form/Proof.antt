@@ -9,11 +9,6 @@ use Rattle.theory.specs.Records.Forms.{form-short}
 use borrow.Author.Needs.{needs}
 use Rattle.record_cases.proofs.print_form.Statement.{statement}
 use Rattle.record_cases.proofs.print_form.Tie as tie
-use Rattle.record_cases.proofs.print_form.Reads as reads
-use Rattle.record_cases.proofs.print_form.Lts as lts
-use Rattle.io.proofs.write_all.Reads as write-all-reads
-use Rattle.record_cases.proofs.print_bytes.Reads as print-bytes-reads
-use Rattle.records.proofs.write.write_form.Reads as write-form-reads
 
 -- what was written stands within
 inside : (xs before after : List ℕ) (n : ℕ) → n ≡ length xs → after ≡ writeInto xs before → n ≤ length after

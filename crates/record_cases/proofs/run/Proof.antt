@@ -4,9 +4,6 @@ use Prim.Native.Nat.{_-_}
 use lib.ListN.{length}
 use Rattle.record_cases.proofs.run.Statement.{statement}
 use Rattle.record_cases.proofs.run.Tie as tie
-use Rattle.record_cases.proofs.run.Reads as reads
-use Rattle.record_cases.proofs.run.Lts as lts
-use Rattle.record_cases.proofs.case_at.Reads as case-at-reads
 
 abbrev Inv-loop : tie.InvT-loop
 Inv-loop s at₀ at = Unit {0}

@@ -1,4 +1,4 @@
-use mathlib.Core.Path.{_≡_, refl, sym, ap, _∙_}
+use mathlib.Core.Path.{_≡_}
 use native.Mathlib.Omega.{arith}
 use Rattle.records.proofs.Readers.{appended-none, appended-more, turn-fits}
 use Prim.Native.Nat.{_+_, _-_, _*_, _≤_}
@@ -8,10 +8,6 @@ use Rattle.specification.specs.Records.{factorsAt}
 use Rattle.terms.specs.Build.{Appended}
 use Rattle.records.proofs.read.append_factors.Statement.{statement}
 use Rattle.records.proofs.read.append_factors.Tie as tie
-use Rattle.records.proofs.read.append_factors.Reads as reads
-use Rattle.records.proofs.read.append_factors.Lts as lts
-use Rattle.terms.proofs.build.append_factor.Reads as append-factor-reads
-use Rattle.records.proofs.read.factor_at.Reads as factor-at-reads
 
 abbrev Inv-loop : tie.InvT-loop
 Inv-loop s at count size u₀ next₀ i₀ u next i = (i ≤ count) × (next ≡ at + i * size) × Appended (factorsAt i size s at) i u₀ u

@@ -1,11 +1,9 @@
-use mathlib.Core.Path.{_≡_, refl, sym, ap, _∙_}
+use mathlib.Core.Path.{refl}
 use native.Mathlib.Omega.{arith}
 use Rattle.terms.specs.Abstraction.{termOf, partOf}
 use Rattle.records.specs.Reading.{readOf}
 use Rattle.records.proofs.read.begin.Statement.{statement}
 use Rattle.records.proofs.read.begin.Tie as tie
-use Rattle.records.proofs.read.begin.Reads as reads
-use Rattle.records.proofs.read.begin.Lts as lts
 
 -- src/read.rt:50:1
 returns : tie.Need-returns

@@ -1,12 +1,8 @@
-use mathlib.Core.Path.{_≡_, refl, sym, ap, _∙_}
-use native.Mathlib.Omega.{arith}
+use mathlib.Core.Path.{sym, _∙_}
 use Rattle.records.proofs.Readers.{bits-beyond, bits-letter, bits-other}
 use borrow.Author.Needs.{needs}
 use Rattle.records.proofs.read.bits_fit.Statement.{statement}
 use Rattle.records.proofs.read.bits_fit.Tie as tie
-use Rattle.records.proofs.read.bits_fit.Reads as reads
-use Rattle.records.proofs.read.bits_fit.Lts as lts
-use Rattle.records.proofs.read.bit_stands.Reads as bit-stands-reads
 
 -- src/read.rt:272:9
 returns : tie.Need-returns

@@ -1,15 +1,10 @@
 use denote.Ref.{now}
-use mathlib.Core.Path.{_≡_, refl, sym, ap, _∙_}
+use mathlib.Core.Path.{_≡_}
 use native.Mathlib.Omega.{arith}
 use Rattle.records.proofs.Readers.{spelled, one-at, two-at, three-at}
 use borrow.Author.Needs.{needs}
 use Rattle.records.proofs.read.factor_at.Statement.{statement}
 use Rattle.records.proofs.read.factor_at.Tie as tie
-use Rattle.records.proofs.read.factor_at.Reads as reads
-use Rattle.records.proofs.read.factor_at.Lts as lts
-use Rattle.terms.proofs.factors.dot_number.Reads as dot-number-reads
-use Rattle.terms.proofs.factors.scalar_number.Reads as scalar-number-reads
-use Rattle.terms.proofs.factors.triple_number.Reads as triple-number-reads
 
 -- src/read.rt:111:13
 shared-slice-read-x : tie.Need-shared-slice-read-x

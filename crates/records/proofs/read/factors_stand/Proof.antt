@@ -1,13 +1,9 @@
 use denote.Ref.{now}
-use mathlib.Core.Path.{_≡_, refl, sym, ap, _∙_}
 use native.Mathlib.Omega.{arith}
 use Rattle.records.proofs.Readers.{stand-behind, stand-zero, stand-many, stand-there, small-product}
 use borrow.Author.Needs.{needs}
 use Rattle.records.proofs.read.factors_stand.Statement.{statement}
 use Rattle.records.proofs.read.factors_stand.Tie as tie
-use Rattle.records.proofs.read.factors_stand.Reads as reads
-use Rattle.records.proofs.read.factors_stand.Lts as lts
-use Rattle.records.proofs.read.room.Reads as room-reads
 
 -- src/read.rt:158:9
 returns : tie.Need-returns

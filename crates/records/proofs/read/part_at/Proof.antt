@@ -1,13 +1,11 @@
 use denote.Ref.{now}
-use mathlib.Core.Path.{_≡_, refl, sym, ap, _∙_}
+use mathlib.Core.Path.{_≡_}
 use native.Mathlib.Omega.{arith}
 use Rattle.records.proofs.Readers.{one-at, two-at}
 use Rattle.terms.specs.Abstraction.{partOf}
 use borrow.Author.Needs.{needs}
 use Rattle.records.proofs.read.part_at.Statement.{statement}
 use Rattle.records.proofs.read.part_at.Tie as tie
-use Rattle.records.proofs.read.part_at.Reads as reads
-use Rattle.records.proofs.read.part_at.Lts as lts
 
 -- src/read.rt:200:9
 returns : tie.Need-returns

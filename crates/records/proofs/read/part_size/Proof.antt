@@ -1,12 +1,9 @@
-use mathlib.Core.Path.{_≡_, refl, sym, ap, _∙_}
+use mathlib.Core.Path.{sym, _∙_}
 use native.Mathlib.Omega.{arith}
 use Rattle.records.proofs.Readers.{size-one, size-two, size-none}
 use borrow.Author.Needs.{needs}
 use Rattle.records.proofs.read.part_size.Statement.{statement}
 use Rattle.records.proofs.read.part_size.Tie as tie
-use Rattle.records.proofs.read.part_size.Reads as reads
-use Rattle.records.proofs.read.part_size.Lts as lts
-use Rattle.records.proofs.read.bit_stands.Reads as bit-stands-reads
 
 -- src/read.rt:258:8
 bit-stands-requires : tie.Need-bit-stands-requires

@@ -15,12 +15,6 @@ use Rattle.terms.specs.Abstraction.{termOf}
 use borrow.Author.Needs.{needs}
 use Rattle.records.proofs.read.read_coef.Statement.{statement}
 use Rattle.records.proofs.read.read_coef.Tie as tie
-use Rattle.records.proofs.read.read_coef.Reads as reads
-use Rattle.records.proofs.read.read_coef.Lts as lts
-use Rattle.integers.proofs.four_bytes_at.Reads as four-bytes-at-reads
-use Rattle.integers.proofs.is_one.Reads as is-one-reads
-use Rattle.records.proofs.read.refuse.Reads as refuse-reads
-use Rattle.records.proofs.read.room.Reads as room-reads
 
 -- there is room for four bytes
 four : (c : tie.Else3) → c .before .before .before .before .before .before .before .args .r .next + 4 ≤ length (now (c .before .before .before .before .before .before .before .args .s))

@@ -1,7 +1,7 @@
-use mathlib.Core.Path.{_≡_, refl, sym, ap, _∙_}
+use mathlib.Core.Path.{sym, ap, _∙_}
 use native.Mathlib.Omega.{arith}
 use Rattle.records.proofs.Readers.{stays, goes, refuses, factors-absent, factors-refused, factors-given, stand-says, small-product}
-use borrow.Author.Tests.{not-true, not-false, leb-true}
+use borrow.Author.Tests.{not-true, not-false}
 use denote.Ref.{now}
 use Prim.Native.Nat.{_+_, _*_, _≤_, _<_}
 use lib.ListN.{length, getD}
@@ -10,11 +10,6 @@ use Rattle.specification.specs.Terms as S
 use borrow.Author.Needs.{needs}
 use Rattle.records.proofs.read.read_factors.Statement.{statement}
 use Rattle.records.proofs.read.read_factors.Tie as tie
-use Rattle.records.proofs.read.read_factors.Reads as reads
-use Rattle.records.proofs.read.read_factors.Lts as lts
-use Rattle.records.proofs.read.append_factors.Reads as append-factors-reads
-use Rattle.records.proofs.read.factors_stand.Reads as factors-stand-reads
-use Rattle.records.proofs.read.refuse.Reads as refuse-reads
 
 -- what the tests before the factors say
 says : (c : tie.After-shared-slice-known2) → (c .before .before .before .before .before .before .before .args .r .next < length (now (c .before .before .before .before .before .before .before .args .s)))

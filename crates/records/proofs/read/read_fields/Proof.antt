@@ -1,18 +1,7 @@
-use mathlib.Core.Path.{_≡_, refl, sym, ap, _∙_}
-use native.Mathlib.Omega.{arith}
 use Rattle.records.proofs.Readers.{fields-read}
 use borrow.Author.Needs.{needs}
 use Rattle.records.proofs.read.read_fields.Statement.{statement}
 use Rattle.records.proofs.read.read_fields.Tie as tie
-use Rattle.records.proofs.read.read_fields.Reads as reads
-use Rattle.records.proofs.read.read_fields.Lts as lts
-use Rattle.records.proofs.read.begin.Reads as begin-reads
-use Rattle.records.proofs.read.bit_stands.Reads as bit-stands-reads
-use Rattle.records.proofs.read.part_size.Reads as part-size-reads
-use Rattle.records.proofs.read.read_coef.Reads as read-coef-reads
-use Rattle.records.proofs.read.read_factors.Reads as read-factors-reads
-use Rattle.records.proofs.read.read_part.Reads as read-part-reads
-use Rattle.records.proofs.read.test_shape.Reads as test-shape-reads
 
 -- src/read.rt:298:9
 begin-requires : tie.Need-begin-requires

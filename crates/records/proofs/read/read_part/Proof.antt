@@ -1,4 +1,4 @@
-use mathlib.Core.Path.{_≡_, refl, sym, ap, _∙_}
+use mathlib.Core.Path.{sym, ap, _∙_}
 use native.Mathlib.Omega.{arith}
 use Rattle.records.proofs.Readers.{stays, goes, refuses, part-short, part-given}
 use borrow.Author.Tests.{not-true, not-false, leb-true}
@@ -13,12 +13,6 @@ use Rattle.records.specs.Reading.{withPart}
 use borrow.Author.Needs.{needs}
 use Rattle.records.proofs.read.read_part.Statement.{statement}
 use Rattle.records.proofs.read.read_part.Tie as tie
-use Rattle.records.proofs.read.read_part.Reads as reads
-use Rattle.records.proofs.read.read_part.Lts as lts
-use Rattle.records.proofs.read.part_at.Reads as part-at-reads
-use Rattle.records.proofs.read.refuse.Reads as refuse-reads
-use Rattle.records.proofs.read.room.Reads as room-reads
-use Rattle.records.proofs.read.with_part.Reads as with-part-reads
 
 -- there is room for the letters
 roomy : (c : tie.Else2) → c .before .before .before .before .before .args .r .next + c .before .before .before .before .before .args .n ≤ length (now (c .before .before .before .before .before .args .s))

@@ -1,17 +1,9 @@
-use mathlib.Core.Path.{_≡_, refl, sym, ap, _∙_}
-use native.Mathlib.Omega.{arith}
+use mathlib.Core.Path.{sym, _∙_}
 use Rattle.records.proofs.Readers.{term-behind, term-bad-bits, term-fields}
-use borrow.Author.Tests.{not-true, not-false, leb-true}
-use denote.Ref.{now}
+use borrow.Author.Tests.{not-true, not-false}
 use borrow.Author.Needs.{needs}
 use Rattle.records.proofs.read.read_term.Statement.{statement}
 use Rattle.records.proofs.read.read_term.Tie as tie
-use Rattle.records.proofs.read.read_term.Reads as reads
-use Rattle.records.proofs.read.read_term.Lts as lts
-use Rattle.records.proofs.read.begin.Reads as begin-reads
-use Rattle.records.proofs.read.bits_fit.Reads as bits-fit-reads
-use Rattle.records.proofs.read.read_fields.Reads as read-fields-reads
-use Rattle.records.proofs.read.refuse.Reads as refuse-reads
 
 -- src/read.rt:312:23
 begin-requires : tie.Need-begin-requires

@@ -1,10 +1,7 @@
-use mathlib.Core.Path.{_≡_, refl, sym, ap, _∙_}
-use native.Mathlib.Omega.{arith}
+use mathlib.Core.Path.{refl}
 use Rattle.records.specs.Reading.{readOf}
 use Rattle.records.proofs.read.refuse.Statement.{statement}
 use Rattle.records.proofs.read.refuse.Tie as tie
-use Rattle.records.proofs.read.refuse.Reads as reads
-use Rattle.records.proofs.read.refuse.Lts as lts
 
 -- src/read.rt:69:1
 returns : tie.Need-returns

@@ -1,11 +1,7 @@
-use mathlib.Core.Path.{_≡_, refl, sym, ap, _∙_}
-use native.Mathlib.Omega.{arith}
 use Rattle.records.proofs.Readers.{room-none, room-some}
 use borrow.Author.Needs.{needs}
 use Rattle.records.proofs.read.room.Statement.{statement}
 use Rattle.records.proofs.read.room.Tie as tie
-use Rattle.records.proofs.read.room.Reads as reads
-use Rattle.records.proofs.read.room.Lts as lts
 
 -- src/read.rt:44:9
 returns : tie.Need-returns

@@ -1,14 +1,10 @@
-use mathlib.Core.Path.{_≡_, refl, sym, ap, _∙_}
+use mathlib.Core.Path.{sym, _∙_}
 use native.Mathlib.Omega.{arith}
 use Rattle.records.proofs.Readers.{stays, goes, refuses, shape-given, shape-refused}
-use borrow.Author.Tests.{not-true, not-false, leb-true}
+use borrow.Author.Tests.{not-true, not-false}
 use borrow.Author.Needs.{needs}
 use Rattle.records.proofs.read.test_shape.Statement.{statement}
 use Rattle.records.proofs.read.test_shape.Tie as tie
-use Rattle.records.proofs.read.test_shape.Reads as reads
-use Rattle.records.proofs.read.test_shape.Lts as lts
-use Rattle.records.proofs.read.refuse.Reads as refuse-reads
-use Rattle.terms.proofs.shape.in_shape.Reads as in-shape-reads
 
 -- src/read.rt:237:9
 returns : tie.Need-returns

@@ -1,5 +1,4 @@
-use mathlib.Core.Path.{_≡_, refl, sym, ap, _∙_}
-use native.Mathlib.Omega.{arith}
+use mathlib.Core.Path.{refl, ap}
 use Rattle.records.proofs.Readers.{recounted}
 use lib.IntN.{ℤ}
 use Rattle.integers.proofs.Machine.{back-is}
@@ -7,8 +6,6 @@ use Rattle.terms.specs.Abstraction.{partOf, termOf}
 use Rattle.records.specs.Reading.{withPart}
 use Rattle.records.proofs.read.with_part.Statement.{statement}
 use Rattle.records.proofs.read.with_part.Tie as tie
-use Rattle.records.proofs.read.with_part.Reads as reads
-use Rattle.records.proofs.read.with_part.Lts as lts
 
 -- src/read.rt:211:1
 returns : tie.Need-returns

@@ -1,5 +1,5 @@
 use denote.Ref.{now}
-use mathlib.Core.Path.{_≡_, refl, sym, ap, _∙_}
+use mathlib.Core.Path.{_≡_, refl, _∙_}
 use native.Mathlib.Omega.{arith}
 use Rattle.records.proofs.LetterTests.{table-empty, table-long, table-bad, table-good, kind-bad, kind-good, kind-end}
 use Prim.Native.Nat.{_-_, _≤_}
@@ -8,8 +8,6 @@ use Rattle.specification.specs.Lists.{all}
 use Rattle.specification.specs.Letters.{isKind}
 use Rattle.records.proofs.table.check_table.Statement.{statement}
 use Rattle.records.proofs.table.check_table.Tie as tie
-use Rattle.records.proofs.table.check_table.Reads as reads
-use Rattle.records.proofs.table.check_table.Lts as lts
 
 abbrev Inv-loop : tie.InvT-loop
 Inv-loop table n i₀ i = (i ≤ n) × (n ≡ length table) × (1 ≤ n) × (n ≤ 24) × (all isKind table ≡ all isKind (drop i table))

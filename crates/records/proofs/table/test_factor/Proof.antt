@@ -1,16 +1,8 @@
-use mathlib.Core.Path.{_≡_, refl, sym, ap, _∙_}
-use native.Mathlib.Omega.{arith}
 use Rattle.records.proofs.LetterTests.{factor-one, factor-two, factor-three}
 use denote.Ref.{now}
 use borrow.Author.Needs.{needs}
 use Rattle.records.proofs.table.test_factor.Statement.{statement}
 use Rattle.records.proofs.table.test_factor.Tie as tie
-use Rattle.records.proofs.table.test_factor.Reads as reads
-use Rattle.records.proofs.table.test_factor.Lts as lts
-use Rattle.records.proofs.table.test_letter.Reads as test-letter-reads
-use Rattle.records.proofs.table.test_three.Reads as test-three-reads
-use Rattle.records.proofs.table.test_two.Reads as test-two-reads
-use Rattle.records.proofs.write.low.Reads as low-reads
 
 -- src/table.rt:83:38
 low-requires : tie.Need-low-requires

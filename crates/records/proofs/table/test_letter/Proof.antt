@@ -1,11 +1,7 @@
-use mathlib.Core.Path.{_≡_, refl, sym, ap, _∙_}
-use native.Mathlib.Omega.{arith}
 use Rattle.records.proofs.LetterTests.{letter-absent, letter-other, letter-good}
 use borrow.Author.Needs.{needs}
 use Rattle.records.proofs.table.test_letter.Statement.{statement}
 use Rattle.records.proofs.table.test_letter.Tie as tie
-use Rattle.records.proofs.table.test_letter.Reads as reads
-use Rattle.records.proofs.table.test_letter.Lts as lts
 
 -- src/table.rt:47:9
 returns : tie.Need-returns

@@ -1,13 +1,7 @@
-use mathlib.Core.Path.{_≡_, refl, sym, ap, _∙_}
-use native.Mathlib.Omega.{arith}
 use Rattle.records.proofs.LetterTests.{part-none, part-letter, part-wedge}
 use borrow.Author.Needs.{needs}
 use Rattle.records.proofs.table.test_part.Statement.{statement}
 use Rattle.records.proofs.table.test_part.Tie as tie
-use Rattle.records.proofs.table.test_part.Reads as reads
-use Rattle.records.proofs.table.test_part.Lts as lts
-use Rattle.records.proofs.table.test_letter.Reads as test-letter-reads
-use Rattle.records.proofs.table.test_two.Reads as test-two-reads
 
 -- src/table.rt:96:26
 enum-told : tie.Need-enum-told

@@ -1,7 +1,7 @@
 use Rattle.records.proofs.LetterTests.{factor-stops, factor-passes, factors-end}
 use denote.Ref.{now}
 use borrow.Author.Needs.{needs}
-use Prim.Native.Nat.{ℕ, _-_, _≤_, _<_}
+use Prim.Native.Nat.{_-_, _≤_}
 use mathlib.Core.List.{map}
 use lib.ListN.{length, take, drop}
 use Rattle.specification.specs.Results.{_>>_}
@@ -10,14 +10,10 @@ use Rattle.specification.specs.Records.{testFactors, testTerm}
 use Rattle.terms.specs.Numbers.{lettersOf}
 use Rattle.terms.specs.Abstraction.{partOf, termOf}
 use Rattle.records.proofs.Factors.{all-at}
-use mathlib.Core.Path.{_≡_, refl, sym, ap, _∙_}
+use mathlib.Core.Path.{_≡_, refl, sym, _∙_}
 use native.Mathlib.Omega.{arith}
 use Rattle.records.proofs.table.test_term.Statement.{statement}
 use Rattle.records.proofs.table.test_term.Tie as tie
-use Rattle.records.proofs.table.test_term.Reads as reads
-use Rattle.records.proofs.table.test_term.Lts as lts
-use Rattle.records.proofs.table.test_factor.Reads as test-factor-reads
-use Rattle.records.proofs.table.test_part.Reads as test-part-reads
 
 abbrev Inv-loop : tie.InvT-loop
 Inv-loop table t n p i₀ i = (i ≤ n) × (n ≡ t .«factor_count») × (n ≤ 7) × (testTerm table (termOf t) ≡ (testFactors table (map lettersOf (drop i (take n (t .factors)))) >> testLetters table vector (partOf (t .part))))

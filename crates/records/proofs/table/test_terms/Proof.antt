@@ -1,8 +1,8 @@
-use mathlib.Core.Path.{_≡_, refl, sym, ap, _∙_}
+use mathlib.Core.Path.{_≡_, refl, sym, _∙_}
 use native.Mathlib.Omega.{arith}
 use Rattle.records.proofs.LetterTests.{term-stops, term-passes, terms-end, noTerm}
 use denote.Ref.{now}
-use Prim.Native.Nat.{ℕ, _-_, _≤_, _<_}
+use Prim.Native.Nat.{_-_, _≤_}
 use mathlib.Core.List.{map}
 use lib.ListN.{length, length-map, take, drop}
 use Rattle.specification.specs.Records.{testTerms}
@@ -12,9 +12,6 @@ use Rattle.records.specs.Tested.{testOf}
 use Rattle.records.proofs.Factors.{all-at}
 use Rattle.records.proofs.table.test_terms.Statement.{statement}
 use Rattle.records.proofs.table.test_terms.Tie as tie
-use Rattle.records.proofs.table.test_terms.Reads as reads
-use Rattle.records.proofs.table.test_terms.Lts as lts
-use Rattle.records.proofs.table.test_term.Reads as test-term-reads
 
 abbrev Inv-loop : tie.InvT-loop
 Inv-loop table f n i₀ i = (i ≤ n) × (n ≡ f .count) × (n ≤ 48) × (testTerms table (termsOf f) ≡ testTerms table (map termOf (drop i (take n (f .terms)))))

@@ -1,13 +1,7 @@
-use mathlib.Core.Path.{_≡_, refl, sym, ap, _∙_}
-use native.Mathlib.Omega.{arith}
 use Rattle.records.proofs.LetterTests.{letters-stop, letters-on}
 use borrow.Author.Needs.{needs}
 use Rattle.records.proofs.table.test_three.Statement.{statement}
 use Rattle.records.proofs.table.test_three.Tie as tie
-use Rattle.records.proofs.table.test_three.Reads as reads
-use Rattle.records.proofs.table.test_three.Lts as lts
-use Rattle.records.proofs.table.test_letter.Reads as test-letter-reads
-use Rattle.records.proofs.table.test_two.Reads as test-two-reads
 
 -- src/table.rt:70:9
 test-letter-requires : tie.Need-test-letter-requires

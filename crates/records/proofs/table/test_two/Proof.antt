@@ -1,12 +1,7 @@
-use mathlib.Core.Path.{_≡_, refl, sym, ap, _∙_}
-use native.Mathlib.Omega.{arith}
 use Rattle.records.proofs.LetterTests.{letters-stop, letters-on, letters-one}
 use borrow.Author.Needs.{needs}
 use Rattle.records.proofs.table.test_two.Statement.{statement}
 use Rattle.records.proofs.table.test_two.Tie as tie
-use Rattle.records.proofs.table.test_two.Reads as reads
-use Rattle.records.proofs.table.test_two.Lts as lts
-use Rattle.records.proofs.table.test_letter.Reads as test-letter-reads
 
 -- src/table.rt:59:9
 test-letter-requires : tie.Need-test-letter-requires

@@ -1,10 +1,8 @@
-use mathlib.Core.Path.{_≡_, refl, sym, ap, _∙_}
+use mathlib.Core.Path.{refl}
 use native.Mathlib.Omega.{arith}
 use Rattle.records.specs.Reading.{termsReadOf, termsOf}
 use Rattle.records.proofs.take.begin_form.Statement.{statement}
 use Rattle.records.proofs.take.begin_form.Tie as tie
-use Rattle.records.proofs.take.begin_form.Reads as reads
-use Rattle.records.proofs.take.begin_form.Lts as lts
 
 -- src/take.rt:37:1
 returns : tie.Need-returns

@@ -1,6 +1,6 @@
 use Prim.Native.Nat.{_-_, _≤_, _<_}
 use Rattle.terms.specs.Abstraction.{Counted}
-use mathlib.Core.Path.{_≡_, refl, sym, ap, _∙_}
+use mathlib.Core.Path.{_≡_, sym, ap, _∙_}
 use native.Mathlib.Omega.{arith}
 use Rattle.records.proofs.Takers.{behind-none, behind-last}
 use lib.ListN.{length, length-map}
@@ -11,9 +11,6 @@ use Rattle.records.proofs.Factors.{all-at}
 use borrow.Author.Needs.{needs}
 use Rattle.records.proofs.take.comes_behind.Statement.{statement}
 use Rattle.records.proofs.take.comes_behind.Tie as tie
-use Rattle.records.proofs.take.comes_behind.Reads as reads
-use Rattle.records.proofs.take.comes_behind.Lts as lts
-use Rattle.terms.proofs.order.compare.Reads as compare-reads
 
 places : (c : tie.Start) → length (c .args .t1 .terms) ≡ 48
 places c = sym (length-map (c .args .t1 .terms) _) ∙ c .good .0 .1 .1 .1 .1 .0 .1 .0 .1

@@ -1,12 +1,7 @@
-use mathlib.Core.Path.{_≡_, refl, sym, ap, _∙_}
-use native.Mathlib.Omega.{arith}
 use Rattle.records.proofs.Takers.{kind-scalar, kind-vector}
 use borrow.Author.Needs.{needs}
 use Rattle.records.proofs.take.kind_fits.Statement.{statement}
 use Rattle.records.proofs.take.kind_fits.Tie as tie
-use Rattle.records.proofs.take.kind_fits.Reads as reads
-use Rattle.records.proofs.take.kind_fits.Lts as lts
-use Rattle.terms.proofs.shape.part_letters.Reads as part-letters-reads
 
 -- src/take.rt:75:8
 part-letters-requires : tie.Need-part-letters-requires

@@ -1,12 +1,9 @@
-use mathlib.Core.Path.{_≡_, refl, sym, ap, _∙_}
-use native.Mathlib.Omega.{arith}
+use mathlib.Core.Path.{_≡_, refl, sym, _∙_}
 use Rattle.records.proofs.Takers.{pushed}
 use lib.ListN.{length, length-map}
 use borrow.Author.Needs.{needs}
 use Rattle.records.proofs.take.push.Statement.{statement}
 use Rattle.records.proofs.take.push.Tie as tie
-use Rattle.records.proofs.take.push.Reads as reads
-use Rattle.records.proofs.take.push.Lts as lts
 
 places : (c : tie.Start) → length (c .args .f .terms) ≡ 48
 places c = sym (length-map (c .args .f .terms) _) ∙ c .good .0 .1 .1 .1 .1 .0 .1 .0 .1

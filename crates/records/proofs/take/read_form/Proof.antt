@@ -1,16 +1,11 @@
 use denote.Ref.{now}
-use mathlib.Core.Path.{_≡_, refl, sym, ap, _∙_}
-use native.Mathlib.Omega.{arith}
+use mathlib.Core.Path.{refl}
 use Rattle.records.proofs.Takers.{take-unread, take-not-whole, take-tested, bytes-all}
-use borrow.Author.Tests.{not-true, not-false, leb-true}
+use borrow.Author.Tests.{not-true, not-false}
 use Prim.Native.Nat.{ℕ}
 use borrow.Author.Needs.{needs}
 use Rattle.records.proofs.take.read_form.Statement.{statement}
 use Rattle.records.proofs.take.read_form.Tie as tie
-use Rattle.records.proofs.take.read_form.Reads as reads
-use Rattle.records.proofs.take.read_form.Lts as lts
-use Rattle.records.proofs.table.test_terms.Reads as test-terms-reads
-use Rattle.records.proofs.take.read_form_at.Reads as read-form-at-reads
 
 -- src/take.rt:179:9
 read-form-at-requires : tie.Need-read-form-at-requires

@@ -1,4 +1,4 @@
-use mathlib.Core.Path.{_≡_, refl, sym, ap, _∙_}
+use mathlib.Core.Path.{sym, _∙_}
 use native.Mathlib.Omega.{arith}
 use Rattle.records.proofs.Takers.{form-short-of-bytes, form-bad-kind, form-too-long, form-of-terms, more-room}
 use borrow.Author.Tests.{not-true, not-false, leb-true}
@@ -8,12 +8,6 @@ use lib.ListN.{length}
 use borrow.Author.Needs.{needs}
 use Rattle.records.proofs.take.read_form_at.Statement.{statement}
 use Rattle.records.proofs.take.read_form_at.Tie as tie
-use Rattle.records.proofs.take.read_form_at.Reads as reads
-use Rattle.records.proofs.take.read_form_at.Lts as lts
-use Rattle.records.proofs.read.room.Reads as room-reads
-use Rattle.records.proofs.take.begin_form.Reads as begin-form-reads
-use Rattle.records.proofs.take.refuse_form.Reads as refuse-form-reads
-use Rattle.records.proofs.take.take_terms.Reads as take-terms-reads
 
 -- there is room for the kind and the count
 roomy : (c : tie.After-shared-slice-known2) → c .before .before .before .before .args .at + 2 ≤ length (now (c .before .before .before .before .args .s))

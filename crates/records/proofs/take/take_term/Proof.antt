@@ -1,17 +1,10 @@
-use mathlib.Core.Path.{_≡_, refl, sym, ap, _∙_}
+use mathlib.Core.Path.{refl, sym, _∙_}
 use native.Mathlib.Omega.{arith}
 use Rattle.records.proofs.Takers.{taken-stays, taken-refused, taken-given, step-unread, step-other-kind, step-not-behind, step-given, more-room}
-use borrow.Author.Tests.{not-true, not-false, leb-true}
+use borrow.Author.Tests.{not-true, not-false}
 use borrow.Author.Needs.{needs}
 use Rattle.records.proofs.take.take_term.Statement.{statement}
 use Rattle.records.proofs.take.take_term.Tie as tie
-use Rattle.records.proofs.take.take_term.Reads as reads
-use Rattle.records.proofs.take.take_term.Lts as lts
-use Rattle.records.proofs.read.read_term.Reads as read-term-reads
-use Rattle.records.proofs.take.comes_behind.Reads as comes-behind-reads
-use Rattle.records.proofs.take.kind_fits.Reads as kind-fits-reads
-use Rattle.records.proofs.take.push.Reads as push-reads
-use Rattle.records.proofs.take.refuse_form.Reads as refuse-form-reads
 
 -- src/take.rt:117:9
 returns : tie.Need-returns

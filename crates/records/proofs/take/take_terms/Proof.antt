@@ -1,16 +1,13 @@
 use mathlib.Core.Path.{_≡_, refl, sym, ap, _∙_}
 use native.Mathlib.Omega.{arith}
 use Rattle.records.proofs.Takers.{left, left-turn, left-refused, left-none, all-taken, more-room}
-use borrow.Author.Tests.{not-true, not-false, leb-true}
+use borrow.Author.Tests.{not-true}
 use denote.Ref.{now}
 use Prim.Native.Nat.{ℕ, _-_, _≤_}
 use native.Mathlib.Nat.{sub-zero}
 use Rattle.records.specs.Reading.{Readable}
 use Rattle.records.proofs.take.take_terms.Statement.{statement}
 use Rattle.records.proofs.take.take_terms.Tie as tie
-use Rattle.records.proofs.take.take_terms.Reads as reads
-use Rattle.records.proofs.take.take_terms.Lts as lts
-use Rattle.records.proofs.take.take_term.Reads as take-term-reads
 
 abbrev Inv-loop : tie.InvT-loop
 Inv-loop s n q₀ i₀ q i = (i ≤ n) × (n ≤ 48) × (left (q₀ .form .kind) n s q₀ ≡ left (q₀ .form .kind) (n - i) s q) × Readable i (q .form) × (q .form .kind ≡ q₀ .form .kind)

@@ -2,9 +2,6 @@ use Rattle.terms.proofs.Numbers.{two-letters}
 use borrow.Author.Needs.{needs}
 use Rattle.terms.proofs.factors.dot_number.Statement.{statement}
 use Rattle.terms.proofs.factors.dot_number.Tie as tie
-use Rattle.terms.proofs.factors.dot_number.Reads as reads
-use Rattle.terms.proofs.factors.dot_number.Lts as lts
-use Rattle.terms.proofs.factors.wide.Reads as wide-reads
 
 -- src/factors.rt:24:17
 wide-requires : tie.Need-wide-requires

@@ -2,9 +2,6 @@ use Rattle.terms.proofs.Numbers.{one-letter}
 use borrow.Author.Needs.{needs}
 use Rattle.terms.proofs.factors.scalar_number.Statement.{statement}
 use Rattle.terms.proofs.factors.scalar_number.Tie as tie
-use Rattle.terms.proofs.factors.scalar_number.Reads as reads
-use Rattle.terms.proofs.factors.scalar_number.Lts as lts
-use Rattle.terms.proofs.factors.wide.Reads as wide-reads
 
 -- src/factors.rt:17:5
 wide-requires : tie.Need-wide-requires

@@ -2,9 +2,6 @@ use Rattle.terms.proofs.Numbers.{three-letters}
 use borrow.Author.Needs.{needs}
 use Rattle.terms.proofs.factors.triple_number.Statement.{statement}
 use Rattle.terms.proofs.factors.triple_number.Tie as tie
-use Rattle.terms.proofs.factors.triple_number.Reads as reads
-use Rattle.terms.proofs.factors.triple_number.Lts as lts
-use Rattle.terms.proofs.factors.wide.Reads as wide-reads
 
 -- src/factors.rt:31:21
 wide-requires : tie.Need-wide-requires

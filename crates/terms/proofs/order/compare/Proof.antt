@@ -7,10 +7,6 @@ use Rattle.terms.proofs.Orders.{part-less, part-more, count-less, count
 use borrow.Author.Needs.{needs}
 use Rattle.terms.proofs.order.compare.Statement.{statement}
 use Rattle.terms.proofs.order.compare.Tie as tie
-use Rattle.terms.proofs.order.compare.Reads as reads
-use Rattle.terms.proofs.order.compare.Lts as lts
-use Rattle.terms.proofs.order.compare_factors.Reads as compare-factors-reads
-use Rattle.terms.proofs.order.part_number.Reads as part-number-reads
 
 places-a : (c : tie.Start) → length (c .args .a .factors) ≡ 7
 places-a c = search needs

@@ -1,5 +1,5 @@
 use mathlib.Core.Path.{_≡_, refl, sym, _∙_}
-use Prim.Native.Nat.{_-_, _≤_, _+_}
+use Prim.Native.Nat.{_-_, _≤_}
 use native.Mathlib.Omega.{arith}
 use borrow.Author.Needs.{needs}
 use lib.ListN.{length, take, drop}
@@ -8,8 +8,6 @@ use Rattle.terms.specs.Abstraction.{orderingOf}
 use Rattle.terms.proofs.Orders.{first-less, first-more, first-later, first-none}
 use Rattle.terms.proofs.order.compare_factors.Statement.{statement}
 use Rattle.terms.proofs.order.compare_factors.Tie as tie
-use Rattle.terms.proofs.order.compare_factors.Reads as reads
-use Rattle.terms.proofs.order.compare_factors.Lts as lts
 
 abbrev Inv-loop : tie.InvT-loop
 Inv-loop n f g k₀ k = (k ≤ n) × (firstDifference order (take n f) (take n g) ≡ firstDifference order (drop k (take n f)) (drop k (take n g)))

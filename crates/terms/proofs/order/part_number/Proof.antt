@@ -2,10 +2,6 @@ use Rattle.terms.proofs.Numbers.{nothing-number, letter-number, wedge-n
 use borrow.Author.Needs.{needs}
 use Rattle.terms.proofs.order.part_number.Statement.{statement}
 use Rattle.terms.proofs.order.part_number.Tie as tie
-use Rattle.terms.proofs.order.part_number.Reads as reads
-use Rattle.terms.proofs.order.part_number.Lts as lts
-use Rattle.terms.proofs.factors.dot_number.Reads as dot-number-reads
-use Rattle.terms.proofs.factors.scalar_number.Reads as scalar-number-reads
 
 -- src/order.rt:27:26
 enum-told : tie.Need-enum-told

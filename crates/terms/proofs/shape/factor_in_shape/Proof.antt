@@ -1,8 +1,6 @@
 use Rattle.terms.proofs.InShape.{scalar-in-shape, dot-in-shape, triple-in-shape, triple-not-in-shape}
 use Rattle.terms.proofs.shape.factor_in_shape.Statement.{statement}
 use Rattle.terms.proofs.shape.factor_in_shape.Tie as tie
-use Rattle.terms.proofs.shape.factor_in_shape.Reads as reads
-use Rattle.terms.proofs.shape.factor_in_shape.Lts as lts
 
 -- src/shape.rt:29:9
 returns : tie.Need-returns

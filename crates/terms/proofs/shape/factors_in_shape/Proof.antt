@@ -1,5 +1,5 @@
 use mathlib.Core.Path.{_≡_, refl, sym, _∙_}
-use Prim.Native.Nat.{_+_, _-_, _*_, _≤_, _<_}
+use Prim.Native.Nat.{_-_, _≤_}
 use native.Mathlib.Omega.{arith}
 use borrow.Author.Needs.{needs}
 use lib.ListN.{length, take, drop}
@@ -7,9 +7,6 @@ use borrow.Author.Tests.{not-true, not-false}
 use Rattle.terms.proofs.InShape.{shapeFrom, shape-is, shape-back, shape-bad, shape-more, shape-end}
 use Rattle.terms.proofs.shape.factors_in_shape.Statement.{statement}
 use Rattle.terms.proofs.shape.factors_in_shape.Tie as tie
-use Rattle.terms.proofs.shape.factors_in_shape.Reads as reads
-use Rattle.terms.proofs.shape.factors_in_shape.Lts as lts
-use Rattle.terms.proofs.shape.factor_in_shape.Reads as factor-in-shape-reads
 
 abbrev Inv-loop : tie.InvT-loop
 Inv-loop n f last₀ i₀ last i = (i ≤ n) × (n ≤ 7) × (shapeFrom 0 (take n f) ≡ shapeFrom last (drop i (take n f)))

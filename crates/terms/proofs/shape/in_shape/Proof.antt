@@ -7,13 +7,6 @@ use Rattle.terms.proofs.InShape.{shape-of}
 use borrow.Author.Needs.{needs}
 use Rattle.terms.proofs.shape.in_shape.Statement.{statement}
 use Rattle.terms.proofs.shape.in_shape.Tie as tie
-use Rattle.terms.proofs.shape.in_shape.Reads as reads
-use Rattle.terms.proofs.shape.in_shape.Lts as lts
-use Rattle.integers.proofs.is_zero.Reads as is-zero-reads
-use Rattle.integers.proofs.within.Reads as within-reads
-use Rattle.terms.proofs.shape.factors_in_shape.Reads as factors-in-shape-reads
-use Rattle.terms.proofs.shape.letters_in_shape.Reads as letters-in-shape-reads
-use Rattle.terms.proofs.shape.part_in_shape.Reads as part-in-shape-reads
 
 -- the tests of the coefficient are of the coefficient itself
 zero : (c : tie.After-is-zero) → c .is-zero .result ≡ isZero (c .before .before .before .args .t .coef)

@@ -3,10 +3,6 @@ use Rattle.terms.proofs.InShape.{part-few, too-many, enough}
 use borrow.Author.Needs.{needs}
 use Rattle.terms.proofs.shape.letters_in_shape.Statement.{statement}
 use Rattle.terms.proofs.shape.letters_in_shape.Tie as tie
-use Rattle.terms.proofs.shape.letters_in_shape.Reads as reads
-use Rattle.terms.proofs.shape.letters_in_shape.Lts as lts
-use Rattle.terms.proofs.shape.letters_used.Reads as letters-used-reads
-use Rattle.terms.proofs.shape.part_letters.Reads as part-letters-reads
 
 -- src/shape.rt:133:9
 letters-used-requires : tie.Need-letters-used-requires

@@ -1,19 +1,14 @@
-use mathlib.Core.Path.{_≡_, refl, sym, _∙_}
-use Prim.Native.Nat.{_+_, _-_, _*_, _≤_, _<_}
+use mathlib.Core.Path.{_≡_}
+use Prim.Native.Nat.{_+_, _-_, _*_, _≤_}
 use native.Mathlib.Omega.{arith}
 use borrow.Author.Needs.{needs}
 use lib.ListN.{length, take, drop}
-use borrow.Author.Tests.{not-true, not-false}
 use Rattle.terms.proofs.InShape.{vectors-more, scalars-more, vectors-all, scalars-all}
 use mathlib.Core.List.{map}
 use Rattle.specification.specs.Terms.{vectorLettersOf, scalarLettersOf}
 use Rattle.terms.specs.Numbers.{lettersOf}
 use Rattle.terms.proofs.shape.letters_used.Statement.{statement}
 use Rattle.terms.proofs.shape.letters_used.Tie as tie
-use Rattle.terms.proofs.shape.letters_used.Reads as reads
-use Rattle.terms.proofs.shape.letters_used.Lts as lts
-use Rattle.terms.proofs.shape.scalar_count.Reads as scalar-count-reads
-use Rattle.terms.proofs.shape.vector_count.Reads as vector-count-reads
 
 abbrev Inv-loop : tie.InvT-loop
 Inv-loop n f vectors₀ scalars₀ i₀ vectors scalars i = (i ≤ n) × (n ≤ 7) × (vectorLettersOf (map lettersOf (take n f)) ≡ vectors + vectorLettersOf (map lettersOf (drop i (take n f)))) × (scalarLettersOf (map lettersOf (take n f)) ≡ scalars + scalarLettersOf (map lettersOf (drop i (take n f)))) × (vectors ≤ 3 * i) × (scalars ≤ i)

@@ -1,15 +1,10 @@
 use Rattle.terms.specs.Abstraction.{partOf}
 use Rattle.specification.specs.Terms.{partInShape}
-use lib.ListN.{length}
-use Prim.Native.Nat.{ℕ}
-use mathlib.Core.List.{List}
-use mathlib.Core.Path.{_≡_, sym, ap}
+use mathlib.Core.Path.{sym, ap}
 use Rattle.terms.specs.declared.types.Part.{Part}
 use borrow.Author.Needs.{needs}
 use Rattle.terms.proofs.shape.part_in_shape.Statement.{statement}
 use Rattle.terms.proofs.shape.part_in_shape.Tie as tie
-use Rattle.terms.proofs.shape.part_in_shape.Reads as reads
-use Rattle.terms.proofs.shape.part_in_shape.Lts as lts
 
 -- src/shape.rt:92:26
 enum-told : tie.Need-enum-told

@@ -2,8 +2,6 @@ use Rattle.terms.proofs.InShape.{counted-scalar, counted-vector}
 use native.Mathlib.Omega.{arith}
 use Rattle.terms.proofs.shape.scalar_count.Statement.{statement}
 use Rattle.terms.proofs.shape.scalar_count.Tie as tie
-use Rattle.terms.proofs.shape.scalar_count.Reads as reads
-use Rattle.terms.proofs.shape.scalar_count.Lts as lts
 
 -- src/shape.rt:77:1
 returns : tie.Need-returns

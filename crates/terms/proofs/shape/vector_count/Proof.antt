@@ -2,8 +2,6 @@ use Rattle.terms.proofs.InShape.{counted-scalar, counted-dot, counted-t
 use native.Mathlib.Omega.{arith}
 use Rattle.terms.proofs.shape.vector_count.Statement.{statement}
 use Rattle.terms.proofs.shape.vector_count.Tie as tie
-use Rattle.terms.proofs.shape.vector_count.Reads as reads
-use Rattle.terms.proofs.shape.vector_count.Lts as lts
 
 -- src/shape.rt:68:9
 returns : tie.Need-returns
