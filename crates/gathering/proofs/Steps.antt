@@ -75,10 +75,6 @@ module _ {A : Type 0} where
 
 -- ════ the terms that stand
 
--- what an array has past its end
-abbrev pub noTerm : Term
-noTerm = record { coef = pos 0; factors = []; «factor_count» = 0; part = Nothing }
-
 -- as many as are counted
 pub length-held : (s : Sum) → s .count ≤ length (s .terms) → length (held s) ≡ s .count
 unfolding held

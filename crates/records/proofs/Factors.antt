@@ -14,13 +14,6 @@ use Rattle.terms.specs.Numbers.{lettersOf}
 use Rattle.records.specs.Written.{Written}
 use Rattle.records.proofs.Writes.{written-then}
 
--- what holds of the first elements holds at each place of theirs
-pub all-at : {A : Type 0} (P : A → Type 0) (l : List A) (n i : ℕ) (d : A) → n ≤ length l → i < n → All P (take n l) → P (getD l i d)
-all-at P l zero i d h g a = absurd (omega arith)
-all-at P [] (suc n) i d h g a = absurd (omega arith)
-all-at P (x ∷ l) (suc n) zero d h g a = a .0
-all-at P (x ∷ l) (suc n) (suc i) d h g a = all-at P l n i d (omega arith) (omega arith) (a .1)
-
 -- lists one behind the other, joined
 pub joined-append : {A : Type 0} (xs ys : List (List A)) → joined (xs ++ ys) ≡ joined xs ++ joined ys
 unfolding joined

@@ -19,7 +19,8 @@ use Rattle.terms.specs.Abstraction.{termOf, formOf, Counted}
 use Rattle.terms.specs.Valid.{TermValid, FormValid}
 use Rattle.records.specs.Written.{Written, FormWritten}
 use Rattle.records.proofs.Writes.{written-stores, written-then}
-use Rattle.records.proofs.Factors.{all-at, joined-append}
+use Rattle.terms.proofs.Arrays.{all-at}
+use Rattle.records.proofs.Factors.{joined-append}
 
 -- ════ the terms
 

@@ -19,6 +19,7 @@ use Rattle.terms.specs.declared.types.Part.the-variants.{Nothing, Letter, Wedge
 use Rattle.terms.specs.declared.types.Term.{Term}
 use Rattle.terms.specs.Numbers.{lettersOf}
 use Rattle.terms.specs.Abstraction.{partOf, termOf}
+use Rattle.terms.proofs.Arrays.{rest-at, nothing-left}
 use Rattle.records.specs.Tested.{testOf}
 use Rattle.records.proofs.Letters.{one-byte, two-bytes, three-bytes}
 
@@ -33,15 +34,6 @@ stops n t u e h = let q : testOf n ≡ refused n = rw (ne-eqb n 0 h) in q ∙ ap
 pub goes-on : (n : ℕ) (t u : Test) → testOf n ≡ t → n ≡ 0 → (t >> u) ≡ u
 unfolding testOf
 goes-on n t u e p = let q : testOf n ≡ given tt = rw p in ap (λ (z : Test). z >> u) (sym e ∙ q)
-
--- what is left from a place on begins with what stands there
-pub rest-from : {A : Type 0} (l : List A) (n i : ℕ) (d : A) → n ≤ length l → i < n → drop i (take n l) ≡ getD l i d ∷ drop (i + 1) (take n l)
-rest-from l n i d g h =
-    let e : i < length (take n l) = omega (arith, length-take-le n l g) in
-    drop-cons (take n l) i d e ∙ rw (getD-take n l i d h, add-one)
-
-pub nothing-from : {A : Type 0} (l : List A) (n i : ℕ) → n ≤ length l → n ≤ i → drop i (take n l) ≡ []
-nothing-from l n i g h = let a : length (take n l) ≤ i = omega (arith, length-take-le n l g) in drop-of-length-le (take n l) a
 
 -- ════ the table
 
@@ -149,21 +141,17 @@ module _ (t f : List ℕ) (n i r : ℕ) (rest : Test) (fl : n ≤ length f) wher
   module _ (h : i < n) (e : testOf r ≡ testLetters t (if eqb (length (lettersOf (getD f i 0))) 1 then scalar else vector) (lettersOf (getD f i 0))) where
     pub factor-stops : (r ≡ 0 → ⊥) → testOf r ≡ From i
     unfolding testFactors
-    factor-stops g = rw (rest-from f n i 0 fl h) (stops r _ rest (stops r _ (testFactors t (map lettersOf (drop (i + 1) (take n f)))) e g) g)
+    factor-stops g = rw (rest-at f n i 0 fl h) (stops r _ rest (stops r _ (testFactors t (map lettersOf (drop (i + 1) (take n f)))) e g) g)
 
     pub factor-passes : r ≡ 0 → From i ≡ From (i + 1)
     unfolding testFactors
-    factor-passes p = rw (rest-from f n i 0 fl h) (ap (λ (z : Test). z >> rest) (goes-on r _ _ e p))
+    factor-passes p = rw (rest-at f n i 0 fl h) (ap (λ (z : Test). z >> rest) (goes-on r _ _ e p))
 
   pub factors-end : n ≤ i → From i ≡ rest
   unfolding testFactors
-  factors-end h = rw (nothing-from f n i fl h)
+  factors-end h = rw (nothing-left f n i fl h)
 
 -- ════ the terms of a form, from one on
-
--- what a list has past its end
-abbrev pub noTerm : Term
-noTerm = record { coef = pos 0; factors = []; «factor_count» = 0; part = Nothing }
 
 module _ (t : List ℕ) (l : List Term) (n i r : ℕ) (d : Term) (fl : n ≤ length l) where
   abbrev TermsFrom : ℕ → Test
@@ -172,12 +160,12 @@ module _ (t : List ℕ) (l : List Term) (n i r : ℕ) (d : Term) (fl : n ≤ len
   module _ (h : i < n) (e : testOf r ≡ testTerm t (termOf (getD l i d))) where
     pub term-stops : (r ≡ 0 → ⊥) → testOf r ≡ TermsFrom i
     unfolding testTerms
-    term-stops g = rw (rest-from l n i d fl h) (stops r _ _ e g)
+    term-stops g = rw (rest-at l n i d fl h) (stops r _ _ e g)
 
     pub term-passes : r ≡ 0 → TermsFrom i ≡ TermsFrom (i + 1)
     unfolding testTerms
-    term-passes p = rw (rest-from l n i d fl h) (goes-on r _ _ e p)
+    term-passes p = rw (rest-at l n i d fl h) (goes-on r _ _ e p)
 
   pub terms-end : n ≤ i → TermsFrom i ≡ given tt
   unfolding testTerms
-  terms-end h = rw (nothing-from l n i fl h)
+  terms-end h = rw (nothing-left l n i fl h)

@@ -96,21 +96,6 @@ module _ (s : List ℕ) (at : ℕ) where
       let e : suc (suc at) ≡ at + 2 = omega arith in
       rw (drop-cons s at 0 (omega arith), drop-cons s (suc at) 0 p, drop-cons s (suc (suc at)) 0 q, e, add-one)
 
--- ════ one behind the others
-
-module _ {A : Type 0} where
-  pub stored-behind : (l : List A) (n : ℕ) (x : A) → n < length l → take (n + 1) (set l n x) ≡ take n l ++ x ∷ []
-  stored-behind l n x g = rw add-one (go l n g)
-    where
-      go : (l : List A) (n : ℕ) → n < length l → take (suc n) (set l n x) ≡ take n l ++ x ∷ []
-      go [] n g = absurd (omega arith)
-      go (y ∷ l) zero g = refl
-      go (y ∷ l) (suc n) g = ap (λ (z : List A). y ∷ z) (go l n (omega arith))
-
-  pub mapped-behind : {B : Type 0} (f : A → B) (l : List A) (x : A) → map f (l ++ x ∷ []) ≡ map f l ++ f x ∷ []
-  mapped-behind f [] x = refl
-  mapped-behind f (y ∷ l) x = ap (_∷_ (f y)) (mapped-behind f l x)
-
 -- ════ factors
 
 pub appended-none : (t : Term) (size : ℕ) (s : List ℕ) (at : ℕ) → Counted t → Appended (factorsAt 0 size s at) 0 t t

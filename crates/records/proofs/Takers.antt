@@ -25,7 +25,7 @@ use Rattle.records.specs.declared.take.FormReading.{FormReading}
 use Rattle.records.specs.declared.take.Taken.{Taken}
 use Rattle.records.specs.Reading.{readOf, termsOf, termsReadOf, termStep, Readable, Pushed, TermTaken, TermsTaken, formReadOf, takenOf, FormTaken}
 use Rattle.records.specs.Tested.{testOf}
-use Rattle.records.proofs.Readers.{stored-behind, mapped-behind}
+use Rattle.terms.proofs.Arrays.{stored-behind, mapped-behind}
 
 -- ════ the kind, and the place behind the last
 

@@ -20,7 +20,7 @@ use Rattle.terms.specs.Numbers.{lettersOf}
 use Rattle.terms.specs.Abstraction.{partOf, termOf}
 use Rattle.terms.specs.Used.{UsedBy}
 use Rattle.terms.proofs.Numbers.{one-is, two-is, three-is, number-order}
-use Rattle.terms.proofs.Orders.{rest-at}
+use Rattle.terms.proofs.Arrays.{rest-at, nothing-left}
 
 -- ════ one factor
 
@@ -89,18 +89,15 @@ shape-is (k ∷ ks) =
 module _ (f : List ℕ) (n i last : ℕ) (fl : n ≤ length f) (h : i < n) where
   pub shape-back : getD f i 0 < last → shapeFrom last (drop i (take n f)) ≡ false
   unfolding shapeFrom
-  shape-back g = rw (rest-at f n i fl h, lt-ltb _ _ g)
+  shape-back g = rw (rest-at f n i 0 fl h, lt-ltb _ _ g)
 
   pub shape-bad : last ≤ getD f i 0 → factorInShape (lettersOf (getD f i 0)) ≡ false → shapeFrom last (drop i (take n f)) ≡ false
   unfolding shapeFrom
-  shape-bad g e = rw (rest-at f n i fl h, le-ltb _ _ g, e)
+  shape-bad g e = rw (rest-at f n i 0 fl h, le-ltb _ _ g, e)
 
   pub shape-more : last ≤ getD f i 0 → factorInShape (lettersOf (getD f i 0)) ≡ true → shapeFrom last (drop i (take n f)) ≡ shapeFrom (getD f i 0) (drop (i + 1) (take n f))
   unfolding shapeFrom
-  shape-more g e = rw (rest-at f n i fl h, le-ltb _ _ g, e)
-
-nothing-left : (f : List ℕ) (n i : ℕ) → n ≤ length f → n ≤ i → drop i (take n f) ≡ []
-nothing-left f n i fl h = let a : length (take n f) ≤ i = omega (arith, length-take-le n f fl) in drop-of-length-le (take n f) a
+  shape-more g e = rw (rest-at f n i 0 fl h, le-ltb _ _ g, e)
 
 pub shape-end : (f : List ℕ) (n i last : ℕ) → n ≤ length f → n ≤ i → shapeFrom last (drop i (take n f)) ≡ true
 unfolding shapeFrom
@@ -131,12 +128,12 @@ module _ (f : List ℕ) (n i : ℕ) (fl : n ≤ length f) (h : i < n) where
   pub vectors-more : (v a r : ℕ) → v ≡ vectorLettersOf (lettersOf (getD f i 0) ∷ []) → a ≡ r + vectorLettersOf (map lettersOf (drop i (take n f)))
       → a ≡ r + v + vectorLettersOf (map lettersOf (drop (i + 1) (take n f)))
   unfolding vectorLettersOf
-  vectors-more v a r e q = omega (arith, e, rw (rest-at f n i fl h) at q)
+  vectors-more v a r e q = omega (arith, e, rw (rest-at f n i 0 fl h) at q)
 
   pub scalars-more : (v a r : ℕ) → v ≡ scalarLettersOf (lettersOf (getD f i 0) ∷ []) → a ≡ r + scalarLettersOf (map lettersOf (drop i (take n f)))
       → a ≡ r + v + scalarLettersOf (map lettersOf (drop (i + 1) (take n f)))
   unfolding scalarLettersOf
-  scalars-more v a r e q = omega (arith, e, rw (rest-at f n i fl h) at q)
+  scalars-more v a r e q = omega (arith, e, rw (rest-at f n i 0 fl h) at q)
 
 module _ (f : List ℕ) (n i : ℕ) (fl : n ≤ length f) (h : n ≤ i) where
   pub vectors-all : (a r : ℕ) → a ≡ r + vectorLettersOf (map lettersOf (drop i (take n f))) → r ≡ a

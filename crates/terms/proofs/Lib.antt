@@ -1,4 +1,5 @@
 -- Lemmas that belong to no one function.
+pub mod Arrays
 pub mod Numbers
 pub mod Orders
 pub mod Shift

@@ -12,21 +12,16 @@ use Rattle.theory.specs.Order.{nat-laws, compares-less, compares-equal, compare
 use Rattle.terms.specs.declared.types.Term.{Term}
 use Rattle.terms.specs.Numbers.{lettersOf, partLettersOf}
 use Rattle.terms.specs.Abstraction.{partOf, termOf}
+use Rattle.terms.proofs.Arrays.{rest-at, nothing-left}
 use Rattle.terms.proofs.Numbers.{number-order, part-order}
 
 -- ════ the first difference, from a place on
-
--- what is left from a place on begins with what stands there
-pub rest-at : (h : List ℕ) (n k : ℕ) → n ≤ length h → k < n → drop k (take n h) ≡ getD h k 0 ∷ drop (k + 1) (take n h)
-rest-at h n k l kn =
-    let e : k < length (take n h) = omega (arith, length-take-le n h l) in
-    drop-cons (take n h) k 0 e ∙ rw (getD-take n h k 0 kn, add-one)
 
 module _ (f g : List ℕ) (n k : ℕ) (fl : n ≤ length f) (gl : n ≤ length g) (kn : k < n) where
   -- it is here, or further on
   pub first-here : (o : Ordering) → order (getD f k 0) (getD g k 0) ≡ o → firstDifference order (drop k (take n f)) (drop k (take n g)) ≡ thenBy o (firstDifference order (drop (k + 1) (take n f)) (drop (k + 1) (take n g)))
   unfolding firstDifference
-  first-here o e = rw (rest-at f n k fl kn, rest-at g n k gl kn, e)
+  first-here o e = rw (rest-at f n k 0 fl kn, rest-at g n k 0 gl kn, e)
 
   pub first-less : getD f k 0 < getD g k 0 → firstDifference order (drop k (take n f)) (drop k (take n g)) ≡ Ordering·lt
   first-less h = first-here Ordering·lt (compares-less nat-laws _ _ h)
@@ -41,10 +36,7 @@ module _ (f g : List ℕ) (n k : ℕ) (fl : n ≤ length f) (gl : n ≤ length g
 -- nowhere
 pub first-none : (f g : List ℕ) (n k : ℕ) → n ≤ length f → n ≤ length g → n ≤ k → firstDifference order (drop k (take n f)) (drop k (take n g)) ≡ Ordering·eq
 unfolding firstDifference
-first-none f g n k fl gl h =
-    let a : length (take n f) ≤ k = omega (arith, length-take-le n f fl) in
-    let b : length (take n g) ≤ k = omega (arith, length-take-le n g gl) in
-    rw (drop-of-length-le (take n f) a, drop-of-length-le (take n g) b)
+first-none f g n k fl gl h = rw (nothing-left f n k fl h, nothing-left g n k gl h)
 
 -- ════ terms
 

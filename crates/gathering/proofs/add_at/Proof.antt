@@ -9,7 +9,8 @@ use mir.Val.{SFits}
 use Rattle.algebra.specs.Integers.{sfits-natAbs}
 use Rattle.integers.proofs.Machine.{back, back-is}
 use Rattle.gathering.specs.Sums.{Standing}
-use Rattle.gathering.proofs.Steps.{noTerm, stands-at, standing-small, standing-fits, added-none, added-some}
+use Rattle.terms.proofs.Arrays.{noTerm}
+use Rattle.gathering.proofs.Steps.{stands-at, standing-small, standing-fits, added-none, added-some}
 use Rattle.gathering.proofs.add_at.Statement.{statement}
 use Rattle.gathering.proofs.add_at.Tie as tie
 

@@ -10,7 +10,8 @@ use Rattle.specification.specs.Terms.{termWithin, coefWithin}
 use Rattle.terms.specs.Abstraction.{termOf}
 use Rattle.integers.proofs.Machine.{back-is}
 use Rattle.gathering.specs.Sums.{sumOf}
-use Rattle.gathering.proofs.Steps.{noTerm, split, length-sum, beyond, inside, inside-all}
+use Rattle.terms.proofs.Arrays.{noTerm}
+use Rattle.gathering.proofs.Steps.{split, length-sum, beyond, inside, inside-all}
 use Rattle.gathering.proofs.all_within.Statement.{statement}
 use Rattle.gathering.proofs.all_within.Tie as tie
 

@@ -3,7 +3,8 @@ use Prim.Native.Nat.{ℕ, _-_, _≤_}
 use native.Mathlib.Omega.{arith}
 use lib.ListN.{length, length-map, take, length-set}
 use Rattle.gathering.specs.Sums.{held}
-use Rattle.gathering.proofs.Steps.{noTerm, copied-more}
+use Rattle.terms.proofs.Arrays.{noTerm}
+use Rattle.gathering.proofs.Steps.{copied-more}
 use Rattle.gathering.proofs.copy_terms.Statement.{statement}
 use Rattle.gathering.proofs.copy_terms.Tie as tie
 

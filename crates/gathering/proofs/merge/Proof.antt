@@ -7,7 +7,8 @@ use lib.ListN.{length, length-map, take, drop, getD}
 use Rattle.specification.specs.Terms.{insert}
 use Rattle.terms.specs.Abstraction.{termOf}
 use Rattle.gathering.specs.Sums.{sumOf}
-use Rattle.gathering.proofs.Steps.{noTerm, changed-as, split, stands-at, length-sum, at-less, at-equal, at-greater, at-end}
+use Rattle.terms.proofs.Arrays.{noTerm}
+use Rattle.gathering.proofs.Steps.{changed-as, split, stands-at, length-sum, at-less, at-equal, at-greater, at-end}
 use Rattle.gathering.proofs.merge.Statement.{statement}
 use Rattle.gathering.proofs.merge.Tie as tie
 

@@ -9,7 +9,7 @@ use Rattle.specification.specs.Letters.{vector, testLetters}
 use Rattle.specification.specs.Records.{testFactors, testTerm}
 use Rattle.terms.specs.Numbers.{lettersOf}
 use Rattle.terms.specs.Abstraction.{partOf, termOf}
-use Rattle.records.proofs.Factors.{all-at}
+use Rattle.terms.proofs.Arrays.{all-at}
 use mathlib.Core.Path.{_≡_, refl, sym, _∙_}
 use native.Mathlib.Omega.{arith}
 use Rattle.records.proofs.table.test_term.Statement.{statement}

@@ -1,6 +1,7 @@
+use Rattle.terms.proofs.Arrays.{noTerm}
 use mathlib.Core.Path.{_≡_, refl, sym, _∙_}
 use native.Mathlib.Omega.{arith}
-use Rattle.records.proofs.LetterTests.{term-stops, term-passes, terms-end, noTerm}
+use Rattle.records.proofs.LetterTests.{term-stops, term-passes, terms-end}
 use denote.Ref.{now}
 use Prim.Native.Nat.{_-_, _≤_}
 use mathlib.Core.List.{map}
@@ -9,7 +10,7 @@ use Rattle.specification.specs.Records.{testTerms}
 use Rattle.terms.specs.Abstraction.{termOf, Counted}
 use Rattle.records.specs.Reading.{termsOf}
 use Rattle.records.specs.Tested.{testOf}
-use Rattle.records.proofs.Factors.{all-at}
+use Rattle.terms.proofs.Arrays.{all-at}
 use Rattle.records.proofs.table.test_terms.Statement.{statement}
 use Rattle.records.proofs.table.test_terms.Tie as tie
 

@@ -7,7 +7,7 @@ use lib.ListN.{length, length-map}
 use Rattle.specification.specs.Lists.{isLess}
 use Rattle.terms.specs.declared.order.Order.{Order}
 use Rattle.terms.specs.Abstraction.{orderingOf}
-use Rattle.records.proofs.Factors.{all-at}
+use Rattle.terms.proofs.Arrays.{all-at}
 use borrow.Author.Needs.{needs}
 use Rattle.records.proofs.take.comes_behind.Statement.{statement}
 use Rattle.records.proofs.take.comes_behind.Tie as tie

@@ -10,7 +10,8 @@ use Rattle.specification.specs.Records.{factorsOf}
 use Rattle.terms.specs.Abstraction.{termOf}
 use Rattle.records.specs.Written.{Written}
 use Rattle.records.proofs.Writes.{written-none}
-use Rattle.records.proofs.Factors.{all-at, sized, joined-none, joined-room, joined-written, joined-same}
+use Rattle.terms.proofs.Arrays.{all-at}
+use Rattle.records.proofs.Factors.{sized, joined-none, joined-room, joined-written, joined-same}
 use Rattle.records.proofs.write.write_joined.Statement.{statement}
 use Rattle.records.proofs.write.write_joined.Tie as tie
 
