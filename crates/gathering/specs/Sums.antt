@@ -4,7 +4,7 @@ use mathlib.Core.List.{List, [], _∷_, map}
 use Prim.Native.Nat.{ℕ, _+_, _*_, _≤_}
 use lib.IntN.{natAbs, _+ℤ_}
 use lib.ListN.{take, length}
-use Rattle.specification.specs.Terms.{insert, keep, withCoef}
+use Rattle.specification.specs.Terms.{insert, keep, withCoef, tidy}
 use Rattle.specification.specs.Terms as S
 use Rattle.theory.specs.Elements.{All}
 use Rattle.terms.specs.declared.types.Term.{Term}
@@ -57,5 +57,11 @@ pub record Changed (s : Sum) (ts : List S.Term) (r : Sum) : Type 0 where
 -- what bringing a term in gives
 pub record Brought (s : Sum) (t : Term) (r : Sum) : Type 0 where
   pub is : sumOf r ≡ insert (termOf t) (sumOf s)
+  pub valid : SumValid r
+  pub brought : r .brought ≡ s .brought + 1
+
+-- what bringing in a term gives whose letters and factors stand in any order
+pub record RawBrought (s : Sum) (t : Term) (r : Sum) : Type 0 where
+  pub is : sumOf r ≡ insert (tidy (termOf t)) (sumOf s)
   pub valid : SumValid r
   pub brought : r .brought ≡ s .brought + 1

@@ -7,13 +7,14 @@ ghost use lib.ListN.{take, drop};
 ghost use Rattle.specification.specs.Lists.{all};
 ghost use Rattle.specification.specs.Terms.{keep, insert, termWithin};
 ghost use Rattle.terms.specs.Abstraction.{termOf, Counted};
-ghost use Rattle.gathering.specs.Sums.{held, sumOf, addedTo, Empty, SumValid, Held, Changed, Brought};
+ghost use Rattle.gathering.specs.Sums.{held, sumOf, addedTo, Empty, SumValid, Held, Changed, Brought, RawBrought};
 ghost use Rattle.gathering.specs.Closing.{Copied, ClosedAs};
 use integers::add;
 use integers::is_zero;
 use integers::within;
 use terms::order::Order;
 use terms::order::compare;
+use terms::tidy::tidy;
 use terms::types::Form;
 use terms::types::Part;
 use terms::types::Term;
@@ -143,6 +144,15 @@ pub fn bring(s: Sum, t: Term) -> Sum
     let mut g = merge(s, t);
     g.brought += 1;
     g
+}
+
+// A term with its letters and factors in any order brought into a sum.
+pub fn bring_raw(s: Sum, t: Term) -> Sum
+    requires { ⌜ SumValid s × (s .brought < 96) × Counted t × (natAbs (t .coef) ≤ 2147483647) ⌝ }
+    ensures { λ r. ⌜ RawBrought s t r ⌝ }
+{
+    let u = tidy(t);
+    bring(s, u)
 }
 
 // Whether every coefficient of a sum is within ±2147483647.

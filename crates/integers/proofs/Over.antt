@@ -4,10 +4,9 @@ use mathlib.Core.Path.{_≡_, ap, _∙_}
 use mathlib.Core.List.{List, [], _∷_, _++_, append-assoc}
 use Prim.Native.Nat.{ℕ, suc, _+_, _-_, _≤_, _<_}
 use native.Mathlib.Nat.{add-assoc}
-use native.Mathlib.Numerals.{add-one}
 use native.Mathlib.Omega.{arith}
-use lib.ListN.{length, take, drop, getD, set, length-append, length-drop}
-use lib.Seq.{sets, sets-eq, paste-zero, paste-suc, length-take-le, take-append-le, take-take, take-at, drop-at, drop-drop}
+use lib.ListN.{length, take, drop, set, length-append, length-drop}
+use lib.Seq.{sets, sets-eq, paste-zero, length-take-le, take-append-le, take-take, take-at, drop-at, drop-drop}
 use Rattle.integers.specs.Over.{over}
 
 module _ {ℓ} {A : Type ℓ} where
@@ -77,12 +76,3 @@ module _ {ℓ} {A : Type ℓ} where
   -- the same, as two calls leave it
   pub over-then : (l m n : List A) (at k : ℕ) (xs ys : List A) → at ≤ length l → m ≡ over l at xs → k ≡ at + length xs → n ≡ over m k ys → n ≡ over l at (xs ++ ys)
   over-then l m n at k xs ys h p q r = r ∙ rw (p, q) (over-append l at xs ys h)
-
-  -- a turn of a loop that copies xs
-  pub over-next : (l : List A) (at i : ℕ) (xs : List A) (d : A) → i < length xs → at + i < length l
-      → set (over l at (take i xs)) (at + i) (getD xs i d) ≡ over l at (take (i + 1) xs)
-  unfolding over
-  over-next l at i xs d h g =
-      let e = length-take-le i xs (omega arith) in
-      let f = length-take-le (suc i) xs h in
-      rw (add-one, e, f) (paste-suc l at xs i d g h)

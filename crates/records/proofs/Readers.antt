@@ -78,9 +78,6 @@ module _ (s : List ℕ) (t : S.Term) (at : ℕ) (there : Bool) (e : there ≡ tr
 -- ════ letters at a position
 
 module _ (s : List ℕ) (at : ℕ) where
-  pub none-at : [] ≡ take 0 (drop at s)
-  none-at = refl
-
   pub one-at : at + 1 ≤ length s → take 1 (drop at s) ≡ getD s at 0 ∷ []
   one-at h = rw (drop-cons s at 0 (omega arith))
 
