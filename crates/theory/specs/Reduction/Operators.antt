@@ -204,7 +204,8 @@ first-alone p q h = ap (λ (l : List ℕ). p ++ l) (no-part q (h .kindIs)) ∙ a
 second-alone : (p q : List ℕ) → PartOf scalar p → p ++ q ≡ q
 second-alone p q h = ap (λ (l : List ℕ). l ++ q) (no-part p (h .kindIs))
 
-timesLeft-follows : (kind : ℕ) → Follows timesLeft timesParts scalar kind kind
+-- what a scalar and a part make
+pub timesLeft-follows : (kind : ℕ) → Follows timesLeft timesParts scalar kind kind
 unfolding partValue
 timesLeft-follows kind = record {
   partsValue = λ σ p q h k. together-value σ p q q (second-alone p q h) ∙ ap (λ (l : List ℕ). partValue σ l .x • partValue σ q) (sym (no-part p (h .kindIs)));
@@ -212,13 +213,22 @@ timesLeft-follows kind = record {
   partsKnown = λ table p q h k. timesParts-known table p q;
 }
 
-timesRight-follows : (kind : ℕ) → Follows timesRight timesParts kind scalar kind
+-- what a part and a scalar make
+pub timesRight-follows : (kind : ℕ) → Follows timesRight timesParts kind scalar kind
 unfolding partValue
 timesRight-follows kind = record {
   partsValue = λ σ p q h k. together-value σ p q p (first-alone p q k) ∙ ap (λ (l : List ℕ). partValue σ l .x • partValue σ p) (sym (no-part q (k .kindIs)));
   partsBare = λ p q h k. together-bare kind p q p (first-alone p q k) h;
   partsKnown = λ table p q h k. timesParts-known table p q;
 }
+
+-- what two vector parts make in a dot
+pub dot-follows : Follows dotOp dotParts vector vector scalar
+dot-follows = record { partsValue = dotParts-value; partsBare = dotParts-bare; partsKnown = dotParts-known }
+
+-- what two vector parts make in a wedge
+pub wedge-follows : Follows wedge wedgeParts vector vector vector
+wedge-follows = record { partsValue = wedgeParts-value; partsBare = wedgeParts-bare; partsKnown = wedgeParts-known }
 
 -- ════ the operators
 
@@ -291,7 +301,7 @@ module _ {table : List ℕ} {f g : Form} {kf kg : ℕ} {v w : (ℕ → Vec) → 
       let k = vectors (t .0) in
       by-product dotOp dotParts scalar (omega arith) dot-bilinear
       (subst (λ (m : ℕ). Follows dotOp dotParts m kg scalar) (sym (k .0)) (subst (λ (n : ℕ). Follows dotOp dotParts vector n scalar) (sym (k .1))
-      (record { partsValue = dotParts-value; partsBare = dotParts-bare; partsKnown = dotParts-known }))) (t .1)
+      dot-follows)) (t .1)
 
   -- the wedge
   pub wedge-denotes : wedgeForms f g ≡ given r → Denotes table r vector (λ σ. wedge (v σ) (w σ))
@@ -301,7 +311,7 @@ module _ {table : List ℕ} {f g : Form} {kf kg : ℕ} {v w : (ℕ → Vec) → 
       let k = vectors (t .0) in
       by-product wedge wedgeParts vector (omega arith) wedge-bilinear
       (subst (λ (m : ℕ). Follows wedge wedgeParts m kg vector) (sym (k .0)) (subst (λ (n : ℕ). Follows wedge wedgeParts vector n vector) (sym (k .1))
-      (record { partsValue = wedgeParts-value; partsBare = wedgeParts-bare; partsKnown = wedgeParts-known }))) (t .1)
+      wedge-follows)) (t .1)
 
 -- the triple
 pub triple-denotes : {table : List ℕ} {f g h : Form} {kf kg kh : ℕ} {u v w : (ℕ → Vec) → Vec}
@@ -331,7 +341,8 @@ negated-ascending [] a = tt
 negated-ascending (t ∷ []) a = (tt, tt)
 negated-ascending (t ∷ u ∷ ts) a = (a .0, negated-ascending (u ∷ ts) (a .1))
 
-negate-in-shape : (f : Form) → FormInShape f → FormInShape (negateForm f)
+-- the negation of a form in shape
+pub negate-in-shape : (f : Form) → FormInShape f → FormInShape (negateForm f)
 unfolding negateForm partFits termKind
 negate-in-shape f s = record {
   kind = s .kind;

@@ -100,6 +100,46 @@ pairs-all P Q ts us h k =
     all-flatMap P (λ (p : Term × Term). P (p .0) × Q (p .1)) (λ (t : Term). map (λ (u : Term). (t, u)) us)
     (λ t ht. all-map Q (λ (p : Term × Term). P (p .0) × Q (p .1)) (λ (u : Term). (t, u)) (λ u hu. (ht, hu)) us k) ts h
 
+-- ════ limits and letters of a product
+
+part-of : (kind : ℕ) (t : Term) → Fits kind (monomial t) → PartOf kind (t .part)
+part-of kind t h = record { short = h .part; kindIs = h .kindIs }
+
+module _ (op : Vec → Vec → Vec) (parts : List ℕ → List ℕ → List Term) (left right kind : ℕ) (P : Follows op parts left right kind) where
+  pair-fits : (t u : Term) → Fits left (monomial t) → Fits right (monomial u) → T (pairLettersFit (t, u)) → AllFit kind (pairTerms parts (t, u))
+  unfolding pairTerms joinedScalars pairLettersFit vectorLetters scalarLetters
+  pair-fits t u h k l =
+      let w = and-split (leb (vectorLetters t + vectorLetters u) 6) (leb (scalarLetters t + scalarLetters u) 2) l in
+      let v = leb→le (vectorLetters t + vectorLetters u) 6 (w .0) in
+      let s = leb→le (scalarLetters t + scalarLetters u) 2 (w .1) in
+      all-map (Bare kind (length (t .part) + length (u .part))) (λ (x : Term). Fits kind (monomial x)) (timesTerm (joinedScalars t u))
+      (λ x b. times-fits kind kind (length (t .part) + length (u .part)) (joinedScalars t u) x
+      (all-append OneToThree (t .factors) (u .factors) (h .lengths) (k .lengths))
+      (omega (arith, s, scalars-append (t .factors) (u .factors)))
+      (omega (arith, v, vectors-append (t .factors) (u .factors)))
+      (b .part) (b .kindIs) b)
+      (parts (t .part) (u .part)) (P .partsBare (t .part) (u .part) (part-of left t h) (part-of right u k))
+
+  pair-known : (table : List ℕ) (t u : Term) → Fits left (monomial t) → Fits right (monomial u) → MonomialKnown table (monomial t) → MonomialKnown table (monomial u)
+      → AllKnown table (pairTerms parts (t, u))
+  unfolding pairTerms joinedScalars
+  pair-known table t u h k m n =
+      all-map (λ (x : Term). MonomialKnown table (monomial x)) (λ (x : Term). MonomialKnown table (monomial x)) (timesTerm (joinedScalars t u))
+      (λ x known. times-known table (joinedScalars t u) x
+      (record { factors = all-append (FactorKnown table) (t .factors) (u .factors) (m .factors) (n .factors); part = tt }) known)
+      (parts (t .part) (u .part)) (P .partsKnown table (t .part) (u .part) (part-of left t h) (part-of right u k) (m .part) (n .part))
+
+  -- the terms that all pairs make are of the product's kind, and within the limits
+  pub product-fits : (ts us : List Term) → AllFit left ts → AllFit right us → T (all pairLettersFit (pairsOf ts us)) → AllFit kind (flatMap (pairTerms parts) (pairsOf ts us))
+  product-fits ts us h k l =
+      let Both : Term × Term → Type 0 = λ p. Fits left (monomial (p .0)) × Fits right (monomial (p .1)) in
+      all-flatMap (λ (p : Term × Term). Both p × T (pairLettersFit p)) (λ (t : Term). Fits kind (monomial t)) (pairTerms parts)
+      (λ p b. pair-fits (p .0) (p .1) (b .0 .0) (b .0 .1) (b .1)) (pairsOf ts us)
+      (both-all Both (λ (p : Term × Term). T (pairLettersFit p)) (pairsOf ts us)
+      (pairs-all (λ (t : Term). Fits left (monomial t)) (λ (t : Term). Fits right (monomial t)) ts us h k) (all-T pairLettersFit (pairsOf ts us) l))
+
+-- ════ the value of a product
+
 module _ (op : Vec → Vec → Vec) (L : Bilinear op) where
   zero-left : (a : Vec) → op (scalarValue (pos 0)) a ≡ scalarValue (pos 0)
   zero-left a =
@@ -112,9 +152,6 @@ module _ (op : Vec → Vec → Vec) (L : Bilinear op) where
       ∙ zero-• (op a (scalarValue (pos 0)))
 
   module _ (parts : List ℕ → List ℕ → List Term) (left right kind : ℕ) (P : Follows op parts left right kind) where
-    part-of : (kind : ℕ) (t : Term) → Fits kind (monomial t) → PartOf kind (t .part)
-    part-of kind t h = record { short = h .part; kindIs = h .kindIs }
-
     -- ---- values
 
     pair-value : (σ : ℕ → Vec) (t u : Term) → Fits left (monomial t) → Fits right (monomial u)
@@ -160,31 +197,6 @@ module _ (op : Vec → Vec → Vec) (L : Bilinear op) where
         ∙ (λ i. row-value σ t us (h .0) k i +v pairs-value σ ts us (h .1) k i)
         ∙ sym (L .sumLeft (termValue σ t) (termsValue σ ts) (termsValue σ us))
 
-    -- ---- limits and letters
-
-    pair-fits : (t u : Term) → Fits left (monomial t) → Fits right (monomial u) → T (pairLettersFit (t, u)) → AllFit kind (pairTerms parts (t, u))
-    unfolding pairTerms joinedScalars pairLettersFit vectorLetters scalarLetters
-    pair-fits t u h k l =
-        let w = and-split (leb (vectorLetters t + vectorLetters u) 6) (leb (scalarLetters t + scalarLetters u) 2) l in
-        let v = leb→le (vectorLetters t + vectorLetters u) 6 (w .0) in
-        let s = leb→le (scalarLetters t + scalarLetters u) 2 (w .1) in
-        all-map (Bare kind (length (t .part) + length (u .part))) (λ (x : Term). Fits kind (monomial x)) (timesTerm (joinedScalars t u))
-        (λ x b. times-fits kind kind (length (t .part) + length (u .part)) (joinedScalars t u) x
-        (all-append OneToThree (t .factors) (u .factors) (h .lengths) (k .lengths))
-        (omega (arith, s, scalars-append (t .factors) (u .factors)))
-        (omega (arith, v, vectors-append (t .factors) (u .factors)))
-        (b .part) (b .kindIs) b)
-        (parts (t .part) (u .part)) (P .partsBare (t .part) (u .part) (part-of left t h) (part-of right u k))
-
-    pair-known : (table : List ℕ) (t u : Term) → Fits left (monomial t) → Fits right (monomial u) → MonomialKnown table (monomial t) → MonomialKnown table (monomial u)
-        → AllKnown table (pairTerms parts (t, u))
-    unfolding pairTerms joinedScalars
-    pair-known table t u h k m n =
-        all-map (λ (x : Term). MonomialKnown table (monomial x)) (λ (x : Term). MonomialKnown table (monomial x)) (timesTerm (joinedScalars t u))
-        (λ x known. times-known table (joinedScalars t u) x
-        (record { factors = all-append (FactorKnown table) (t .factors) (u .factors) (m .factors) (n .factors); part = tt }) known)
-        (parts (t .part) (u .part)) (P .partsKnown table (t .part) (u .part) (part-of left t h) (part-of right u k) (m .part) (n .part))
-
     -- ---- the product
 
     -- the product of two forms denotes the operation on their values
@@ -204,9 +216,8 @@ module _ (op : Vec → Vec → Vec) (L : Bilinear op) where
         let both : All Both pairs = pairs-all Left Right (f .terms) (g .terms)
         (both-all (λ (t : Term). Fits left (monomial t)) (λ (t : Term). MonomialKnown table (monomial t)) (f .terms) h m)
         (both-all (λ (t : Term). Fits right (monomial t)) (λ (t : Term). MonomialKnown table (monomial t)) (g .terms) k n) in
-        let fit : AllFit kind terms = all-flatMap (λ (p : Term × Term). Both p × T (pairLettersFit p)) (λ (t : Term). Fits kind (monomial t)) (pairTerms parts)
-        (λ p b. pair-fits (p .0) (p .1) (b .0 .0 .0) (b .0 .1 .0) (b .1)) pairs (both-all Both (λ (p : Term × Term). T (pairLettersFit p)) pairs both (all-T pairLettersFit pairs (w₂ .0))) in
+        let fit : AllFit kind terms = product-fits op parts left right kind P (f .terms) (g .terms) h k (w₂ .0) in
         let known : AllKnown table terms = all-flatMap Both (λ (t : Term). MonomialKnown table (monomial t)) (pairTerms parts)
-        (λ p b. pair-known table (p .0) (p .1) (b .0 .0) (b .1 .0) (b .0 .1) (b .1 .1)) pairs both in
+        (λ p b. pair-known op parts left right kind P table (p .0) (p .1) (b .0 .0) (b .1 .0) (b .0 .1) (b .1 .1)) pairs both in
         let d : Denotes table r kind (λ σ. termsValue σ terms) = within-denotes table kind terms r small fit known (w₃ .1) in
         record { kindIs = d .kindIs; inShape = d .inShape; known = d .known; valueIs = λ σ. d .valueIs σ ∙ pairs-value σ (f .terms) (g .terms) h k }

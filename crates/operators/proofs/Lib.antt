@@ -1,0 +1,8 @@
+-- Lemmas that belong to no one function.
+pub mod Few
+pub mod Largest
+pub mod Places
+pub mod Pairs
+pub mod Rows
+pub mod Worked
+pub mod Adding

@@ -1,0 +1,198 @@
+-- The terms of one pair: the scalar parts joined, times what the vector parts make, brought into a sum. Assumes nothing.
+use mathlib.Core.Path.{_≡_, refl, ap, sym, subst, _∙_}
+use mathlib.Core.Logic.{_⊎_, inl, inr}
+use mathlib.Core.List.{List, [], _∷_, _++_, map}
+use Prim.Native.Nat.{ℕ, zero, suc, _+_, _*_, _≤_, _<_, _^_}
+use native.Mathlib.Nat as N
+use native.Mathlib.Omega.{arith}
+use lib.Dec.{T, leb, leb→le, ltb}
+use lib.IntN.{ℤ, natAbs, _*ℤ_}
+use lib.ListN.{length, take, length-map}
+use lib.Seq.{length-take-le}
+use Rattle.algebra.specs.Integers.{natAbs-*ℤ}
+use Rattle.specification.specs.Terms.{timesTerm, insert, tidy, gatherInto, coefWithin, vectorLetters, scalarLetters, vectorLettersOf, scalarLettersOf}
+use Rattle.specification.specs.Terms as S
+use Rattle.specification.specs.Reduction.{joinedScalars, pairTerms, pairLettersFit, pairCoefFits}
+use Rattle.theory.specs.Tests.{and-split}
+use Rattle.terms.specs.declared.types.Part.{Part}
+use Rattle.terms.specs.declared.types.Part.the-variants.{Nothing, Letter, Wedge}
+use Rattle.terms.specs.declared.types.Term.{Term}
+use Rattle.terms.specs.Numbers.{lettersOf}
+use Rattle.terms.specs.Abstraction.{partOf, termOf, Counted}
+use Rattle.terms.specs.Tidy.{Joined}
+use Rattle.terms.proofs.InShape.{counted-scalar, counted-dot, counted-triple}
+use Rattle.gathering.specs.declared.Sum.{Sum}
+use Rattle.gathering.specs.Sums.{sumOf, SumValid, RawBrought}
+use Rattle.operators.specs.declared.parts.Operation.{Operation}
+use Rattle.operators.specs.declared.parts.Few.{Few}
+use Rattle.operators.specs.Parts.{partsOf, Small, listOf, FewMade}
+use Rattle.operators.specs.Products.{Scalars, Pair, PairBrought}
+use Rattle.operators.proofs.Largest.{lt-or-le}
+
+-- ════ few factors
+
+-- what one factor counts: a scalar letter, or at least two vector letters
+factor-counts : (k : ℕ) → 2 ≤ 2 * scalarLettersOf (lettersOf k ∷ []) + vectorLettersOf (lettersOf k ∷ [])
+factor-counts k = go (lt-or-le k 256) (lt-or-le k 65792)
+  where
+    go : (k < 256) ⊎ (256 ≤ k) → (k < 65792) ⊎ (65792 ≤ k) → 2 ≤ 2 * scalarLettersOf (lettersOf k ∷ []) + vectorLettersOf (lettersOf k ∷ [])
+    go (inl h) o = omega (arith, counted-scalar k h .0, counted-scalar k h .1)
+    go (inr h) (inl g) = omega (arith, counted-dot k h g .0, counted-dot k h g .1)
+    go (inr h) (inr g) = omega (arith, counted-triple k g .0, counted-triple k g .1)
+
+scalars-first : (f : List ℕ) (fs : List (List ℕ)) → scalarLettersOf (f ∷ fs) ≡ scalarLettersOf (f ∷ []) + scalarLettersOf fs
+unfolding scalarLettersOf
+scalars-first f fs = omega arith
+
+vectors-first : (f : List ℕ) (fs : List (List ℕ)) → vectorLettersOf (f ∷ fs) ≡ vectorLettersOf (f ∷ []) + vectorLettersOf fs
+unfolding vectorLettersOf
+vectors-first f fs = omega arith
+
+factors-count : (ks : List ℕ) → 2 * length ks ≤ 2 * scalarLettersOf (map lettersOf ks) + vectorLettersOf (map lettersOf ks)
+factors-count [] = omega arith
+factors-count (k ∷ ks) =
+    omega (arith, factor-counts k, factors-count ks, scalars-first (lettersOf k) (map lettersOf ks), vectors-first (lettersOf k) (map lettersOf ks))
+
+-- the factors of a pair whose letters fit are at most five
+pub pair-few : (t u : Term) → t .«factor_count» ≤ length (t .factors) → u .«factor_count» ≤ length (u .factors) → T (pairLettersFit (termOf t, termOf u))
+    → t .«factor_count» + u .«factor_count» ≤ 5
+unfolding pairLettersFit vectorLetters scalarLetters termOf
+pair-few t u h k l =
+    let w = and-split (leb (vectorLetters (termOf t) + vectorLetters (termOf u)) 6) (leb (scalarLetters (termOf t) + scalarLetters (termOf u)) 2) l in
+    omega (
+      arith,
+      leb→le (vectorLetters (termOf t) + vectorLetters (termOf u)) 6 (w .0),
+      leb→le (scalarLetters (termOf t) + scalarLetters (termOf u)) 2 (w .1),
+      factors-count (take (t .«factor_count») (t .factors)),
+      factors-count (take (u .«factor_count») (u .factors)),
+      length-take-le (t .«factor_count») (t .factors) h,
+      length-take-le (u .«factor_count») (u .factors) k,
+    )
+
+-- ════ the scalar parts joined
+
+pair-size : (t u : Term) → T (pairCoefFits (termOf t, termOf u)) → natAbs (t .coef) * natAbs (u .coef) ≤ 2147483647
+unfolding pairCoefFits coefWithin termOf
+pair-size t u h = subst (λ (n : ℕ). n ≤ 2147483647) (natAbs-*ℤ (t .coef) (u .coef)) (leb→le (natAbs (t .coef *ℤ u .coef)) 2147483647 h)
+
+scalars-coef : (t r : Term) → Scalars t r → r .coef ≡ t .coef
+unfolding termOf
+scalars-coef t r h = ap (λ (x : S.Term). x .coef) (h .is)
+
+scalars-part : (t r : Term) → Scalars t r → partOf (r .part) ≡ []
+unfolding termOf
+scalars-part t r h = ap (λ (x : S.Term). x .part) (h .is)
+
+-- the joined scalar parts of a pair
+pub record Base (t u b : Term) : Type 0 where
+  pub is : termOf b ≡ joinedScalars (termOf t) (termOf u)
+  pub counted : Counted b
+  pub few : b .«factor_count» ≤ 5
+  pub size : natAbs (b .coef) ≤ 2147483647
+  pub part : partOf (b .part) ≡ []
+
+module _ (op : Operation) (t u v w : Term) (p : Pair op t u) (h : Scalars t v) (k : Scalars u w) (n : t .«factor_count» + u .«factor_count» ≤ 5) where
+  -- they can be joined
+  pub joins-counts : Counted v × Counted w × (v .«factor_count» + w .«factor_count» ≤ 7)
+  joins-counts = (h .counted, k .counted, omega (arith, h .count, k .count))
+
+  pub joins-fits : natAbs (v .coef) * natAbs (w .coef) < 2 ^ 63
+  joins-fits =
+      let e : natAbs (v .coef) * natAbs (w .coef) ≡ natAbs (t .coef) * natAbs (u .coef) = (λ i. natAbs (scalars-coef t v h i) * natAbs (scalars-coef u w k i)) in
+      omega (arith, e, pair-size t u (p .coef))
+
+  pub joins-part : (partOf (v .part) ≡ []) ⊎ (partOf (w .part) ≡ [])
+  joins-part = inl (scalars-part t v h)
+
+  -- what joining gives
+  pub base : (b : Term) → Joined v w b → Base t u b
+  unfolding joinedScalars timesTerm termOf
+  base b j =
+      let is : termOf b ≡ joinedScalars (termOf t) (termOf u) = j .is ∙ (λ i. timesTerm (h .is i) (k .is i)) in
+      record {
+        is = is;
+        counted = j .counted;
+        few = omega (arith, j .count, h .count, k .count);
+        size = subst (λ (z : ℤ). natAbs z ≤ 2147483647) (sym (ap (λ (x : S.Term). x .coef) is))
+            (subst (λ (m : ℕ). m ≤ 2147483647) (sym (natAbs-*ℤ (t .coef) (u .coef))) (pair-size t u (p .coef)));
+        part = ap (λ (x : S.Term). x .part) is;
+      }
+
+-- ════ times a term that the vector parts make
+
+module _ (t u b x : Term) (h : Base t u b) (s : Small x) where
+  pub piece-counts : Counted b × Counted x × (b .«factor_count» + x .«factor_count» ≤ 7)
+  piece-counts = (h .counted, s .counted, omega (arith, h .few, s .few))
+
+  light : natAbs (b .coef) * natAbs (x .coef) ≤ 2147483647
+  light =
+      let e : natAbs (b .coef) * natAbs (x .coef) ≤ natAbs (b .coef) * 1 = N.mul-le-mul-left (natAbs (b .coef)) (s .unit) in
+      omega (arith, e, h .size)
+
+  pub piece-fits : natAbs (b .coef) * natAbs (x .coef) < 2 ^ 63
+  piece-fits = omega (arith, light)
+
+  pub piece-part : (partOf (b .part) ≡ []) ⊎ (partOf (x .part) ≡ [])
+  piece-part = inl (h .part)
+
+  module _ (y : Term) (j : Joined b x y) where
+    pub piece-is : termOf y ≡ timesTerm (joinedScalars (termOf t) (termOf u)) (termOf x)
+    piece-is = j .is ∙ ap (λ (z : S.Term). timesTerm z (termOf x)) (h .is)
+
+    pub piece-size : natAbs (y .coef) ≤ 2147483647
+    unfolding timesTerm termOf
+    piece-size =
+        subst (λ (z : ℤ). natAbs z ≤ 2147483647) (sym (ap (λ (z : S.Term). z .coef) (j .is)))
+        (subst (λ (n : ℕ). n ≤ 2147483647) (sym (natAbs-*ℤ (b .coef) (x .coef))) light)
+
+-- ════ brought into a sum
+
+-- the parts make these terms
+made-none : (ts : List S.Term) (r : Few) → FewMade ts r → r .count ≡ 0 → ts ≡ []
+unfolding listOf
+made-none ts r m e = sym (m .is) ∙ ap (λ (n : ℕ). map termOf (take n (r .first ∷ r .second ∷ []))) e
+
+made-one : (ts : List S.Term) (r : Few) → FewMade ts r → r .count ≡ 1 → ts ≡ termOf (r .first) ∷ []
+unfolding listOf
+made-one ts r m e = sym (m .is) ∙ ap (λ (n : ℕ). map termOf (take n (r .first ∷ r .second ∷ []))) e
+
+made-two : (ts : List S.Term) (r : Few) → FewMade ts r → (r .count ≡ 0 → ⊥) → (r .count ≡ 1 → ⊥) → ts ≡ termOf (r .first) ∷ termOf (r .second) ∷ []
+unfolding listOf
+made-two ts r m n o =
+    let e : r .count ≡ 2 = omega (arith, m .few) in
+    sym (m .is) ∙ ap (λ (n : ℕ). map termOf (take n (r .first ∷ r .second ∷ []))) e
+
+module _ (op : Operation) (s : Sum) (t u : Term) (few : Few) (m : FewMade (partsOf op (partOf (t .part)) (partOf (u .part))) few) (v : SumValid s) where
+  terms-are : (us : List S.Term) → partsOf op (partOf (t .part)) (partOf (u .part)) ≡ us → pairTerms (partsOf op) (termOf t, termOf u) ≡ map (timesTerm (joinedScalars (termOf t) (termOf u))) us
+  unfolding pairTerms termOf
+  terms-are us e = ap (map (timesTerm (joinedScalars (termOf t) (termOf u)))) e
+
+  -- no term
+  pub brought-none : few .count ≡ 0 → PairBrought op s t u s
+  unfolding gatherInto
+  brought-none e = record {
+    is = ap (gatherInto (sumOf s)) (sym (terms-are [] (made-none _ few m e)));
+    valid = v;
+    brought = omega arith;
+  }
+
+  -- one term
+  pub brought-one : (x : Term) (r : Sum) → few .count ≡ 1 → termOf x ≡ timesTerm (joinedScalars (termOf t) (termOf u)) (termOf (few .first)) → RawBrought s x r → PairBrought op s t u r
+  unfolding gatherInto
+  brought-one x r e is h = record {
+    is = h .is ∙ ap (λ (z : S.Term). insert (tidy z) (sumOf s)) is ∙ ap (gatherInto (sumOf s)) (sym (terms-are (termOf (few .first) ∷ []) (made-one _ few m e)));
+    valid = h .valid;
+    brought = omega (arith, h .brought);
+  }
+
+  -- two terms
+  pub brought-two : (x y : Term) (q r : Sum) → (few .count ≡ 0 → ⊥) → (few .count ≡ 1 → ⊥)
+      → termOf x ≡ timesTerm (joinedScalars (termOf t) (termOf u)) (termOf (few .first)) → termOf y ≡ timesTerm (joinedScalars (termOf t) (termOf u)) (termOf (few .second))
+      → RawBrought s x q → RawBrought q y r → PairBrought op s t u r
+  unfolding gatherInto
+  brought-two x y q r n o isx isy h k = record {
+    is = k .is ∙ (λ i. insert (tidy (isy i)) ((h .is ∙ ap (λ (z : S.Term). insert (tidy z) (sumOf s)) isx) i))
+        ∙ ap (gatherInto (sumOf s)) (sym (terms-are (termOf (few .first) ∷ termOf (few .second) ∷ []) (made-two _ few m n o)));
+    valid = k .valid;
+    brought = omega (arith, h .brought, k .brought);
+  }

@@ -1,0 +1,15 @@
+use Rattle.operators.specs.Parts.{listOf}
+use Rattle.terms.specs.Abstraction.{termOf, partOf}
+use borrow.Author.Needs.{needs}
+use Rattle.operators.proofs.parts.two.Statement.{statement}
+use Rattle.operators.proofs.parts.two.Tie as tie
+use Rattle.operators.proofs.parts.two.Reads as reads
+use Rattle.operators.proofs.parts.two.Lts as lts
+
+-- src/parts.rt:103:1
+returns : tie.Need-returns
+unfolding listOf termOf
+returns c = search needs
+
+pub two-spec : {M : Type 1} → statement M
+two-spec = tie.close (tie.spec returns)

@@ -1,0 +1,87 @@
+// The tests of a product's pairs: 7, 8 and 9. The most letters and the largest coefficient of each form decide for all pairs.
+ghost use mathlib.Core.Path.{_≡_};
+ghost use Prim.Native.Nat.{_≤_, _<_};
+ghost use lib.IntN.{natAbs};
+ghost use Rattle.terms.specs.Abstraction.{termOf, formOf, Counted};
+ghost use Rattle.terms.specs.Valid.{FormValid};
+ghost use Rattle.records.specs.Tested.{testOf};
+ghost use Rattle.operators.specs.Limits.{larger, MostWith, MostOf, testPairs};
+use integers::size;
+use terms::shape::letters_used;
+use terms::shape::part_letters;
+use terms::types::Form;
+use terms::types::Term;
+
+// The most vector letters and scalar letters that a term has, and the largest size of a coefficient.
+pub struct Most {
+    pub vectors: usize,
+    pub scalars: usize,
+    pub size: usize,
+}
+
+// The larger of two numbers.
+fn larger(a: usize, b: usize) -> usize
+    ensures { λ r. ⌜ r ≡ larger a b ⌝ }
+{
+    if a < b { b } else { a }
+}
+
+// One term more.
+fn with_term(m: Most, t: Term) -> Most
+    requires { ⌜ Counted t × (natAbs (t .coef) ≤ 2147483647) ⌝ }
+    ensures { λ r. ⌜ MostWith (termOf t) m r ⌝ }
+{
+    let f = t.factors;
+    let n = t.factor_count;
+    let p = t.part;
+    let used = letters_used(f, n);
+    let c = size(t.coef) as usize;
+    Most {
+        vectors: larger(used.vectors + part_letters(p), m.vectors),
+        scalars: larger(used.scalars, m.scalars),
+        size: larger(c, m.size),
+    }
+}
+
+// The terms of a form, from the last to the first.
+fn most_of(f: Form) -> Most
+    requires { ⌜ FormValid f ⌝ }
+    ensures { λ r. ⌜ MostOf (formOf f .terms) r ⌝ }
+{
+    let mut m = Most {
+        vectors: 0,
+        scalars: 0,
+        size: 0,
+    };
+    let mut i = f.count;
+    while i > 0 {
+        i -= 1;
+        let t = f.terms[i];
+        m = with_term(m, t);
+    }
+    m
+}
+
+// 7, 8 and 9 of all pairs, in this order; 0 where no pair is refused.
+pub fn test_pairs(f: Form, g: Form) -> u8
+    requires { ⌜ FormValid f × FormValid g ⌝ }
+    ensures { λ r. ⌜ testOf r ≡ testPairs (formOf f .terms) (formOf g .terms) ⌝ }
+{
+    let n = f.count;
+    let k = g.count;
+    if n * k > 48 {
+        return 7;
+    }
+    let a = most_of(f);
+    let b = most_of(g);
+    if a.vectors + b.vectors > 6 {
+        return 8;
+    }
+    if a.scalars + b.scalars > 2 {
+        return 8;
+    }
+    if a.size * b.size > 2147483647 {
+        return 9;
+    }
+    0
+}
