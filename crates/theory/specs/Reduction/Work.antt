@@ -1,17 +1,18 @@
 -- Reduction keeps the value (P2): an expression that is taken has, under every assignment of integers, the value of its form, which is in shape, with letters of the table. Assumes nothing.
 use mathlib.Core.Path.{_≡_, refl, sym, _∙_, subst}
+use mathlib.Core.Bool.{Bool, true, false}
 use mathlib.Core.List.{List, [], _∷_}
 use Prim.Native.Nat.{ℕ, zero, suc, _≤_}
 use native.Mathlib.Omega.{arith}
 use lib.IntN.{ℤ, pos, negsuc, _+ℤ_, _*ℤ_}
 use lib.IntN as I
-use lib.Dec.{T}
+use lib.Dec.{T, eqb}
 use Rattle.algebra.specs.Integers as R
 use Rattle.algebra.specs.Integers.{NonZero, pos-nonzero, negsuc-nonzero}
-use Rattle.specification.specs.Results.{given}
+use Rattle.specification.specs.Results.{given, if_then_else_}
 use Rattle.specification.specs.Lists.{all, ascend}
 use Rattle.specification.specs.Values.{Vec, scalarValue, _•_}
-use Rattle.specification.specs.Letters.{scalar, goodTable}
+use Rattle.specification.specs.Letters.{scalar, vector, goodTable}
 use Rattle.specification.specs.Terms.{Term, Form, plus, termKind, isZero, keep, insert, coefWithin, vectorLettersOf, scalarLettersOf, vectorLetters, scalarLetters, factorInShape, partInShape, termInShape}
 use Rattle.specification.specs.Records.{partFits, testTerms}
 use Rattle.specification.specs.Expressions.{Expr, Letter, Constant, Sum, Difference, Negation, Times, Dot, Wedge, Triple, readExpr}
@@ -32,24 +33,33 @@ use Rattle.theory.specs.Reduction.Operators.{denotes-as, sum-denotes, ne
 
 -- ════ leaves
 
+-- a letter alone is a form in shape
+pub letter-form : (n kind : ℕ) → FormInShape (letterForm n kind)
+unfolding letterForm all ascend isZero coefWithin vectorLettersOf scalarLettersOf vectorLetters scalarLetters factorInShape partInShape termInShape partFits termKind
+letter-form n kind = go (eqb kind scalar)
+  where
+    go : (b : Bool) → FormInShape (if b then record { kind = scalar; terms = plus ((n ∷ []) ∷ []) [] ∷ [] } else record { kind = vector; terms = plus [] (n ∷ []) ∷ [] })
+    go true = record { kind = omega arith; count = omega arith; terms = tt; parts = tt; ascending = tt }
+    go false = record { kind = omega arith; count = omega arith; terms = tt; parts = tt; ascending = tt }
+
 letter-denotes : (table : List ℕ) (n kind : ℕ) → Known table kind n → kind ≤ 1 → Denotes table (letterForm n kind) kind (λ σ. exprValue σ (Letter n kind))
-unfolding letterForm exprValue value expanding all ascend isZero coefWithin vectorLettersOf scalarLettersOf vectorLetters scalarLetters factorInShape partInShape termInShape partFits termKind
+unfolding letterForm exprValue value expanding
 letter-denotes table n zero known h = record {
   kindIs = refl;
-  inShape = record { kind = h; count = omega arith; terms = tt; parts = tt; ascending = tt };
+  inShape = letter-form n zero;
   known = (record { factors = ((known, tt), tt); part = tt }, tt);
   valueIs = λ σ. same-vectors (termsE (plus ((0 ∷ []) ∷ []) [] ∷ [])) (scalarE (A .x)) (letters (σ n ∷ [])) (refl, refl, refl);
 }
 letter-denotes table n (suc zero) known h = record {
   kindIs = refl;
-  inShape = record { kind = h; count = omega arith; terms = tt; parts = tt; ascending = tt };
+  inShape = letter-form n (suc zero);
   known = (record { factors = tt; part = (known, tt) }, tt);
   valueIs = λ σ. same-vectors (termsE (plus [] (0 ∷ []) ∷ [])) A (letters (σ n ∷ [])) (refl, refl, refl);
 }
 letter-denotes table n (suc (suc kind)) known h = absurd (omega arith)
 
 -- a number as a term
-abbrev alone : ℤ → Term
+abbrev pub alone : ℤ → Term
 alone k = record { coef = k; factors = []; part = [] }
 
 -- a constant that is not 0 is a term in shape
@@ -73,13 +83,14 @@ constant-value σ k =
     other : _≡_ {A = ℤ} ((k *ℤ pos 1) *ℤ pos 0 +ℤ pos 0) (pos 0)
     other = simp (I.+ℤ-idr, I.*ℤ-zero)
 
--- so it is a form in shape; and 0 is the empty form
+-- so it is a form in shape
 one-constant : (k : ℤ) → NonZero k → T (coefWithin k) → FormInShape (record { kind = scalar; terms = alone k ∷ [] })
 unfolding all ascend partFits shapes
 one-constant k h w =
     record { kind = omega arith; count = omega arith; terms = T-all termInShape (alone k ∷ []) (constant-in-shape k h w, tt); parts = tt; ascending = tt }
 
-constant-form : (k : ℤ) → T (coefWithin k) → FormInShape (record { kind = scalar; terms = keep (alone k) [] })
+-- a constant within is a form in shape, the empty one where it is 0
+pub constant-form : (k : ℤ) → T (coefWithin k) → FormInShape (record { kind = scalar; terms = keep (alone k) [] })
 unfolding keep isZero all ascend
 constant-form (pos zero) w = record { kind = omega arith; count = omega arith; terms = tt; parts = tt; ascending = tt }
 constant-form (pos (suc n)) w = one-constant (pos (suc n)) (pos-nonzero n) w

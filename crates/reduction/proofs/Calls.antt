@@ -1,0 +1,101 @@
+-- The call: an expression whole, and the record of its form in the bytes lent. Assumes nothing.
+use mathlib.Core.Path.{_≡_, refl, ap, sym, subst, _∙_}
+use mathlib.Core.List.{List}
+use Prim.Native.Nat.{ℕ, _≤_, _<_}
+use borrow.Author.Tests.{le-leb, lt-leb, eq-eqb, ne-eqb}
+use native.Mathlib.Omega.{arith}
+use lib.Dec.{leb, eqb}
+use lib.ListN.{length}
+use Rattle.specification.specs.Results.{Result, Test, refused, given, _>>=_, _>>_, require}
+use Rattle.specification.specs.Letters.{testTable}
+use Rattle.specification.specs.Terms as S
+use Rattle.specification.specs.Records.{writeForm, writeInto, answerForm}
+use Rattle.specification.specs.Expressions.{Expr, readTree, readExpr}
+use Rattle.specification.specs.Reduction.{work, reduced, reduceTested, reduceCall}
+use Rattle.terms.specs.Abstraction.{formOf}
+use Rattle.terms.specs.declared.types.Form.{Form}
+use Rattle.gathering.specs.declared.Closed.{Closed}
+use Rattle.records.specs.Tested.{testOf}
+use Rattle.records.specs.Written.{FormWritten}
+use Rattle.operators.specs.Products.{WorkedAs}
+use Rattle.operators.proofs.Worked.{refuses, works-as, worked-given, worked-refused}
+use Rattle.reduction.specs.declared.trees.Tree.{Tree}
+use Rattle.reduction.specs.declared.Reduced.{Reduced}
+use Rattle.reduction.specs.declared.Reduced.the-variants.{Written, Refused}
+use Rattle.reduction.specs.Answers.{reducedOf}
+use Rattle.reduction.specs.Trees.{ReadAs}
+use Rattle.reduction.proofs.Heads.{test-passed, test-refused}
+use Rattle.reduction.proofs.Levels.{Found, read-refused, read-given}
+
+-- ════ an expression whole
+
+module _ (table s : List ℕ) where
+  -- over 512 bytes
+  pub too-long : (r : Closed) → 512 < length s → r .refusal ≡ 3 → WorkedAs (reduced table s) r
+  unfolding reduced readExpr
+  too-long r h e = refuses (reduced table s) r 3 e (λ z. omega arith) (rw (lt-leb (length s) 512 h))
+
+  whole-is : (e : Expr) (next : ℕ) → length s ≤ 512 → readTree 16 table s 0 ≡ given (e, next) → next ≡ length s → reduced table s ≡ work e
+  unfolding reduced readExpr
+  whole-is e next h r n = rw (le-leb (length s) 512 h, r, eq-eqb next (length s) n)
+
+  module _ (t : Tree) (h : length s ≤ 512) (rt : ReadAs (readTree 16 table s 0) t) where
+    -- reading refused
+    pub not-read : (r : Closed) → (t .unread ≡ 0 → ⊥) → r .refusal ≡ t .unread → WorkedAs (reduced table s) r
+    unfolding reduced readExpr
+    not-read r n e = refuses (reduced table s) r (t .unread) e n (rw (le-leb (length s) 512 h, read-refused (readTree 16 table s 0) t rt n))
+
+    -- bytes are left over
+    pub left-over : (r : Closed) → t .unread ≡ 0 → (t .next ≡ length s → ⊥) → r .refusal ≡ 4 → WorkedAs (reduced table s) r
+    unfolding reduced readExpr
+    left-over r u n e =
+        refuses (reduced table s) r 4 e (λ z. omega arith)
+        (rw (le-leb (length s) 512 h, read-given (readTree 16 table s 0) t rt u .is, ne-eqb (t .next) (length s) n))
+
+    -- read whole
+    pub read-whole : t .unread ≡ 0 → t .next ≡ length s → WorkedAs (reduced table s) (t .work)
+    read-whole u n =
+        let f : Found (readTree 16 table s 0) t = read-given (readTree 16 table s 0) t rt u in
+        works-as (work (f .tree)) (reduced table s) (t .work)
+        (sym (whole-is (f .tree) (t .next) h (f .is) n)) (f .worked)
+
+-- ════ the answer
+
+module _ (table s out : List ℕ) where
+  answers : (r : Result S.Form) → reduceTested table s out ≡ r → answerForm r out ≡ reduceCall table s out
+  unfolding reduceCall
+  answers r e = ap (λ (x : Result S.Form). answerForm x out) (sym e)
+
+  -- a refusal: all memory stands
+  refused-call : (n : ℕ) → reduceTested table s out ≡ refused n → _≡_ {A = Result ℕ × List ℕ} (reducedOf (Refused n), out) (reduceCall table s out)
+  unfolding reducedOf answerForm
+  refused-call n e = answers (refused n) e
+
+  module _ (c : ℕ) (h : testOf c ≡ testTable table) where
+    -- 1
+    pub table-refused : (c ≡ 0 → ⊥) → _≡_ {A = Result ℕ × List ℕ} (reducedOf (Refused c), out) (reduceCall table s out)
+    unfolding reduceTested
+    table-refused n = refused-call c (ap (λ (t : Test). t >> (require (leb 770 (length out)) 2 >> reduced table s)) (sym h ∙ test-refused c n))
+
+    module _ (z : c ≡ 0) where
+      past-table : reduceTested table s out ≡ (require (leb 770 (length out)) 2 >> reduced table s)
+      unfolding reduceTested
+      past-table = ap (λ (t : Test). t >> (require (leb 770 (length out)) 2 >> reduced table s)) (sym h ∙ test-passed c z)
+
+      -- 2
+      pub short-refused : length out < 770 → _≡_ {A = Result ℕ × List ℕ} (reducedOf (Refused 2), out) (reduceCall table s out)
+      short-refused l = refused-call 2 (past-table ∙ rw (lt-leb 770 (length out) l))
+
+      module _ (l : 770 ≤ length out) (w : Closed) (worked : WorkedAs (reduced table s) w) where
+        past-length : reduceTested table s out ≡ reduced table s
+        past-length = past-table ∙ rw (le-leb 770 (length out) l)
+
+        -- what the expression is refused with
+        pub content-refused : (w .refusal ≡ 0 → ⊥) → _≡_ {A = Result ℕ × List ℕ} (reducedOf (Refused (w .refusal)), out) (reduceCall table s out)
+        content-refused n = refused-call (w .refusal) (past-length ∙ worked-refused (reduced table s) w worked n)
+
+        -- the record written
+        pub form-written : (n : ℕ) (after : List ℕ) → w .refusal ≡ 0 → FormWritten out after n (formOf (w .form)) → _≡_ {A = Result ℕ × List ℕ} (reducedOf (Written n), after) (reduceCall table s out)
+        unfolding reducedOf answerForm
+        form-written n after e f =
+            (λ i. (given (f .ends i), f .bytes i)) ∙ answers (given (formOf (w .form))) (past-length ∙ worked-given (reduced table s) w worked e)

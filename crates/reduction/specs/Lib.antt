@@ -1,0 +1,4 @@
+-- What the contracts cite.
+pub mod Leaves
+pub mod Trees
+pub mod Answers
