@@ -31,7 +31,7 @@ use Rattle.terms.proofs.Arrays.{noTerm}
 use Rattle.records.specs.Tested.{testOf}
 use Rattle.operators.specs.declared.limits.Most.{Most}
 use Rattle.operators.proofs.Places.{form-at}
-use Rattle.operators.specs.Limits.{testPairs, larger, coefSize, largest, MostWith, MostOf}
+use Rattle.operators.specs.Limits.{testPairs, larger, coefSize, largest, MostWith, MostOf, MostSmall}
 
 -- ════ the larger of two
 
@@ -201,38 +201,29 @@ module _ (ts us : List S.Term) (h : All Limited ts) (k : All Limited us) where
     coefs-found : all pairCoefFits (pairsOf ts us) ≡ leb (a .size * b .size) 2147483647
     coefs-found = coefs-by-most ∙ (λ i. leb (sym (ma .size) i * sym (mb .size) i) 2147483647)
 
-    -- 8: too many vector letters
-    pub eight-vectors : length ts * length us ≤ 48 → 6 < a .vectors + b .vectors → testOf 8 ≡ testPairs ts us
+    -- 8: a pair with too many letters
+    pub eight : (l : Bool) → length ts * length us ≤ 48 → l ≡ (leb (a .vectors + b .vectors) 6 && leb (a .scalars + b .scalars) 2) → l ≡ false → testOf 8 ≡ testPairs ts us
     unfolding testOf testPairs
-    eight-vectors n v = rw (le-leb _ 48 n, letters-found, lt-leb _ 6 v)
+    eight l n e p = rw (le-leb _ 48 n, letters-found ∙ sym e ∙ p)
 
-    -- 8: too many scalar letters
-    pub eight-scalars : length ts * length us ≤ 48 → a .vectors + b .vectors ≤ 6 → 2 < a .scalars + b .scalars → testOf 8 ≡ testPairs ts us
+    -- 9: a pair's coefficient beyond
+    pub nine : (l c : Bool) → length ts * length us ≤ 48 → l ≡ (leb (a .vectors + b .vectors) 6 && leb (a .scalars + b .scalars) 2) → c ≡ leb (a .size * b .size) 2147483647
+        → l ≡ true → c ≡ false → testOf 9 ≡ testPairs ts us
     unfolding testOf testPairs
-    eight-scalars n v s = rw (le-leb _ 48 n, letters-found, le-leb _ 6 v, lt-leb _ 2 s)
-
-    -- 9: a coefficient beyond
-    pub nine : length ts * length us ≤ 48 → a .vectors + b .vectors ≤ 6 → a .scalars + b .scalars ≤ 2 → 2147483647 < a .size * b .size → testOf 9 ≡ testPairs ts us
-    unfolding testOf testPairs
-    nine n v s c = rw (le-leb _ 48 n, letters-found, le-leb _ 6 v, le-leb _ 2 s, coefs-found, lt-leb _ 2147483647 c)
+    nine l c n e f p q = rw (le-leb _ 48 n, letters-found ∙ sym e ∙ p, coefs-found ∙ sym f ∙ q)
 
     -- no pair is refused
-    pub all-fit : length ts * length us ≤ 48 → a .vectors + b .vectors ≤ 6 → a .scalars + b .scalars ≤ 2 → a .size * b .size ≤ 2147483647 → testOf 0 ≡ testPairs ts us
+    pub all-fit : (l c : Bool) → length ts * length us ≤ 48 → l ≡ (leb (a .vectors + b .vectors) 6 && leb (a .scalars + b .scalars) 2) → c ≡ leb (a .size * b .size) 2147483647
+        → l ≡ true → c ≡ true → testOf 0 ≡ testPairs ts us
     unfolding testOf testPairs
-    all-fit n v s c = rw (le-leb _ 48 n, letters-found, le-leb _ 6 v, le-leb _ 2 s, coefs-found, le-leb _ 2147483647 c)
+    all-fit l c n e f p q = rw (le-leb _ 48 n, letters-found ∙ sym e ∙ p, coefs-found ∙ sym f ∙ q)
 
 -- 7: too many pairs
 pub seven : (ts us : List S.Term) → 48 < length ts * length us → testOf 7 ≡ testPairs ts us
 unfolding testOf testPairs
 seven ts us n = rw (lt-leb _ 48 n)
 
--- the numbers that were found are small
-pub record MostSmall (r : Most) : Type 0 where
-  pub vectors : r .vectors ≤ 6
-  pub scalars : r .scalars ≤ 2
-  pub size : r .size ≤ 2147483647
-
--- those of a form in shape
+-- the numbers of terms in shape are small
 pub most-small : (ts : List S.Term) (r : Most) → All Limited ts → MostOf ts r → MostSmall r
 most-small ts r h m = record {
   vectors = subst (λ (n : ℕ). n ≤ 6) (sym (m .vectors)) (largest-below vectorLetters 6 ts (all-implies Limited (λ (t : S.Term). vectorLetters t ≤ 6) (λ t l. l .vectors) ts h));
@@ -283,3 +274,13 @@ again f i h = let e : i - 1 + 1 ≡ i = omega arith in ap (λ (n : ℕ). termOf 
 pub most-all : (ts : List S.Term) (i : ℕ) (m : Most) → i ≤ 0 → MostOf (drop i ts) m → MostOf ts m
 most-all ts zero m h w = w
 most-all ts (suc i) m h w = absurd (omega arith)
+
+-- ════ the tests of what was found
+
+-- too many vector letters
+pub vectors-many : (x y : ℕ) → 6 < x → false ≡ (leb x 6 && leb y 2)
+vectors-many x y h = rw (lt-leb x 6 h)
+
+-- few: the scalar letters decide
+pub vectors-few : (x y : ℕ) → x ≤ 6 → leb y 2 ≡ (leb x 6 && leb y 2)
+vectors-few x y h = rw (le-leb x 6 h)

@@ -42,3 +42,9 @@ pub record MostOf (ts : List Term) (r : Most) : Type 0 where
   pub vectors : r .vectors ≡ largest vectorLetters ts
   pub scalars : r .scalars ≡ largest scalarLetters ts
   pub size : r .size ≡ largest coefSize ts
+
+-- such numbers of terms in shape
+pub record MostSmall (r : Most) : Type 0 where
+  pub vectors : r .vectors ≤ 6
+  pub scalars : r .scalars ≤ 2
+  pub size : r .size ≤ 2147483647

@@ -1,11 +1,13 @@
 // The tests of a product's pairs: 7, 8 and 9. The most letters and the largest coefficient of each form decide for all pairs.
 ghost use mathlib.Core.Path.{_≡_};
-ghost use Prim.Native.Nat.{_≤_, _<_};
+ghost use mathlib.Core.Bool.{_&&_};
+ghost use Prim.Native.Nat.{_+_, _*_, _≤_};
+ghost use lib.Dec.{leb};
 ghost use lib.IntN.{natAbs};
 ghost use Rattle.terms.specs.Abstraction.{termOf, formOf, Counted};
 ghost use Rattle.terms.specs.Valid.{FormValid};
 ghost use Rattle.records.specs.Tested.{testOf};
-ghost use Rattle.operators.specs.Limits.{larger, MostWith, MostOf, testPairs};
+ghost use Rattle.operators.specs.Limits.{larger, MostWith, MostOf, MostSmall, testPairs};
 use integers::size;
 use terms::shape::letters_used;
 use terms::shape::part_letters;
@@ -62,6 +64,25 @@ fn most_of(f: Form) -> Most
     m
 }
 
+// The letters of all pairs fit.
+fn letters_fit(a: Most, b: Most) -> bool
+    requires { ⌜ MostSmall a × MostSmall b ⌝ }
+    ensures { λ r. ⌜ r ≡ (leb (a .vectors + b .vectors) 6 && leb (a .scalars + b .scalars) 2) ⌝ }
+{
+    if a.vectors + b.vectors > 6 {
+        return false;
+    }
+    a.scalars + b.scalars <= 2
+}
+
+// The coefficients of all pairs fit.
+fn coefs_fit(a: Most, b: Most) -> bool
+    requires { ⌜ MostSmall a × MostSmall b ⌝ }
+    ensures { λ r. ⌜ r ≡ leb (a .size * b .size) 2147483647 ⌝ }
+{
+    a.size * b.size <= 2147483647
+}
+
 // 7, 8 and 9 of all pairs, in this order; 0 where no pair is refused.
 pub fn test_pairs(f: Form, g: Form) -> u8
     requires { ⌜ FormValid f × FormValid g ⌝ }
@@ -74,13 +95,12 @@ pub fn test_pairs(f: Form, g: Form) -> u8
     }
     let a = most_of(f);
     let b = most_of(g);
-    if a.vectors + b.vectors > 6 {
+    let letters = letters_fit(a, b);
+    let coefs = coefs_fit(a, b);
+    if !letters {
         return 8;
     }
-    if a.scalars + b.scalars > 2 {
-        return 8;
-    }
-    if a.size * b.size > 2147483647 {
+    if !coefs {
         return 9;
     }
     0

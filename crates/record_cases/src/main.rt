@@ -1,21 +1,15 @@
 // Runs cases of form records from standard input. A case is the length of a table (one byte), the table, the length of a record (two bytes), the record.
 // For each it writes a line: the number of the table's test, the number of the record's, and, where that is 0, the record as it is written back.
-ghost use Prim.Native.Nat.{_≤_, _<_};
+ghost use Prim.Native.Nat.{_<_};
 ghost use lib.ListN.{length};
 ghost use Rattle.terms.specs.Valid.{FormValid};
+use case_lines::byte_at;
+use case_lines::print_bytes;
+use case_lines::print_character;
 use records::table::check_table;
 use records::take::read_form;
 use records::write::write_form;
 use terms::types::Form;
-
-// Bytes as hexadecimal digits.
-fn print_bytes(s: &[u8]) {
-    let mut i: usize = 0;
-    while i < s.len() {
-        io::print_hex(1, s[i] as u64, 2);
-        i += 1;
-    }
-}
 
 // A record written back.
 fn print_form(f: Form)
@@ -23,21 +17,21 @@ fn print_form(f: Form)
 {
     let mut out = [0u8; 770];
     let n = write_form(&mut out, f);
-    io::write_all(1, &[b' ']);
+    print_character(b' ');
     print_bytes(&out[..n]);
 }
 
 // The line of a case.
 fn print_case(table: &[u8], bytes: &[u8]) {
     io::print_decimal(1, check_table(table) as u64);
-    io::write_all(1, &[b' ']);
+    print_character(b' ');
     let r = read_form(table, bytes);
     io::print_decimal(1, r.refusal as u64);
     if r.refusal == 0 {
         let f = r.form;
         print_form(f);
     }
-    io::write_all(1, &[b'\n']);
+    print_character(b'\n');
 }
 
 // The case at a position, and the position behind it; the end where a case is cut off.
@@ -46,12 +40,12 @@ fn case_at(s: &[u8], at: usize) -> usize
     ensures { λ r. ⌜ at < r ⌝ }
 {
     let len = s.len();
-    let t = s[at] as usize;
+    let t = byte_at(s, at);
     if len - at - 1 < t + 2 {
         return len;
     }
     let k = at + 1 + t;
-    let m = s[k] as usize * 256 + s[k + 1] as usize;
+    let m = byte_at(s, k) * 256 + byte_at(s, k + 1);
     let b = k + 2;
     if len - b < m {
         return len;

@@ -3,6 +3,7 @@ pub mod Readers
 pub mod LetterTests
 pub mod Takers
 pub mod RoundTrip
+pub mod Inside
 pub mod Writes
 pub mod Letters
 pub mod Factors

@@ -1,56 +1,16 @@
 // Runs cases of the value call from standard input. A case is the length of a table (one byte), the table, the length of a record (two bytes), the record,
 // the length of an assignment (one byte), the assignment.
 // For each it writes a line: R and the number of the refusal, or the three numbers.
-ghost use Prim.Native.Nat.{_*_, _^_, _<_};
-ghost use lib.IntN.{natAbs};
+ghost use Prim.Native.Nat.{_<_};
 ghost use lib.ListN.{length};
-ghost use Rattle.evaluation.specs.Vectors.{vecOf, Within};
-use evaluation::Valued;
-use evaluation::value;
-use evaluation::vectors::Vector;
-use integers::is_negative;
-use integers::size;
-
-// A signed number in decimal.
-fn print_number(a: i64)
-    requires { ⌜ natAbs a < 2 ^ 63 ⌝ }
-{
-    if is_negative(a) {
-        io::write_all(1, &[b'-']);
-    }
-    io::print_decimal(1, size(a));
-}
-
-// Three numbers.
-fn print_vector(v: Vector)
-    requires { ⌜ Within (48 * 2 ^ 57) (vecOf v) ⌝ }
-{
-    print_number(v.x);
-    io::write_all(1, &[b' ']);
-    print_number(v.y);
-    io::write_all(1, &[b' ']);
-    print_number(v.z);
-}
+use case_lines::byte_at;
+use case_lines::print_character;
+use case_lines::print_values;
 
 // The line of a case.
 fn print_case(table: &[u8], form: &[u8], assignment: &[u8]) {
-    let r = value(table, form, assignment);
-    match r {
-        Valued::Given(v) => print_vector(v),
-        Valued::Refused(n) => {
-            io::write_all(1, &[b'R']);
-            io::print_decimal(1, n as u64);
-        }
-    }
-    io::write_all(1, &[b'\n']);
-}
-
-// A byte as a number.
-fn byte_at(s: &[u8], i: usize) -> usize
-    requires { ⌜ i < length (now s) ⌝ }
-    ensures { λ r. ⌜ r < 256 ⌝ }
-{
-    s[i] as usize
+    print_values(table, form, assignment);
+    print_character(b'\n');
 }
 
 // The case at a position, and the position behind it; the end where a case is cut off.

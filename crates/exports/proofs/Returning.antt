@@ -1,0 +1,127 @@
+-- What the calls for C return and leave, from the tests that they make. Assumes nothing.
+use mathlib.Core.Path.{_≡_, sym, _∙_}
+use mathlib.Core.List.{List, [], _∷_}
+use Prim.Native.Nat.{ℕ, _≤_, _<_, _^_}
+use native.Mathlib.Omega.{arith}
+use lib.IntN.{ℤ, pos, natAbs, negℤ}
+use lib.ListN.{length, set}
+use borrow.Author.Tests.{le-leb, lt-leb}
+use mir.Syntax.{w64}
+use mir.Val.{toZ}
+use mir.ValLaws.{toZ-pos}
+use Rattle.specification.specs.Results.{Result, refused, given}
+use Rattle.specification.specs.Letters.{testTable}
+use Rattle.specification.specs.Values.{Vec}
+use Rattle.specification.specs.Reduction.{reduceCall}
+use Rattle.specification.specs.Evaluation.{valueCall}
+use Rattle.records.specs.Tested.{testOf}
+use Rattle.evaluation.specs.declared.vectors.Vector.{Vector}
+use Rattle.evaluation.specs.declared.Valued.{Valued}
+use Rattle.evaluation.specs.declared.Valued.the-variants as valued
+use Rattle.evaluation.specs.Vectors.{vecOf}
+use Rattle.evaluation.specs.Answers.{valuedOf}
+use Rattle.reduction.specs.declared.Reduced.{Reduced}
+use Rattle.reduction.specs.declared.Reduced.the-variants.{Written, Refused}
+use Rattle.reduction.specs.Answers.{reducedOf}
+use Rattle.reduction.proofs.Heads.{test-passed, test-refused}
+use Rattle.reduction.proofs.KeptValue.{reduce-keeps-value}
+use Rattle.exports.specs.Returns.{returned, handed, threeInto, answerVec, valueTested, valueReturned, reduceReturned}
+
+-- ════ one number
+
+-- a small number, cast, can be made negative
+pub cast-small : {n : ℕ} → n < 256 → natAbs (toZ w64 n) < 2 ^ 63
+cast-small {n} h = rw (toZ-pos w64 n (omega arith)) (omega arith)
+
+-- and its negative is what a refusal returns
+pub cast-negative : {n : ℕ} {r : ℤ} → n < 256 → r ≡ negℤ (toZ w64 n) → r ≡ returned (refused n)
+unfolding returned
+cast-negative {n} h e = e ∙ rw (toZ-pos w64 n (omega arith))
+
+-- a length, cast, is what is returned
+pub cast-length : {n : ℕ} → n ≤ 770 → toZ w64 n ≡ returned (given n)
+unfolding returned
+cast-length {n} h = toZ-pos w64 n (omega arith)
+
+-- ════ three numbers
+
+-- three stores put the three numbers in front
+pub three-stores : (l : List ℤ) (v : Vector) (x y z : ℤ) → 3 ≤ length l → x ≡ v .x → y ≡ v .y → z ≡ v .z
+    → set (set (set l 0 x) 1 y) 2 z ≡ threeInto (vecOf v) l
+unfolding threeInto vecOf
+three-stores [] v x y z h p q r = absurd (omega arith)
+three-stores (a ∷ []) v x y z h p q r = absurd (omega arith)
+three-stores (a ∷ b ∷ []) v x y z h p q r = absurd (omega arith)
+three-stores (a ∷ b ∷ c ∷ l) v x y z h p q r = rw (p, q, r)
+
+-- ════ the value call
+
+module _ (table form s : List ℕ) (values : List ℤ) where
+  -- a refusal leaves the memory
+  refused-returned : (n : ℕ) (r : ℤ) → r ≡ returned (refused n) → valueTested table form s values ≡ refused n
+      → (r, values) ≡ valueReturned table form s values
+  unfolding valueReturned handed answerVec
+  refused-returned n r p q = rw (p, q)
+
+  -- a value is written
+  given-returned : (v : Vec) (after : List ℤ) → after ≡ threeInto v values → valueTested table form s values ≡ given v
+      → (pos 0, after) ≡ valueReturned table form s values
+  unfolding valueReturned handed answerVec returned
+  given-returned v after p q = rw (p, q)
+
+  module _ (n : ℕ) (e : testOf n ≡ testTable table) where
+    -- 1 comes first
+    pub table-returned : (n ≡ 0 → ⊥) → (r : ℤ) → r ≡ returned (refused n) → (r, values) ≡ valueReturned table form s values
+    unfolding valueTested
+    table-returned h r p = let q : testTable table ≡ refused n = sym e ∙ test-refused n h in refused-returned n r p (rw q)
+
+    module _ (o : n ≡ 0) where
+      -- the table is taken
+      passed : testTable table ≡ given tt
+      passed = sym e ∙ test-passed n o
+
+      -- then 2
+      pub short-returned : length values < 3 → (r : ℤ) → r ≡ returned (refused 2) → (r, values) ≡ valueReturned table form s values
+      unfolding valueTested
+      short-returned h r p = refused-returned 2 r p (rw (passed, lt-leb 3 (length values) h))
+
+      module _ (h : 3 ≤ length values) (a : Valued) (contract : valuedOf a ≡ valueCall table form s) where
+        -- then what the value call says
+        called : valueTested table form s values ≡ valuedOf a
+        unfolding valueTested
+        called = rw (passed, le-leb 3 (length values) h, contract)
+
+        -- a refusal
+        pub value-refused : (m : ℕ) → a ≡ valued.Refused m → (r : ℤ) → r ≡ returned (refused m) → (r, values) ≡ valueReturned table form s values
+        unfolding valuedOf
+        value-refused m g r p = refused-returned m r p (called ∙ rw g)
+
+        -- or three numbers
+        pub value-returned : (v : Vector) → a ≡ valued.Given v → (after : List ℤ) → after ≡ threeInto (vecOf v) values
+            → (pos 0, after) ≡ valueReturned table form s values
+        unfolding valuedOf
+        value-returned v g after p = given-returned (vecOf v) after p (called ∙ rw g)
+
+-- ════ the reduction call
+
+module _ (table expr out after : List ℕ) (a : Reduced) (contract : (reducedOf a, after) ≡ reduceCall table expr out) where
+  -- the answer is returned with the bytes as the call left them
+  answered : (b : Result ℕ) (r : ℤ) → reducedOf a ≡ b → r ≡ returned b → (r, after) ≡ reduceReturned table expr out
+  unfolding reduceReturned handed
+  answered b r p q = rw (← contract, p, q)
+
+  -- a refusal
+  pub reduce-refused : (m : ℕ) → a ≡ Refused m → (r : ℤ) → r ≡ returned (refused m) → (r, after) ≡ reduceReturned table expr out
+  unfolding reducedOf
+  reduce-refused m g r p = answered (refused m) r (rw g) p
+
+  module _ (n : ℕ) (g : a ≡ Written n) where
+    -- a length fits
+    pub reduce-short : n ≤ 770
+    unfolding reducedOf
+    reduce-short = reduce-keeps-value table expr out after a n contract (rw g) .short
+
+    -- and is returned
+    pub reduce-returned : (r : ℤ) → r ≡ returned (given n) → (r, after) ≡ reduceReturned table expr out
+    unfolding reducedOf
+    reduce-returned r p = answered (given n) r (rw g) p

@@ -1,0 +1,44 @@
+-- The calls as C has them: one signed number, and all memory lent, afterwards. Assumes nothing.
+use mathlib.Core.List.{List, _∷_}
+use Prim.Native.Nat.{ℕ}
+use lib.IntN.{ℤ, pos, negℤ}
+use lib.Dec.{leb}
+use lib.ListN.{length, drop}
+use Rattle.specification.specs.Results.{Result, refused, given, _>>_, require}
+use Rattle.specification.specs.Letters.{testTable}
+use Rattle.specification.specs.Values.{Vec}
+use Rattle.specification.specs.Reduction.{reduceCall}
+use Rattle.specification.specs.Evaluation.{valueCall}
+
+-- what is given, or minus the number of the refusal
+unfoldable pub returned : Result ℕ → ℤ
+returned (refused n) = negℤ (pos n)
+returned (given n) = pos n
+
+-- a call's answer: the number returned, and the memory lent, afterwards
+unfoldable pub handed : {A : Type 0} → Result ℕ × List A → ℤ × List A
+handed a = (returned (a .0), a .1)
+
+-- three numbers in front of the memory lent: further ones stand
+unfoldable pub threeInto : Vec → (memory : List ℤ) → List ℤ
+threeInto v memory = v .x ∷ v .y ∷ v .z ∷ drop 3 memory
+
+-- 0 and the three numbers written, or the number, and the memory stands
+unfoldable pub answerVec : Result Vec → (memory : List ℤ) → Result ℕ × List ℤ
+answerVec (refused n) memory = (refused n, memory)
+answerVec (given v) memory = (given 0, threeInto v memory)
+
+-- 1, then 2, then contents
+unfoldable pub valueTested : (table form s : List ℕ) (values : List ℤ) → Result Vec
+valueTested table form s values = do
+  testTable table
+  require (leb 3 (length values)) 2
+  valueCall table form s
+
+-- the value call with memory for its three numbers
+unfoldable pub valueReturned : (table form s : List ℕ) (values : List ℤ) → ℤ × List ℤ
+valueReturned table form s values = handed (answerVec (valueTested table form s values) values)
+
+-- the reduction call
+unfoldable pub reduceReturned : (table expr out : List ℕ) → ℤ × List ℕ
+reduceReturned table expr out = handed (reduceCall table expr out)

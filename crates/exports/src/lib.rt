@@ -1,0 +1,81 @@
+// The calls for C: each answers with one signed number, at least 0 where something is given, minus the number of the refusal otherwise.
+ghost use mathlib.Core.Path.{_≡_};
+ghost use Prim.Native.Nat.{_≤_};
+ghost use lib.ListN.{length};
+ghost use Rattle.specification.specs.Results.{given, refused};
+ghost use Rattle.exports.specs.Returns.{returned, threeInto, valueReturned, reduceReturned};
+ghost use Rattle.evaluation.specs.Vectors.{vecOf};
+use evaluation::Valued;
+use evaluation::value;
+use evaluation::vectors::Vector;
+use integers::neg;
+use records::table::check_table;
+use reduction::Reduced;
+use reduction::reduce;
+
+// A refusal: minus its number.
+fn refusal(n: u8) -> i64
+    ensures { λ r. ⌜ r ≡ returned (refused n) ⌝ }
+{
+    neg(n as i64)
+}
+
+// Three numbers in front of the memory lent.
+fn put(values: &mut [i64], v: Vector)
+    requires { ⌜ 3 ≤ length (now values) ⌝ }
+    ensures { λ r. ⌜ now (values .exit) ≡ threeInto (vecOf v) (now (values .entry)) ⌝ }
+{
+    let x = v.x;
+    let y = v.y;
+    let z = v.z;
+    values[0] = x;
+    values[1] = y;
+    values[2] = z;
+}
+
+// The value of a form under an assignment, written into the first three of the numbers lent: 0, or minus 1, 2, 11, 5, 6 or 12.
+#[no_mangle]
+pub extern "C" fn kalzunbi_value(
+    table: &[u8],
+    form: &[u8],
+    assignment: &[u8],
+    values: &mut [i64],
+) -> i64
+    ensures { λ r. ⌜ (r, now (values .exit)) ≡ valueReturned (now (table .entry)) (now (form .entry)) (now (assignment .entry)) (now (values .entry)) ⌝ }
+{
+    let n = check_table(table);
+    if n != 0 {
+        return refusal(n);
+    }
+    if values.len() < 3 {
+        return refusal(2);
+    }
+    let r = value(table, form, assignment);
+    match r {
+        Valued::Given(v) => {
+            put(values, v);
+            0
+        }
+        Valued::Refused(m) => refusal(m),
+    }
+}
+
+// A length that is returned.
+fn written(n: usize) -> i64
+    requires { ⌜ n ≤ 770 ⌝ }
+    ensures { λ r. ⌜ r ≡ returned (given n) ⌝ }
+{
+    n as i64
+}
+
+// The form of an expression, its record written into the bytes lent: its length, or minus 1, 2, then 3, 4 or 5, then 6, 7, 8, 9 or 10.
+#[no_mangle]
+pub extern "C" fn kalzunbi_reduce(table: &[u8], expression: &[u8], out: &mut [u8]) -> i64
+    ensures { λ r. ⌜ (r, now (out .exit)) ≡ reduceReturned (now (table .entry)) (now (expression .entry)) (now (out .entry)) ⌝ }
+{
+    let r = reduce(table, expression, out);
+    match r {
+        Reduced::Written(n) => written(n),
+        Reduced::Refused(m) => refusal(m),
+    }
+}

@@ -1,0 +1,103 @@
+-- The line that is printed, case by case. Assumes nothing.
+use mathlib.Core.Path.{_≡_, refl, ap, sym, subst, _∙_}
+use mathlib.Core.Bool.{Bool, true, false}
+use mathlib.Core.List.{List}
+use Prim.Native.Nat.{ℕ, _+_, _-_, _≤_, _<_}
+use native.Mathlib.Omega.{arith}
+use borrow.Author.Tests.{le-leb, lt-leb}
+use lib.Dec.{T, leb}
+use lib.ListN.{length, getD, take, drop, length-drop}
+use lib.Seq.{take-all}
+use Rattle.specification.specs.Results.{Result, Test, refused, given, _>>_, require}
+use Rattle.specification.specs.Letters.{goodTable, testTable}
+use Rattle.specification.specs.Terms as S
+use Rattle.specification.specs.Reduction.{reduced}
+use Rattle.specification.specs.Printing.{printTested, printResult, printCall}
+use Rattle.theory.specs.Tests.{refused≢given}
+use Rattle.theory.specs.Reduction.Work.{reduction-keeps-value}
+use Rattle.terms.specs.Abstraction.{formOf}
+use Rattle.terms.specs.declared.types.Form.{Form}
+use Rattle.gathering.specs.declared.Closed.{Closed}
+use Rattle.records.specs.Tested.{testOf}
+use Rattle.operators.specs.Products.{WorkedAs}
+use Rattle.operators.proofs.Worked.{worked-given, worked-refused}
+use Rattle.reduction.proofs.Heads.{test-passed, test-refused}
+use Rattle.printing.specs.Printable.{Printable}
+use Rattle.printing.specs.Text.{TextWritten}
+use Rattle.printing.proofs.Named.{printable}
+use Rattle.printer_call.specs.Lines.{printReduced}
+
+-- the same text in other words
+written-as : (before after : List ℕ) (n : ℕ) (x y : List ℕ) → x ≡ y → TextWritten before after n x → TextWritten before after n y
+written-as before after n x y e w = subst (TextWritten before after n) e w
+
+good : (table : List ℕ) → testTable table ≡ given tt → T (goodTable table)
+unfolding testTable
+good table e = go (goodTable table) e
+  where
+    go : (b : Bool) → _≡_ {A = Test} (require b 1) (given tt) → T b
+    go true e = tt
+    go false e = absurd (refused≢given e)
+
+-- ════ a table and an expression
+
+-- the form of an expression can be printed
+pub form-printable : (table expr : List ℕ) (c : ℕ) (r : Closed) → testOf c ≡ testTable table → c ≡ 0 → WorkedAs (reduced table expr) r → r .refusal ≡ 0 → Printable (r .form)
+form-printable table expr c r h z worked e =
+    let t : T (goodTable table) = good table (sym h ∙ test-passed c z) in
+    printable table t (r .form) (worked .valid e) (reduction-keeps-value table expr (formOf (r .form)) t (worked-given (reduced table expr) r worked e) .lettersTested)
+
+module _ (table expr : List ℕ) (c : ℕ) (h : testOf c ≡ testTable table) (before after : List ℕ) (m : ℕ) where
+  -- the table is refused
+  pub table-refused : (c ≡ 0 → ⊥) → TextWritten before after m (printResult (refused c)) → TextWritten before after m (printReduced table expr)
+  unfolding printReduced
+  table-refused n w = written-as before after m _ _ (ap (λ (t : Test). printResult (t >> reduced table expr)) (sym (test-refused c n) ∙ h)) w
+
+  module _ (z : c ≡ 0) (r : Closed) (worked : WorkedAs (reduced table expr) r) where
+    past-table : printReduced table expr ≡ printResult (reduced table expr)
+    unfolding printReduced
+    past-table = ap (λ (t : Test). printResult (t >> reduced table expr)) (sym h ∙ test-passed c z)
+
+    -- the expression is refused
+    pub expression-refused : (r .refusal ≡ 0 → ⊥) → TextWritten before after m (printResult (refused (r .refusal))) → TextWritten before after m (printReduced table expr)
+    expression-refused n w = written-as before after m _ _ (ap printResult (sym (worked-refused (reduced table expr) r worked n)) ∙ sym past-table) w
+
+    -- its form is printed
+    pub form-printed : r .refusal ≡ 0 → TextWritten before after m (printResult (given (formOf (r .form)))) → TextWritten before after m (printReduced table expr)
+    form-printed e w = written-as before after m _ _ (ap printResult (sym (worked-given (reduced table expr) r worked e)) ∙ sym past-table) w
+
+-- ════ all that was read
+
+module _ (s : List ℕ) where
+  none-read : length s ≡ 0 → printCall s ≡ printResult (refused 1)
+  unfolding printCall printTested
+  none-read e = let h : length s < 1 = omega arith in rw (lt-leb 1 (length s) h)
+
+  cut-read : (length s ≡ 0 → ⊥) → length s < getD s 0 0 + 1 → printCall s ≡ printResult (refused 1)
+  unfolding printCall printTested
+  cut-read n l = let h : 1 ≤ length s = omega arith in rw (le-leb 1 (length s) h, lt-leb (getD s 0 0 + 1) (length s) l)
+
+  -- a table stands there whole
+  pub whole-read : getD s 0 0 + 1 ≤ length s → printCall s ≡ printReduced (take (getD s 0 0) (drop 1 s)) (drop (getD s 0 0 + 1) s)
+  unfolding printCall printTested printReduced
+  whole-read l = let h : 1 ≤ length s = omega arith in rw (le-leb 1 (length s) h, le-leb (getD s 0 0 + 1) (length s) l)
+
+  module _ (before after : List ℕ) (m : ℕ) where
+    -- the length byte is missing
+    pub nothing-there : length s ≡ 0 → TextWritten before after m (printResult (refused 1)) → TextWritten before after m (printCall s)
+    nothing-there e w = written-as before after m _ _ (sym (none-read e)) w
+
+    -- the table is cut
+    pub table-cut : (length s ≡ 0 → ⊥) → length s < getD s 0 0 + 1 → TextWritten before after m (printResult (refused 1)) → TextWritten before after m (printCall s)
+    table-cut n l w = written-as before after m _ _ (sym (cut-read n l)) w
+
+    -- the table and the expression as parts of it
+    pub parts-printed : getD s 0 0 + 1 ≤ length s
+        → TextWritten before after m (printReduced (take (getD s 0 0 + 1 - 1) (drop 1 s)) (take (length s - (getD s 0 0 + 1)) (drop (getD s 0 0 + 1) s))) → TextWritten before after m (printCall s)
+    parts-printed l w = written-as before after m _ _ (sym (whole-read l ∙ (λ i. printReduced (take (e i) (drop 1 s)) (rest i)))) w
+      where
+        e : getD s 0 0 ≡ getD s 0 0 + 1 - 1
+        e = omega arith
+
+        rest : drop (getD s 0 0 + 1) s ≡ take (length s - (getD s 0 0 + 1)) (drop (getD s 0 0 + 1) s)
+        rest = let n : length (drop (getD s 0 0 + 1) s) ≤ length s - (getD s 0 0 + 1) = omega (arith, length-drop (getD s 0 0 + 1) s) in sym (take-all _ (drop (getD s 0 0 + 1) s) n)

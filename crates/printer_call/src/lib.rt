@@ -1,0 +1,44 @@
+// What the printer writes for what it read: the form in letters, or R and the number of the refusal, on a line.
+ghost use Prim.Native.Nat.{_≤_};
+ghost use lib.ListN.{length};
+ghost use Rattle.specification.specs.Printing.{printCall};
+ghost use Rattle.printing.specs.Text.{TextWritten};
+ghost use Rattle.printer_call.specs.Lines.{printReduced};
+use printing::print_line;
+use printing::print_refusal;
+use records::table::check_table;
+use reduction::form_of;
+
+// The line of a table and an expression.
+fn print_form(table: &[u8], expression: &[u8], out: &mut [u8]) -> usize
+    requires { ⌜ 1393 ≤ length (now out) ⌝ }
+    ensures { λ r. ⌜ TextWritten (now (out .entry)) (now (out .exit)) r (printReduced (now (table .entry)) (now (expression .entry))) ⌝ }
+{
+    let c = check_table(table);
+    if c != 0 {
+        return print_refusal(out, c);
+    }
+    let w = form_of(table, expression);
+    let n = w.refusal;
+    if n != 0 {
+        return print_refusal(out, n);
+    }
+    let f = w.form;
+    print_line(out, f)
+}
+
+// The line of all that stands in the input.
+pub fn print(s: &[u8], out: &mut [u8]) -> usize
+    requires { ⌜ 1393 ≤ length (now out) ⌝ }
+    ensures { λ r. ⌜ TextWritten (now (out .entry)) (now (out .exit)) r (printCall (now (s .entry))) ⌝ }
+{
+    let n = s.len();
+    if n == 0 {
+        return print_refusal(out, 1);
+    }
+    let k = s[0] as usize + 1;
+    if n < k {
+        return print_refusal(out, 1);
+    }
+    print_form(&s[1..k], &s[k..n], out)
+}

@@ -1,0 +1,84 @@
+/* Kalzunbi for C: vector algebra in letters. C99, x86-64 Linux; link libexports.a (rt staticlib exports), and nothing beside the C library's memcpy.
+ *
+ * A call answers with one signed number: 0 or more where it gives something, minus the number of the refusal otherwise.
+ *
+ *    1  a table of 0 or over 24 bytes, or a byte above 1                                    the caller
+ *    2  memory lent that is shorter than required                                           the caller
+ *   12  an assignment not 3 bytes a letter, out of -6 to 6, or not 0 where it has to be     the caller
+ *    3  an expression over 512 bytes, or more than 16 deep                                  the author of the expression
+ *    4  an expression that is torn: a byte missing, left over or unknown                    the author of the expression
+ *    5  a letter that is not in the table                                                   who wrote the expression or the form
+ *    6  kinds do not fit; a letter of the wrong kind                                        who wrote the expression or the form
+ *    7  a product of more than 48 pairs of terms                                            the author of the expression
+ *    8  a pair with over 6 vector letters or over 2 scalar letters                          the author of the expression
+ *    9  a coefficient beyond 2147483647 in size                                             the author of the expression
+ *   10  more than 48 terms                                                                  the author of the expression
+ *   11  bytes that are not the one record of a form                                         the sender of the form
+ *
+ * 1 comes first, then 2, then contents. A refused call leaves all memory as it was.
+ *
+ * What the caller owes:
+ * - A pointer and the length behind it belong together: so many elements (not bytes) from there on are one object, readable, and writable where the
+ *   pointer is not to const. No pointer is NULL, one with the length 0 neither. Any length may be passed.
+ * - Memory that a call writes does not overlap any other memory of that call. Memory that it only reads may.
+ * - Bytes need no alignment; an int64_t has its own, 8.
+ * - Memory is lent for the time of the call. Nothing is kept: there is no state, no heap and no file, so threads may call at the same time as long as
+ *   none writes what another reads.
+ * - The calling thread has 32 kB of its stack left for a value, 512 kB for a reduction.
+ *
+ *     #include "kalzunbi.h"
+ *
+ *     uint8_t table[3] = {1, 1, 1};                                   three vectors a, b, c
+ *     uint8_t expression[8] = {8, 1, 0, 8, 1, 1, 1, 2};               a ^ (b ^ c)
+ *     uint8_t form[KALZUNBI_FORM];
+ *     int64_t length = kalzunbi_reduce(table, 3, expression, 8, form, sizeof form);
+ *     if (length < 0) { report(-length); return; }                    here 16: (a.c)*b-(a.b)*c
+ *
+ *     uint8_t assignment[9] = {1, 0, 0, 0, 1, 0, 1, 1, (uint8_t)-6};  a = (1, 0, 0), b = (0, 1, 0), c = (1, 1, -6)
+ *     int64_t values[KALZUNBI_VALUES];
+ *     int64_t refused = kalzunbi_value(table, 3, form, (size_t)length, assignment, 9, values, KALZUNBI_VALUES);
+ *                                                                     here 0, and values is 0, 1, 0
+ */
+#ifndef KALZUNBI_H
+#define KALZUNBI_H
+
+#include <stddef.h>
+#include <stdint.h>
+
+#ifdef __cplusplus
+extern "C" {
+#endif
+
+/* bytes that any form's record fits into, and the least that a call which gives a form takes */
+#define KALZUNBI_FORM 770
+
+/* numbers that a value is, and the least that the value call takes */
+#define KALZUNBI_VALUES 3
+
+/* The value of a form under an assignment.
+ *
+ * table: one byte a letter, 0 scalar, 1 vector; 1 to 24 of them.
+ * form: the record of a form, whole, at most 770 bytes.
+ * assignment: three signed bytes from -6 to 6 a letter of the table, in its order, used by the form or not; a scalar letter's second and third are 0.
+ * values: at least 3 numbers. The first 3 become the value; of a scalar form the last two of them are 0. Further ones stand.
+ *
+ * Returns 0, or -1, -2, -11, then -5 or -6, then -12; the first that applies in this order. */
+int64_t kalzunbi_value(const uint8_t *table, size_t table_length, const uint8_t *form, size_t form_length, const uint8_t *assignment,
+                       size_t assignment_length, int64_t *values, size_t values_length);
+
+/* The form of an expression.
+ *
+ * table: as above.
+ * expression: prefix order. 01 n: letter n. 02 and four bytes: a constant, signed, most significant byte first. 03 sum, 04 difference, 05 negation,
+ *   06 times, 07 dot, 08 wedge, each with its operands; 09 triple with three. At most 512 bytes, nested at most 16 deep.
+ * out: at least 770 bytes. The form's record becomes their beginning; the bytes after it stand.
+ *
+ * Returns the length of the record, or -1, -2, then -3, -4 or -5 from reading, then -6, -7, -8, -9 or -10 from working. */
+int64_t kalzunbi_reduce(const uint8_t *table, size_t table_length, const uint8_t *expression, size_t expression_length, uint8_t *out,
+                        size_t out_length);
+
+#ifdef __cplusplus
+}
+#endif
+
+#endif

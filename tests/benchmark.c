@@ -1,0 +1,91 @@
+/* Nanoseconds a call, through the calls for C: one line for each measure of tests/benchmark.gp, in its order. */
+#define _POSIX_C_SOURCE 199309L
+#include "kalzunbi.h"
+
+#include <stdio.h>
+#include <stdlib.h>
+#include <time.h>
+
+/* a to l are vectors, m to x scalars */
+static uint8_t table[24], assignment[72], form[KALZUNBI_FORM], out[KALZUNBI_FORM];
+static int64_t values[KALZUNBI_VALUES];
+
+static double now(void)
+{
+    struct timespec t;
+    clock_gettime(CLOCK_MONOTONIC, &t);
+    return 1e9 * (double)t.tv_sec + (double)t.tv_nsec;
+}
+
+static void report(const char *what, int64_t returned, int64_t expected, double since, int count)
+{
+    if (returned != expected) {
+        printf("%s: %lld is returned\n", what, (long long)returned);
+        exit(1);
+    }
+    printf("%-60s %10.0f\n", what, (now() - since) / count);
+}
+
+static void measure_reduction(const char *what, const uint8_t *expression, size_t length, int64_t expected, int count)
+{
+    int64_t returned = 0;
+    double since = now();
+    for (int i = 0; i < count; i++)
+        returned = kalzunbi_reduce(table, 24, expression, length, out, KALZUNBI_FORM);
+    report(what, returned, expected, since, count);
+}
+
+/* the sum of so many letters, from the first on, each added to the sum of those before */
+static size_t sum(uint8_t *to, int first, int count)
+{
+    size_t n = 0;
+    for (int i = 1; i < count; i++)
+        to[n++] = 3;
+    for (int i = 0; i < count; i++) {
+        to[n++] = 1;
+        to[n++] = (uint8_t)(first + i);
+    }
+    return n;
+}
+
+/* 48 terms -35mn(a.i)(def)*v, i from a to f, v from c to j: each has 6 vector letters and 2 scalar letters, and 16 bytes */
+static size_t full_form(uint8_t *to)
+{
+    size_t n = 0;
+    to[n++] = 1;
+    to[n++] = 48;
+    for (int v = 2; v < 10; v++)
+        for (int i = 0; i < 6; i++) {
+            const uint8_t term[16] = {0x1F, 255, 255, 255, 221, 2, 12, 13, 1, 0, (uint8_t)i, 1, 3, 4, 5, (uint8_t)v};
+            for (int k = 0; k < 16; k++)
+                to[n++] = term[k];
+        }
+    return n;
+}
+
+int main(void)
+{
+    for (int i = 0; i < 24; i++) {
+        table[i] = i < 12;
+        for (int k = 0; k < 3; k++)
+            assignment[3 * i + k] = i < 12 || k == 0 ? (uint8_t)((5 * i + 3 * k) % 13 - 6) : 0;
+    }
+
+    size_t length = full_form(form);
+    int64_t returned = 0;
+    int count = 100000;
+    double since = now();
+    for (int i = 0; i < count; i++)
+        returned = kalzunbi_value(table, 24, form, length, assignment, 72, values, KALZUNBI_VALUES);
+    report("value of a form of 48 terms with 8 letters", returned, 0, since, count);
+
+    const uint8_t wedges[8] = {8, 1, 0, 8, 1, 1, 1, 2};
+    measure_reduction("reduction of a^(b^c)", wedges, 8, 16, 1000000);
+
+    uint8_t product[64] = {6};
+    length = 1;
+    length += sum(product + length, 12, 6);
+    length += sum(product + length, 0, 8);
+    measure_reduction("reduction of 6 scalar letters times 8 vector letters", product, length, 194, 10000);
+    return 0;
+}

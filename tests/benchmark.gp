@@ -1,0 +1,17 @@
+\\ Nanoseconds for the same in PARI/GP: the form's value by components, and the expressions expanded as polynomials in components.
+dot(a, b) = a[1] * b[1] + a[2] * b[2] + a[3] * b[3];
+wedge(a, b) = [a[2] * b[3] - a[3] * b[2], a[3] * b[1] - a[1] * b[3], a[1] * b[2] - a[2] * b[1]];
+measure(f, count) = { my(since = getwalltime()); for(i = 1, count, f()); printf("%10.0f\n", (getwalltime() - since) * 1e6 / count) };
+
+\\ numbers for the letters a to n
+number(i, k) = (5 * i + 3 * k) % 13 - 6;
+letter = vector(12, i, vector(3, k, number(i - 1, k - 1)));
+m = number(12, 0); n = number(13, 0);
+value() = sum(v = 3, 10, sum(i = 1, 6, -35 * m * n * dot(letter[1], letter[i]) * dot(wedge(letter[4], letter[5]), letter[6]) * letter[v]));
+measure(value, 10000);
+
+\\ a variable for each component
+x = vector(8, i, vector(3, k, eval(Str("v", i, "_", k))));
+s = vector(6, i, eval(Str("s", i)));
+measure(() -> wedge(x[1], wedge(x[2], x[3])), 100000);
+measure(() -> vecsum(s) * sum(i = 1, 8, x[i]), 10000);

@@ -1,0 +1,230 @@
+/* The calls from C: rows of bytes in hexadecimal, and what has to come back. All memory, lent or around what is lent, is compared after each call. */
+#include "kalzunbi.h"
+
+#include <inttypes.h>
+#include <stdio.h>
+#include <string.h>
+
+#define MARGIN 16
+#define ROOM 1024
+
+/* a to e are vectors, f and g scalars, with numbers from -6 to 6 */
+#define TABLE "01010101010000"
+#define ASSIGNED "01fe03fc05fa0200ff06fd01fb0402fa0000030000"
+/* a to d are vectors, e to g scalars; and 12 of each */
+#define SMALL "01010101000000"
+#define WIDE "010101010101010101010101000000000000000000000000"
+#define Z8 "0000000000000000"
+#define Z64 Z8 Z8 Z8 Z8 Z8 Z8 Z8 Z8
+#define Z512 Z64 Z64 Z64 Z64 Z64 Z64 Z64 Z64
+/* the products of six scalar letters with the vector letter v */
+#define SIX(v) "12010c" v "12010d" v "12010e" v "12010f" v "120110" v "120111" v
+
+static int calls, failures;
+
+static void check(int holds, const char *what, int row)
+{
+    if (!holds) {
+        printf("%s %d: not as expected\n", what, row);
+        failures++;
+    }
+}
+
+/* bytes in the middle of memory whose other bytes are known */
+struct bytes {
+    uint8_t memory[MARGIN + ROOM + MARGIN];
+    size_t length;
+};
+
+static uint8_t *at(struct bytes *b)
+{
+    return b->memory + MARGIN;
+}
+
+static struct bytes from(const char *hex)
+{
+    struct bytes b;
+    unsigned byte;
+    memset(b.memory, 0xA5, sizeof b.memory);
+    for (b.length = 0; sscanf(hex + 2 * b.length, "%2x", &byte) == 1; b.length++)
+        b.memory[MARGIN + b.length] = (uint8_t)byte;
+    return b;
+}
+
+static int same(const struct bytes *a, const struct bytes *b)
+{
+    return a->length == b->length && memcmp(a->memory, b->memory, sizeof a->memory) == 0;
+}
+
+/* ---- the value call */
+
+struct value_row {
+    const char *table, *form, *assignment;
+    size_t lent;
+    int64_t returned, value[3];
+};
+
+static const struct value_row value_rows[] = {
+    /* document 01's example, -2(a.b)*(c^d) */
+    {"01010101", "010125fffffffe0100010203", "01fe03fc05fa0200ff06fd01", 3, 0, {-192, -512, -384}},
+    {"01010101", "010125fffffffe0100010203", "01fe03fc05fa0200ff06fd01", 8, 0, {-192, -512, -384}},
+    /* negative coefficients */
+    {TABLE, "000101ffffffff", ASSIGNED, 3, 0, {-1, 0, 0}},
+    {TABLE, "00010180000001", ASSIGNED, 4, 0, {-2147483647, 0, 0}},
+    {TABLE, "000103fffffffd0105", ASSIGNED, 3, 0, {18, 0, 0}},
+    {TABLE, "000103fffffff9020506", ASSIGNED, 3, 0, {126, 0, 0}},
+    {TABLE, "000105ffffffff010001", ASSIGNED, 3, 0, {32, 0, 0}},
+    {TABLE, "000109fffffffe01000102", ASSIGNED, 3, 0, {6, 0, 0}},
+    {TABLE, "010111fffffffb03", ASSIGNED, 3, 0, {-30, 15, -5}},
+    {TABLE, "010121ffffffff0001", ASSIGNED, 5, 0, {3, 6, 3}},
+    {TABLE, "010125fffffffe0100010203", ASSIGNED, 3, 0, {-192, -512, -384}},
+    {TABLE, "01011bfffffff701060101020304", ASSIGNED, 3, 0, {1080, -864, -432}},
+    {TABLE, "010215fffffffc0100000121ffffffff0002", ASSIGNED, 3, 0, {222, -287, 332}},
+    {TABLE, "0001078000000102050503000301040202", ASSIGNED, 3, 0, {INT64_C(-162349763713200), 0, 0}},
+    {TABLE, "010227800000010205060200010203000429fffffff8010001040104", ASSIGNED, 3, 0,
+     {INT64_C(217703302202352), INT64_C(231309758590224), INT64_C(81638738325432)}},
+    /* empty forms, and a letter */
+    {TABLE, "0000", ASSIGNED, 3, 0, {0, 0, 0}},
+    {TABLE, "0100", ASSIGNED, 3, 0, {0, 0, 0}},
+    {"01", "01011000", "06fa00", 3, 0, {6, -6, 0}},
+    /* 1, before all others */
+    {"", "0000", "", 3, -1, {0}},
+    {"02", "0000", "000000", 3, -1, {0}},
+    {"00000000000000000000000000000000000000000000000000", "0000", "", 3, -1, {0}},
+    {"0102", "", "07", 0, -1, {0}},
+    /* 2, before contents */
+    {TABLE, "0000", ASSIGNED, 2, -2, {0}},
+    {TABLE, "0000", ASSIGNED, 0, -2, {0}},
+    {TABLE, "", "07", 2, -2, {0}},
+    /* 11, before letters and the assignment: no bytes, a kind, a count, a coefficient of 0, of 1, beyond, letters out of order, bytes left over */
+    {TABLE, "", ASSIGNED, 3, -11, {0}},
+    {TABLE, "0200", ASSIGNED, 3, -11, {0}},
+    {TABLE, "0001", ASSIGNED, 3, -11, {0}},
+    {TABLE, "00010100000000", ASSIGNED, 3, -11, {0}},
+    {TABLE, "00010100000001", ASSIGNED, 3, -11, {0}},
+    {TABLE, "00010180000000", ASSIGNED, 3, -11, {0}},
+    {TABLE, "000104010100", ASSIGNED, 3, -11, {0}},
+    {TABLE, "00010401010009", "07", 3, -11, {0}},
+    /* 5 and 6, before the assignment */
+    {TABLE, "0001020107", ASSIGNED, 3, -5, {0}},
+    {TABLE, "0001020107", "07", 3, -5, {0}},
+    {TABLE, "0001020100", ASSIGNED, 3, -6, {0}},
+    {TABLE, "01011005", "07", 3, -6, {0}},
+    /* 12: the length, a number, a scalar letter's second and third */
+    {TABLE, "0000", "", 3, -12, {0}},
+    {"01", "0000", "0000000000", 3, -12, {0}},
+    {"01", "0000", "000700", 3, -12, {0}},
+    {"01", "0000", "0000f9", 3, -12, {0}},
+    {"00", "0000", "060100", 3, -12, {0}},
+    {"00", "0000", "0600fa", 3, -12, {0}},
+};
+
+static void value_calls(void)
+{
+    for (size_t i = 0; i < sizeof value_rows / sizeof *value_rows; i++) {
+        const struct value_row *row = &value_rows[i];
+        struct bytes table = from(row->table), form = from(row->form), assignment = from(row->assignment);
+        struct bytes table_before = table, form_before = form, assignment_before = assignment;
+        int64_t values[16], expected[16];
+        for (int k = 0; k < 16; k++)
+            values[k] = expected[k] = INT64_C(-1234567890123456789) + k;
+        if (row->returned == 0)
+            memcpy(expected + 4, row->value, sizeof row->value);
+        int64_t returned = kalzunbi_value(at(&table), table.length, at(&form), form.length, at(&assignment), assignment.length, values + 4, row->lent);
+        calls++;
+        check(returned == row->returned, "value: what is returned, row", (int)i);
+        check(memcmp(values, expected, sizeof values) == 0, "value: the numbers lent, row", (int)i);
+        check(same(&table, &table_before) && same(&form, &form_before) && same(&assignment, &assignment_before), "value: memory, row", (int)i);
+    }
+}
+
+/* ---- the reduction call */
+
+struct reduce_row {
+    const char *table, *expression;
+    size_t lent;
+    int64_t refused;
+    const char *record;
+};
+
+static const struct reduce_row reduce_rows[] = {
+    /* document 01's lines to try */
+    {SMALL, "0801010100", 770, 0, "010121ffffffff0001"},
+    {SMALL, "0801000100", 770, 0, "0100"},
+    {SMALL, "0801000801010102", 770, 0, "0102140100020115ffffffff01000102"},
+    {SMALL, "0303080100080101010208010108010201000801020801000101", 770, 0, "0100"},
+    {SMALL, "0407080801000101080101010208010201000607010008010101020701000801010102", 770, 0, "0000"},
+    {SMALL, "0303070801010102080100010307080102010008010101030708010001010801020103", 770, 0, "0000"},
+    {SMALL, "03030308080101010208010001030808010201000801010103080801000101080102010306020000000206090100010101020103", 770, 0,
+     "010418010102030019ffffffff010002030118010001030219ffffffff0100010203"},
+    {SMALL, "06020000b504020000b504", 770, 0, "0001017ffea810"},
+    {SMALL, "0602ffff4afc020000b504", 770, 0, "000101800157f0"},
+    {SMALL, "06020000b505020000b505", 770, -9, ""},
+    {WIDE, "060303010c03010d010e03010f03011001110303030100010103010201030303010401050301060107", 770, 0,
+     "0130" SIX("00") SIX("01") SIX("02") SIX("03") SIX("04") SIX("05") SIX("06") SIX("07")},
+    {WIDE, "060303010c03010d010e0303010f011003011101120303010003010101020303010301040301050106", 770, -7, ""},
+    {SMALL, "0606070100010007010001000701000100", 770, 0, "00010403000000000000"},
+    {SMALL, "0606060701000100070100010007010001000100", 770, -8, ""},
+    /* the printer's example, and the record's */
+    {"010101", "0801000801010102", 1000, 0, "0102140100020115ffffffff01000102"},
+    {SMALL, "0602fffffffe0607010001010801020103", 1024, 0, "010125fffffffe0100010203"},
+    /* constants, a negation, nesting of 16 */
+    {SMALL, "0200000000", 770, 0, "0000"},
+    {SMALL, "0200000001", 770, 0, "000100"},
+    {SMALL, "0506020000000309010201010100", 770, 0, "0001090000000301000102"},
+    {SMALL, "0505050505050505050505050505050100", 770, 0, "010111ffffffff00"},
+    /* 1, then 2, before contents */
+    {"", "0100", 770, -1, ""},
+    {"02", "0100", 0, -1, ""},
+    {SMALL, "0100", 769, -2, ""},
+    {SMALL, "00", 0, -2, ""},
+    /* 3 */
+    {SMALL, Z512 "00", 770, -3, ""},
+    {SMALL, "050505050505050505050505050505050100", 770, -3, ""},
+    /* 4: no bytes, a letter or a constant torn, an unknown token, an operand missing, bytes left over */
+    {SMALL, "", 770, -4, ""},
+    {SMALL, "01", 770, -4, ""},
+    {SMALL, "02000000", 770, -4, ""},
+    {SMALL, "00", 770, -4, ""},
+    {SMALL, "0a", 770, -4, ""},
+    {SMALL, "030100", 770, -4, ""},
+    {SMALL, "01000100", 770, -4, ""},
+    {SMALL, Z512, 770, -4, ""},
+    /* 5 */
+    {SMALL, "0107", 770, -5, ""},
+    {SMALL, "03010001ff", 770, -5, ""},
+    /* 6: a sum, a product of vectors, a dot, a wedge, a triple */
+    {SMALL, "0301000104", 770, -6, ""},
+    {SMALL, "0601000101", 770, -6, ""},
+    {SMALL, "0701000104", 770, -6, ""},
+    {SMALL, "0801040100", 770, -6, ""},
+    {SMALL, "09010001010104", 770, -6, ""},
+    /* 8: three scalar letters; 9: a constant, a sum; 10 */
+    {SMALL, "0606010401050106", 770, -8, ""},
+    {SMALL, "0280000000", 770, -9, ""},
+    {SMALL, "03027fffffff0200000001", 770, -9, ""},
+    {WIDE, "03060303010c03010d010e03010f030110011103030301000101030102010303030104010503010601070100", 770, -10, ""},
+};
+
+static void reduce_calls(void)
+{
+    for (size_t i = 0; i < sizeof reduce_rows / sizeof *reduce_rows; i++) {
+        const struct reduce_row *row = &reduce_rows[i];
+        struct bytes table = from(row->table), expression = from(row->expression), record = from(row->record), out = from("");
+        struct bytes table_before = table, expression_before = expression;
+        int64_t returned = kalzunbi_reduce(at(&table), table.length, at(&expression), expression.length, at(&out), row->lent);
+        calls++;
+        out.length = record.length;
+        check(returned == (row->refused < 0 ? row->refused : (int64_t)record.length), "reduce: what is returned, row", (int)i);
+        check(same(&out, &record), "reduce: the bytes lent, row", (int)i);
+        check(same(&table, &table_before) && same(&expression, &expression_before), "reduce: memory, row", (int)i);
+    }
+}
+
+int main(void)
+{
+    value_calls();
+    reduce_calls();
+    printf("%d calls, %d differences\n", calls, failures);
+    return failures != 0;
+}

@@ -1,0 +1,167 @@
+#!/usr/bin/env python3
+"""The calls for C on random and damaged inputs, against the unrelated programs value_cases.py and reduction_cases.py.
+
+compare.py [COUNT [SEED]]: COUNT inputs for each call (10000). What is returned and all memory, lent or around what is lent, is compared.
+A form that is given is handed on to the value call, whose numbers must be those of the expression by components.
+"""
+import collections
+import ctypes
+import pathlib
+import random
+import subprocess
+import sys
+
+import reduction_cases as expressions
+import value_cases as forms
+
+HOME = pathlib.Path(__file__).resolve().parent.parent
+MARGIN = 16
+
+
+# ════ the library
+
+def load():
+    made, shared = HOME / "target" / "staticlib" / "libexports.a", HOME / "target" / "libkalzunbi.so"
+    subprocess.run(["rt", "staticlib", "exports"], cwd=HOME, check=True, stdout=subprocess.DEVNULL, stderr=subprocess.DEVNULL)
+    subprocess.run(["gcc", "-shared", "-o", shared, "-Wl,--whole-archive", made, "-Wl,--no-whole-archive"], check=True)
+    library = ctypes.CDLL(str(shared))
+    for call in (library.kalzunbi_value, library.kalzunbi_reduce):
+        call.restype = ctypes.c_int64
+    return library
+
+
+class Lent:
+    """Elements in the middle of memory whose other elements are known."""
+
+    def __init__(self, element, elements):
+        known = [element(7 * i + 1).value for i in range(2 * MARGIN)]
+        self.size = ctypes.sizeof(element)
+        self.length = len(elements)
+        self.memory = (element * (len(elements) + 2 * MARGIN))(*known[:MARGIN], *elements, *known[MARGIN:])
+        self.before = list(self.memory)
+
+    def passed(self):
+        return ctypes.byref(self.memory, MARGIN * self.size), ctypes.c_size_t(self.length)
+
+    def stands_but_for(self, elements=()):
+        end = MARGIN + len(elements)
+        return list(self.memory) == self.before[:MARGIN] + list(elements) + self.before[end:]
+
+
+def call(function, sources, target):
+    """What is returned; the sources must stand."""
+    lent = [Lent(ctypes.c_uint8, s) for s in sources]
+    returned = function(*(x for l in lent + [target] for x in l.passed()))
+    return returned if all(l.stands_but_for() for l in lent) else None
+
+
+# ════ inputs
+
+def damaged(chance, data):
+    data = bytearray(data)
+    for _ in range(chance.choice((0, 0, 1, 1, 1, 2, 5))):
+        at, way = chance.randrange(len(data) + 1), chance.randrange(4)
+        if way == 0:
+            data.insert(at, chance.choice((0, 1, 2, 3, 8, chance.randrange(256))))
+        elif at < len(data) and way == 1:
+            del data[at]
+        elif at < len(data) and way == 2:
+            data[at] = chance.choice((0, 1, 2, 4, 8, 16, 32, 255, chance.randrange(256)))
+        elif at < len(data):
+            data[at] ^= 1 << chance.randrange(8)
+    return bytes(data)
+
+
+def any_bytes(chance, most):
+    return bytes(chance.choice((0, 1, 2, 3, 5, 8, chance.randrange(256))) for _ in range(chance.randrange(most)))
+
+
+def any_table(chance, usual):
+    return chance.choices((usual, bytes(chance.randrange(2) for _ in range(chance.randrange(27))), damaged(chance, usual)), (12, 2, 1))[0]
+
+
+def form_inputs(chance):
+    coefs = lambda: chance.choice((1, -1, 2, chance.randint(1, forms.LIMIT), -chance.randint(1, forms.LIMIT), forms.LIMIT, -forms.LIMIT))
+    while True:
+        kind = chance.randrange(2)
+        data = forms.record(kind, forms.chosen_form(chance, kind, chance.choice((0, 1, 2, 3, 5, 48)), range(5), range(5, 7), coefs))
+        table = any_table(chance, forms.TABLE)
+        data = chance.choices((data, damaged(chance, data), any_bytes(chance, 40)), (6, 3, 1))[0]
+        assignment = forms.assigned(table, chance)
+        assignment = chance.choices((assignment, damaged(chance, assignment), any_bytes(chance, 80)), (8, 2, 1))[0]
+        yield table, data, assignment, chance.choice((3, 3, 3, 3, 4, 9, chance.randrange(4)))
+
+
+def wide_tree(chance):
+    """Products of sums of many letters, joined."""
+    def some(first, most):
+        return expressions.total([expressions.letter(first + chance.randrange(12)) for _ in range(chance.randrange(1, most))])
+    def product():
+        return chance.choice((expressions.times(some(12, 9), some(0, 9)), expressions.wedged(some(0, 8), some(0, 8)), some(0, 13)))
+    data = product()
+    for _ in range(chance.randrange(4)):
+        data = expressions.op(chance.choice((3, 3, 4, 7, 8)))(*chance.sample((data, product()), 2))
+    return data
+
+
+def expression_inputs(chance):
+    while True:
+        for table, data in expressions.by_chance(chance):
+            if chance.randrange(4) == 0:
+                table, data = expressions.WIDE, wide_tree(chance)
+            data = chance.choices((data, damaged(chance, data), any_bytes(chance, 530)), (10, 4, 1))[0]
+            yield any_table(chance, table), data, chance.choice((770, 770, 770, 771, 800, chance.randrange(771)))
+
+
+# ════ comparing
+
+def bad_table(table):
+    return not 1 <= len(table) <= 24 or max(table) > 1
+
+
+def compare_value(function, table, data, assignment, lent):
+    """Whether all is as the unrelated program says, and what that says."""
+    target = Lent(ctypes.c_int64, [-7777777777777 * i for i in range(lent)])
+    returned = call(function, (table, data, assignment), target)
+    answer = "R2" if lent < 3 and not bad_table(table) else forms.answer(table, data, assignment)
+    if answer[0] == "R":
+        return returned == -int(answer[1:]) and target.stands_but_for(), answer
+    return returned == 0 and target.stands_but_for([int(n) for n in answer.split()]), "given"
+
+
+def compare_reduce(functions, chance, table, data, lent):
+    target = Lent(ctypes.c_uint8, [0xC3] * lent)
+    returned = call(functions.kalzunbi_reduce, (table, data), target)
+    assignment = forms.assigned(table, chance)
+    numbers = [b - 256 if b > 127 else b for b in assignment]
+    sigma = [tuple(numbers[i:i + 3]) for i in range(0, len(numbers), 3)]
+    answer, found = ("R2", None) if lent < 770 and not bad_table(table) else expressions.answer(table, data, sigma)
+    if found is None:
+        return returned == -int(answer[1:]) and target.stands_but_for(), answer
+    _, record, values = found
+    three = Lent(ctypes.c_int64, [0] * 3)
+    same = call(functions.kalzunbi_value, (table, record, assignment), three) == 0 and three.stands_but_for(values)
+    return same and returned == len(record) and target.stands_but_for(record), "given"
+
+
+def main():
+    count, seed = (int(x) for x in (sys.argv[1:] + ["10000", "1"][len(sys.argv) - 1:])[:2])
+    library, chance, differences = load(), random.Random(seed), 0
+    for name, inputs, compare in (
+            ("value", form_inputs(chance), lambda *x: compare_value(library.kalzunbi_value, *x)),
+            ("reduce", expression_inputs(chance), lambda *x: compare_reduce(library, chance, *x))):
+        answers = collections.Counter()
+        for _ in range(count):
+            case = next(inputs)
+            same, answer = compare(*case)
+            answers[answer] += 1
+            if not same:
+                differences += 1
+                print(name, *(x.hex() if isinstance(x, bytes) else x for x in case), "expected", answer)
+        print(f"{name}: {count} cases, " + ", ".join(f"{n} {a}" for a, n in sorted(answers.items(), key=lambda x: (len(x[0]), x[0]))))
+    print(f"{2 * count} cases, {differences} differences")
+    sys.exit(differences > 0)
+
+
+if __name__ == "__main__":
+    main()
