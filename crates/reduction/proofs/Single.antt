@@ -27,67 +27,59 @@ use Rattle.terms.specs.Valid.{FormValid}
 use Rattle.gathering.specs.declared.Closed.{Closed}
 use Rattle.gathering.specs.Closing.{closedOf}
 use Rattle.operators.specs.Products.{WorkedAs}
-use Rattle.operators.proofs.Worked.{refuses, works-as}
-use Rattle.reduction.specs.Leaves.{Alone, LetterAs}
+use Rattle.operators.proofs.Worked.{refuses}
+use Rattle.reduction.specs.Leaves.{Alone, TermAs}
 
 -- ════ at most one term
 
 -- no term
-empty-form : (kind : ℕ) (t : Term) (r : Form) → Alone kind 0 t r → formOf r ≡ record { kind = kind; terms = [] }
+empty-form : (kind : ℕ) (t : Term) (r : Closed) → Alone kind 0 t r → formOf (r .form) ≡ record { kind = kind; terms = [] }
 unfolding formOf
-empty-form kind t r a = λ i. record { kind = a .kindIs i; terms = map termOf (take (a .countIs i) (r .terms)) }
+empty-form kind t r a = λ i. record { kind = a .kindIs i; terms = map termOf (take (a .countIs i) (r .form .terms)) }
 
 -- one term
-single-form : (kind : ℕ) (t : Term) (u : S.Term) (r : Form) → Alone kind 1 t r → termOf t ≡ u → formOf r ≡ record { kind = kind; terms = u ∷ [] }
+single-form : (kind : ℕ) (t : Term) (u : S.Term) (r : Closed) → Alone kind 1 t r → termOf t ≡ u → formOf (r .form) ≡ record { kind = kind; terms = u ∷ [] }
 unfolding formOf
 single-form kind t u r a e =
     (λ i. record { kind = a .kindIs i; terms = map termOf (take (a .countIs i) (a .first i)) }) ∙ ap (λ (x : S.Term). record { kind = kind; terms = x ∷ [] }) e
 
-alone-counted : (kind count : ℕ) (t : Term) (r : Form) → count ≤ 1 → Alone kind count t r → Counted t → All Counted (take (r .count) (r .terms))
-alone-counted kind zero t r h a k = subst (λ (n : ℕ). All Counted (take n (r .terms))) (sym (a .countIs)) tt
-alone-counted kind (suc zero) t r h a k = subst (λ (n : ℕ). All Counted (take n (r .terms))) (sym (a .countIs)) (subst (λ (l : List Term). All Counted (take 1 l)) (sym (a .first)) (k, tt))
+alone-counted : (kind count : ℕ) (t : Term) (r : Closed) → count ≤ 1 → Alone kind count t r → Counted t → All Counted (take (r .form .count) (r .form .terms))
+alone-counted kind zero t r h a k = subst (λ (n : ℕ). All Counted (take n (r .form .terms))) (sym (a .countIs)) tt
+alone-counted kind (suc zero) t r h a k =
+    subst (λ (n : ℕ). All Counted (take n (r .form .terms))) (sym (a .countIs)) (subst (λ (l : List Term). All Counted (take 1 l)) (sym (a .first)) (k, tt))
 alone-counted kind (suc (suc n)) t r h a k = absurd (omega arith)
 
--- it is valid where its form is in shape
-alone-valid : (kind count : ℕ) (t : Term) (r : Form) (f : S.Form) → count ≤ 1 → Alone kind count t r → Counted t → formOf r ≡ f → FormInShape f → FormValid r
-alone-valid kind count t r f h a k e s = record {
-  few = omega (arith, a .countIs);
-  counted = alone-counted kind count t r h a k;
-  inShape = subst FormInShape (sym e) s;
+-- it is given, and valid where its form is in shape
+alone-worked : (kind count : ℕ) (t : Term) (r : Closed) (f : S.Form) (x : Result S.Form) → count ≤ 1 → Alone kind count t r → Counted t → formOf (r .form) ≡ f → FormInShape f → x ≡ given f → WorkedAs x r
+unfolding closedOf
+alone-worked kind count t r f x h a k e s q = record {
+  is = rw (eq-eqb (r .refusal) 0 (a .givenIs)) (ap given e ∙ sym q);
+  valid = λ z. record {
+    few = omega (arith, a .countIs);
+    counted = alone-counted kind count t r h a k;
+    inShape = subst FormInShape (sym e) s;
+  };
 }
 
 -- ════ letters
 
--- a scalar letter
-pub scalar-made : (n : ℕ) (t : Term) (r : Form) → Alone 0 1 t r → Counted t → termOf t ≡ plus ((n ∷ []) ∷ []) [] → LetterAs n 0 r
-unfolding letterForm
-scalar-made n t r a k e =
-    let is : formOf r ≡ letterForm n 0 = single-form 0 t (plus ((n ∷ []) ∷ []) []) r a e in
-    record { is = is; valid = alone-valid 0 1 t r (letterForm n 0) (omega arith) a k is (letter-form n 0) }
-
--- a vector letter
-pub vector-made : (n : ℕ) (t : Term) (r : Form) → Alone 1 1 t r → Counted t → termOf t ≡ plus [] (n ∷ []) → LetterAs n 1 r
-unfolding letterForm
-vector-made n t r a k e =
-    let is : formOf r ≡ letterForm n 1 = single-form 1 t (plus [] (n ∷ [])) r a e in
-    record { is = is; valid = alone-valid 1 1 t r (letterForm n 1) (omega arith) a k is (letter-form n 1) }
-
--- a form that is given
-given-form : (x : S.Form) (f : Form) → formOf f ≡ x → FormValid f → WorkedAs (given x) (record { refusal = 0; form = f })
-unfolding closedOf
-given-form x f e v = record { is = ap given e; valid = λ z. v }
-
--- a letter of the kind 0
-pub letter-scalar : (n kind : ℕ) (f : Form) → kind ≡ 0 → LetterAs n 0 f → WorkedAs (given (letterForm n kind)) (record { refusal = 0; form = f })
-letter-scalar n kind f e l = given-form (letterForm n kind) f (l .is ∙ ap (letterForm n) (sym e)) (l .valid)
-
-other-kind : (n kind : ℕ) → (kind ≡ 0 → ⊥) → letterForm n 1 ≡ letterForm n kind
+other-kind : (n kind : ℕ) → (kind ≡ 0 → ⊥) → letterForm n kind ≡ letterForm n 1
 unfolding letterForm
 other-kind n kind h = rw (ne-eqb kind 0 h)
 
+-- a letter of the kind 0
+pub letter-scalar : (n kind : ℕ) (t : Term) (r : Closed) → kind ≡ 0 → TermAs (plus ((n ∷ []) ∷ []) []) t → Alone 0 1 t r → WorkedAs (given (letterForm n kind)) r
+unfolding letterForm
+letter-scalar n kind t r e m a =
+    alone-worked 0 1 t r (letterForm n 0) (given (letterForm n kind)) (omega arith) a (m .counted) (single-form 0 t (plus ((n ∷ []) ∷ []) []) r a (m .is)) (letter-form n 0)
+    (ap (λ (k : ℕ). given (letterForm n k)) e)
+
 -- a letter of any other kind
-pub letter-vector : (n kind : ℕ) (f : Form) → (kind ≡ 0 → ⊥) → LetterAs n 1 f → WorkedAs (given (letterForm n kind)) (record { refusal = 0; form = f })
-letter-vector n kind f h l = given-form (letterForm n kind) f (l .is ∙ other-kind n kind h) (l .valid)
+pub letter-vector : (n kind : ℕ) (t : Term) (r : Closed) → (kind ≡ 0 → ⊥) → TermAs (plus [] (n ∷ [])) t → Alone 1 1 t r → WorkedAs (given (letterForm n kind)) r
+unfolding letterForm
+letter-vector n kind t r h m a =
+    alone-worked 1 1 t r (letterForm n 1) (given (letterForm n kind)) (omega arith) a (m .counted) (single-form 1 t (plus [] (n ∷ [])) r a (m .is)) (letter-form n 1)
+    (ap given (other-kind n kind h))
 
 -- ════ constants
 
@@ -97,30 +89,27 @@ unfolding constantForm
 constant-nine k b r e p h = refuses (constantForm k) r 9 h (λ z. omega arith) (rw (sym e ∙ p))
 
 module _ (k : ℤ) (b z : Bool) (e : b ≡ coefWithin k) (p : b ≡ true) (q : z ≡ isZero k) where
-  constant-given : constantForm k ≡ given (record { kind = scalar; terms = keep (alone k) [] })
+  constant-given : (ts : List S.Term) → keep (alone k) [] ≡ ts → constantForm k ≡ given (record { kind = scalar; terms = ts })
   unfolding constantForm
-  constant-given = rw (sym e ∙ p)
+  constant-given ts h = rw (sym e ∙ p) (ap (λ (ts : List S.Term). given (record { kind = scalar; terms = ts })) h)
 
-  -- with these terms
-  worked : (ts : List S.Term) (f : Form) → keep (alone k) [] ≡ ts → formOf f ≡ record { kind = scalar; terms = ts } → (FormInShape (record { kind = scalar; terms = ts }) → FormValid f)
-      → WorkedAs (constantForm k) (record { refusal = 0; form = f })
-  worked ts f h g v =
-      works-as (given (formOf f)) (constantForm k) (record { refusal = 0; form = f })
-      (sym (constant-given ∙ ap (λ (ts : List S.Term). given (record { kind = scalar; terms = ts })) h ∙ ap given (sym g)))
-      (given-form (formOf f) f refl (v (subst (λ (ts : List S.Term). FormInShape (record { kind = scalar; terms = ts })) h (constant-form k (holds (coefWithin k) (sym e ∙ p))))))
+  constant-shape : (ts : List S.Term) → keep (alone k) [] ≡ ts → FormInShape (record { kind = scalar; terms = ts })
+  constant-shape ts h = subst (λ (ts : List S.Term). FormInShape (record { kind = scalar; terms = ts })) h (constant-form k (holds (coefWithin k) (sym e ∙ p)))
 
   -- 0
-  pub constant-zero : (t : Term) (f : Form) → z ≡ true → Counted t → Alone 0 0 t f → WorkedAs (constantForm k) (record { refusal = 0; form = f })
+  pub constant-zero : (t : Term) (r : Closed) → z ≡ true → TermAs (alone k) t → Alone 0 0 t r → WorkedAs (constantForm k) r
   unfolding keep
-  constant-zero t f h c a =
-      worked [] f (rw (sym q ∙ h)) (empty-form 0 t f a) (alone-valid 0 0 t f (record { kind = 0; terms = [] }) (omega arith) a c (empty-form 0 t f a))
+  constant-zero t r h m a =
+      let none : keep (alone k) [] ≡ [] = rw (sym q ∙ h) in
+      alone-worked 0 0 t r (record { kind = 0; terms = [] }) (constantForm k) (omega arith) a (m .counted) (empty-form 0 t r a) (constant-shape [] none) (constant-given [] none)
 
   -- any other
-  pub constant-one : (t : Term) (f : Form) → z ≡ false → Counted t → termOf t ≡ alone k → Alone 0 1 t f → WorkedAs (constantForm k) (record { refusal = 0; form = f })
+  pub constant-one : (t : Term) (r : Closed) → z ≡ false → TermAs (alone k) t → Alone 0 1 t r → WorkedAs (constantForm k) r
   unfolding keep
-  constant-one t f h c g a =
-      worked (alone k ∷ []) f (rw (sym q ∙ h)) (single-form 0 t (alone k) f a g)
-      (alone-valid 0 1 t f (record { kind = 0; terms = alone k ∷ [] }) (omega arith) a c (single-form 0 t (alone k) f a g))
+  constant-one t r h m a =
+      let one : keep (alone k) [] ≡ alone k ∷ [] = rw (sym q ∙ h) in
+      alone-worked 0 1 t r (record { kind = 0; terms = alone k ∷ [] }) (constantForm k) (omega arith) a (m .counted) (single-form 0 t (alone k) r a (m .is))
+      (constant-shape (alone k ∷ []) one) (constant-given (alone k ∷ []) one)
 
 -- a constant is read back as it is
 pub constant-back : (k : ℤ) (r : Closed) → SFits w64 k → WorkedAs (constantForm (back k)) r → WorkedAs (constantForm k) r

@@ -2,21 +2,20 @@
 use mathlib.Core.Path.{_≡_}
 use mathlib.Core.List.{List, _∷_}
 use Prim.Native.Nat.{ℕ}
-use lib.ListN.{take}
-use Rattle.specification.specs.Reduction.{letterForm}
+use Rattle.specification.specs.Terms as S
 use Rattle.terms.specs.declared.types.Term.{Term}
-use Rattle.terms.specs.declared.types.Form.{Form}
-use Rattle.terms.specs.Abstraction.{formOf}
-use Rattle.terms.specs.Valid.{FormValid}
+use Rattle.terms.specs.Abstraction.{termOf, Counted}
+use Rattle.gathering.specs.declared.Closed.{Closed}
 
--- a form of so many terms, each the same
-pub record Alone (kind count : ℕ) (t : Term) (r : Form) : Type 0 where
-  pub kindIs : r .kind ≡ kind
-  pub countIs : r .count ≡ count
+-- a form of so many terms, each the same, that is given
+pub record Alone (kind count : ℕ) (t : Term) (r : Closed) : Type 0 where
+  pub givenIs : r .refusal ≡ 0
+  pub kindIs : r .form .kind ≡ kind
+  pub countIs : r .form .count ≡ count
   pub rest : List Term
-  pub first : r .terms ≡ t ∷ rest
+  pub first : r .form .terms ≡ t ∷ rest
 
--- the form of a letter
-pub record LetterAs (n kind : ℕ) (r : Form) : Type 0 where
-  pub is : formOf r ≡ letterForm n kind
-  pub valid : FormValid r
+-- a term as the specification has it
+pub record TermAs (t : S.Term) (r : Term) : Type 0 where
+  pub is : termOf r ≡ t
+  pub counted : Counted r

@@ -1,9 +1,11 @@
 // Leaves: the form of a letter alone, and of a constant.
-ghost use mathlib.Core.Path.{_≡_};
+ghost use mathlib.Core.List.{[], _∷_};
 ghost use Rattle.specification.specs.Results.{given};
+ghost use Rattle.specification.specs.Terms.{plus};
 ghost use Rattle.specification.specs.Reduction.{letterForm, constantForm};
+ghost use Rattle.terms.specs.Abstraction.{partOf};
 ghost use Rattle.operators.specs.Products.{WorkedAs};
-ghost use Rattle.reduction.specs.Leaves.{Alone, LetterAs};
+ghost use Rattle.reduction.specs.Leaves.{Alone, TermAs};
 use gathering::Closed;
 use integers::is_zero;
 use integers::within;
@@ -14,46 +16,47 @@ use terms::types::Part;
 use terms::types::Term;
 
 // A form of so many terms, at most one.
-fn alone(kind: u8, count: usize, t: Term) -> Form
+fn alone(kind: u8, count: usize, t: Term) -> Closed
     ensures { λ r. ⌜ Alone kind count t r ⌝ }
 {
     let ts = [t; 48];
-    Form {
+    let f = Form {
         kind: kind,
         count: count,
         terms: ts,
+    };
+    Closed {
+        refusal: 0,
+        form: f,
     }
 }
 
-// A scalar letter.
-fn scalar_letter(n: u8) -> Form
-    ensures { λ r. ⌜ LetterAs n 0 r ⌝ }
+// A scalar letter as a term.
+fn scalar_letter(n: u8) -> Term
+    ensures { λ r. ⌜ TermAs (plus ((n ∷ []) ∷ []) []) r ⌝ }
 {
     let mut f = [0u32; 7];
     f[0] = scalar_number(n);
     let p = Part::Nothing;
-    let t = Term {
+    Term {
         coef: 1,
         factors: f,
         factor_count: 1,
         part: p,
-    };
-    alone(0, 1, t)
+    }
 }
 
-// A vector letter.
-fn vector_letter(n: u8) -> Form
-    ensures { λ r. ⌜ LetterAs n 1 r ⌝ }
+// A vector part without factors as a term.
+fn bare(k: i64, p: Part) -> Term
+    ensures { λ r. ⌜ TermAs (record { coef = k; factors = []; part = partOf p }) r ⌝ }
 {
     let f = [0u32; 7];
-    let p = Part::Letter(n);
-    let t = Term {
-        coef: 1,
+    Term {
+        coef: k,
         factors: f,
         factor_count: 0,
         part: p,
-    };
-    alone(1, 1, t)
+    }
 }
 
 // A letter of a kind.
@@ -61,17 +64,10 @@ pub fn letter(n: u8, kind: u8) -> Closed
     ensures { λ r. ⌜ WorkedAs (given (letterForm n kind)) r ⌝ }
 {
     if kind == 0 {
-        let f = scalar_letter(n);
-        return Closed {
-            refusal: 0,
-            form: f,
-        };
+        return alone(0, 1, scalar_letter(n));
     }
-    let f = vector_letter(n);
-    Closed {
-        refusal: 0,
-        form: f,
-    }
+    let p = Part::Letter(n);
+    alone(1, 1, bare(1, p))
 }
 
 // A constant: 9 where it is beyond ±2147483647, the empty form where it is 0.
@@ -81,24 +77,10 @@ pub fn constant(k: i64) -> Closed
     if !within(k) {
         return refuse(9);
     }
-    let f = [0u32; 7];
     let p = Part::Nothing;
-    let t = Term {
-        coef: k,
-        factors: f,
-        factor_count: 0,
-        part: p,
-    };
+    let t = bare(k, p);
     if is_zero(k) {
-        let g = alone(0, 0, t);
-        return Closed {
-            refusal: 0,
-            form: g,
-        };
+        return alone(0, 0, t);
     }
-    let g = alone(0, 1, t);
-    Closed {
-        refusal: 0,
-        form: g,
-    }
+    alone(0, 1, t)
 }

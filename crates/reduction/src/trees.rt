@@ -41,17 +41,6 @@ fn unread(n: u8) -> Tree
     }
 }
 
-// A tree that was read.
-fn read(next: usize, w: Closed) -> Tree
-    ensures { λ r. ⌜ (r .unread ≡ 0) × (r .next ≡ next) × (r .work ≡ w) ⌝ }
-{
-    Tree {
-        unread: 0,
-        next: next,
-        work: w,
-    }
-}
-
 // The operator of a token with two operands, on two forms.
 fn operate(token: u8, f: Form, g: Form) -> Closed
     requires { ⌜ FormValid f × FormValid g ⌝ }
@@ -128,9 +117,19 @@ fn leaf(table: &[u8], s: &[u8], at: usize) -> Tree
     if token == 1 {
         let n = s[at + 1];
         let k = table[n as usize];
-        return read(at + 2, letter(n, k));
+        let w = letter(n, k);
+        return Tree {
+            unread: 0,
+            next: at + 2,
+            work: w,
+        };
     }
-    read(at + 5, constant(four_bytes_at(s, at + 1)))
+    let w = constant(four_bytes_at(s, at + 1));
+    Tree {
+        unread: 0,
+        next: at + 5,
+        work: w,
+    }
 }
 
 // The tree at a position, with so much depth left: its own tests, then its operands, each a tree again.
@@ -152,7 +151,12 @@ pub fn read_tree(table: &[u8], s: &[u8], at: usize, depth: usize) -> Tree
     }
     let x = a.work;
     if k == 1 {
-        return read(a.next, apply_one(x));
+        let w = apply_one(x);
+        return Tree {
+            unread: 0,
+            next: a.next,
+            work: w,
+        };
     }
     let b = read_tree(table, s, a.next, depth - 1);
     if b.unread != 0 {
@@ -160,12 +164,22 @@ pub fn read_tree(table: &[u8], s: &[u8], at: usize, depth: usize) -> Tree
     }
     let y = b.work;
     if k == 2 {
-        return read(b.next, apply_two(token, x, y));
+        let w = apply_two(token, x, y);
+        return Tree {
+            unread: 0,
+            next: b.next,
+            work: w,
+        };
     }
     let d = read_tree(table, s, b.next, depth - 1);
     if d.unread != 0 {
         return d;
     }
     let z = d.work;
-    read(d.next, apply_three(x, y, z))
+    let w = apply_three(x, y, z);
+    Tree {
+        unread: 0,
+        next: d.next,
+        work: w,
+    }
 }

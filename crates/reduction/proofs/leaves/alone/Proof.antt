@@ -4,9 +4,9 @@ use Rattle.reduction.proofs.leaves.alone.Tie as tie
 use Rattle.reduction.proofs.leaves.alone.Reads as reads
 use Rattle.reduction.proofs.leaves.alone.Lts as lts
 
--- src/leaves.rt:17:1
+-- src/leaves.rt:19:1
 returns : tie.Need-returns
-returns c = record { kindIs = refl; countIs = refl; rest = _; first = refl }
+returns c = record { givenIs = refl; kindIs = refl; countIs = refl; rest = _; first = refl }
 
 pub alone-spec : {M : Type 1} → statement M
 alone-spec = tie.close (tie.spec returns)

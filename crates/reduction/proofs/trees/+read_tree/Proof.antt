@@ -1,5 +1,5 @@
 -- `reduction::trees::read_tree` meets its contract: the tests at a tree, then its operands, each at one depth less. The measure is the depth left. Assumes nothing.
-use mathlib.Core.Path.{sym, _∙_}
+use mathlib.Core.Path.{refl, sym, _∙_}
 use Prim.Native.Nat.{ℕ, _<_}
 use native.Mathlib.Omega.{arith}
 use borrow.Fn.Kinds.{In}
@@ -12,7 +12,6 @@ use Rattle.reduction.proofs.trees.apply_one.Reads as apply-one-reads
 use Rattle.reduction.proofs.trees.apply_three.Reads as apply-three-reads
 use Rattle.reduction.proofs.trees.apply_two.Reads as apply-two-reads
 use Rattle.reduction.proofs.trees.leaf.Reads as leaf-reads
-use Rattle.reduction.proofs.trees.read.Reads as read-reads
 use Rattle.reduction.proofs.trees.unread.Reads as unread-reads
 use Rattle.reduction.proofs.trees.read_tree.Reads as reads
 use Rattle.reduction.proofs.trees.read_tree.Kinds as kinds
@@ -43,8 +42,6 @@ module _ (t : ℕ) where
     reads.Post,
     apply-one-reads.Asked,
     apply-one-reads.Learnt,
-    read-reads.Asked,
-    read-reads.Learnt,
     apply-two-reads.Asked,
     apply-two-reads.Learnt,
     apply-three-reads.Asked,
@@ -87,11 +84,8 @@ module _ (t : ℕ) where
   apply-one-requires : lts.Need-apply-one-requires claims given-at reads.Post
   apply-one-requires c κs = read-sound _ _ (c .before .before .before .before .read-tree .ensures) (c .before .before .if3 .left)
 
-  read-requires : lts.Need-read-requires claims given-at reads.Post
-  read-requires c κs = tt
-
   returns-4 : lts.Need-returns-4 claims given-at reads.Post
-  returns-4 c = level-one _ _ _ _ (level _ _ _ _ _ (c .before .before .before .before .before .before .before .before .before .before .before .test-head .ensures) (c .before .before .before .before .before .before .before .before .before .before .if1 .left)) _ (c .before .before .before .before .before .before .before .before .operands .ensures) _ (c .before .before .before .before .before .before .read-tree .ensures) (c .before .before .before .before .before .before .before .if2 .left) (c .before .before .before .before .if3 .left) _ _ (c .before .before .if4 .taken) (c .before .apply-one .ensures) (c .read .ensures)
+  returns-4 c = level-one _ _ _ _ (level _ _ _ _ _ (c .before .before .before .before .before .before .before .before .before .before .test-head .ensures) (c .before .before .before .before .before .before .before .before .before .if1 .left)) _ (c .before .before .before .before .before .before .before .operands .ensures) _ (c .before .before .before .before .before .read-tree .ensures) (c .before .before .before .before .before .before .if2 .left) (c .before .before .before .if3 .left) _ _ (c .before .if4 .taken) (c .apply-one .ensures) (refl, refl, refl)
 
   sub-read-tree-2 : lts.Need-sub-read-tree-2 claims given-at reads.Post
   sub-read-tree-2 c = omega (arith, some-depth _ ((level _ _ _ _ _ (c .before .before .before .before .before .before .before .before .before .test-head .ensures) (c .before .before .before .before .before .before .before .before .if1 .left)) .deep))
@@ -105,11 +99,8 @@ module _ (t : ℕ) where
   apply-two-requires : lts.Need-apply-two-requires claims given-at reads.Post
   apply-two-requires c κs = (read-sound _ _ (c .before .before .before .before .before .before .before .before .before .read-tree .ensures) (c .before .before .before .before .before .before .before .if3 .left), read-sound _ _ (c .before .before .before .before .read-tree2 .ensures) (c .before .before .if5 .left))
 
-  read-requires-2 : lts.Need-read-requires-2 claims given-at reads.Post
-  read-requires-2 c κs = tt
-
   returns-6 : lts.Need-returns-6 claims given-at reads.Post
-  returns-6 c = level-two _ _ _ _ (level _ _ _ _ _ (c .before .before .before .before .before .before .before .before .before .before .before .before .before .before .before .before .test-head .ensures) (c .before .before .before .before .before .before .before .before .before .before .before .before .before .before .before .if1 .left)) _ (c .before .before .before .before .before .before .before .before .before .before .before .before .before .operands .ensures) _ (c .before .before .before .before .before .before .before .before .before .before .before .read-tree .ensures) (c .before .before .before .before .before .before .before .before .before .before .before .before .if2 .left) (c .before .before .before .before .before .before .before .before .before .if3 .left) _ (c .before .before .before .before .before .before .read-tree2 .ensures) (c .before .before .before .before .before .before .before .if4 .left) (c .before .before .before .before .if5 .left) _ _ (c .before .before .if6 .taken) (c .before .apply-two .ensures) (c .read2 .ensures)
+  returns-6 c = level-two _ _ _ _ (level _ _ _ _ _ (c .before .before .before .before .before .before .before .before .before .before .before .before .before .before .before .test-head .ensures) (c .before .before .before .before .before .before .before .before .before .before .before .before .before .before .if1 .left)) _ (c .before .before .before .before .before .before .before .before .before .before .before .before .operands .ensures) _ (c .before .before .before .before .before .before .before .before .before .before .read-tree .ensures) (c .before .before .before .before .before .before .before .before .before .before .before .if2 .left) (c .before .before .before .before .before .before .before .before .if3 .left) _ (c .before .before .before .before .before .read-tree2 .ensures) (c .before .before .before .before .before .before .if4 .left) (c .before .before .before .if5 .left) _ _ (c .before .if6 .taken) (c .apply-two .ensures) (refl, refl, refl)
 
   sub-read-tree-3 : lts.Need-sub-read-tree-3 claims given-at reads.Post
   sub-read-tree-3 c = omega (arith, some-depth _ ((level _ _ _ _ _ (c .before .before .before .before .before .before .before .before .before .before .before .before .before .before .test-head .ensures) (c .before .before .before .before .before .before .before .before .before .before .before .before .before .if1 .left)) .deep))
@@ -123,11 +114,8 @@ module _ (t : ℕ) where
   apply-three-requires : lts.Need-apply-three-requires claims given-at reads.Post
   apply-three-requires c κs = (read-sound _ _ (c .before .before .before .before .before .before .before .before .before .before .before .before .before .read-tree .ensures) (c .before .before .before .before .before .before .before .before .before .before .before .if3 .left), read-sound _ _ (c .before .before .before .before .before .before .before .before .read-tree2 .ensures) (c .before .before .before .before .before .before .if5 .left), read-sound _ _ (c .before .before .before .read-tree3 .ensures) (c .before .if7 .left))
 
-  read-requires-3 : lts.Need-read-requires-3 claims given-at reads.Post
-  read-requires-3 c κs = tt
-
   returns-8 : lts.Need-returns-8 claims given-at reads.Post
-  returns-8 c = level-three _ _ _ _ (level _ _ _ _ _ (c .before .before .before .before .before .before .before .before .before .before .before .before .before .before .before .before .before .before .before .before .test-head .ensures) (c .before .before .before .before .before .before .before .before .before .before .before .before .before .before .before .before .before .before .before .if1 .left)) _ (c .before .before .before .before .before .before .before .before .before .before .before .before .before .before .before .before .before .operands .ensures) _ (c .before .before .before .before .before .before .before .before .before .before .before .before .before .before .before .read-tree .ensures) (c .before .before .before .before .before .before .before .before .before .before .before .before .before .before .before .before .if2 .left) (c .before .before .before .before .before .before .before .before .before .before .before .before .before .if3 .left) _ (c .before .before .before .before .before .before .before .before .before .before .read-tree2 .ensures) (c .before .before .before .before .before .before .before .before .before .before .before .if4 .left) (c .before .before .before .before .before .before .before .before .if5 .left) _ (c .before .before .before .before .before .read-tree3 .ensures) (c .before .before .before .before .before .before .if6 .left) _ _ (c .before .before .before .if7 .left) (c .before .apply-three .ensures) (c .read3 .ensures)
+  returns-8 c = level-three _ _ _ _ (level _ _ _ _ _ (c .before .before .before .before .before .before .before .before .before .before .before .before .before .before .before .before .before .before .before .test-head .ensures) (c .before .before .before .before .before .before .before .before .before .before .before .before .before .before .before .before .before .before .if1 .left)) _ (c .before .before .before .before .before .before .before .before .before .before .before .before .before .before .before .before .operands .ensures) _ (c .before .before .before .before .before .before .before .before .before .before .before .before .before .before .read-tree .ensures) (c .before .before .before .before .before .before .before .before .before .before .before .before .before .before .before .if2 .left) (c .before .before .before .before .before .before .before .before .before .before .before .before .if3 .left) _ (c .before .before .before .before .before .before .before .before .before .read-tree2 .ensures) (c .before .before .before .before .before .before .before .before .before .before .if4 .left) (c .before .before .before .before .before .before .before .if5 .left) _ (c .before .before .before .before .read-tree3 .ensures) (c .before .before .before .before .before .if6 .left) _ _ (c .before .before .if7 .left) (c .apply-three .ensures) (refl, refl, refl)
 
 pub +read-tree-spec : {M : Type 1} → statement M
 +read-tree-spec = close μ λ t. lts.spec (claims t) (given-at t) reads.Post
@@ -143,17 +131,14 @@ pub +read-tree-spec : {M : Type 1} → statement M
     (read-tree-requires t)
     (returns-3 t)
     (apply-one-requires t)
-    (read-requires t)
     (returns-4 t)
     (sub-read-tree-2 t)
     (read-tree-requires-2 t)
     (returns-5 t)
     (apply-two-requires t)
-    (read-requires-2 t)
     (returns-6 t)
     (sub-read-tree-3 t)
     (read-tree-requires-3 t)
     (returns-7 t)
     (apply-three-requires t)
-    (read-requires-3 t)
     (returns-8 t)
