@@ -1,8 +1,10 @@
 -- A test and the choice that it makes: `cond` by its two branches, and the test of two numbers for equality. Assumes nothing.
 use mathlib.Core.Path.{_≡_, refl}
 use mathlib.Core.Bool.{Bool, true, false, not, cond}
-use Prim.Native.Nat.{ℕ}
-use lib.Dec.{T, eqb, eqb→eq, eqb-refl}
+use mathlib.Core.Logic.{_⊎_, inl, inr}
+use Prim.Native.Nat.{ℕ, _≤_, _<_}
+use borrow.Author.Tests.{ltb-true, ltb-false}
+use lib.Dec.{T, ltb, eqb, eqb→eq, eqb-refl}
 
 -- what holds of each branch under its test holds of the choice
 pub cond-either : {A : Type 0} (b : Bool) (x y : A) (P : A → Type 0) → (T b → P x) → (T (not b) → P y) → P (cond b x y)
@@ -24,3 +26,11 @@ eqb-ne x y h = go (eqb x y) (λ t. h (eqb→eq x y t))
     go : (b : Bool) → (T b → ⊥) → b ≡ false
     go true f = absurd (f tt)
     go false f = refl
+
+-- below, or not
+pub lt-or-le : (a b : ℕ) → (a < b) ⊎ (b ≤ a)
+lt-or-le a b = go (ltb a b) refl
+  where
+    go : (t : Bool) → ltb a b ≡ t → (a < b) ⊎ (b ≤ a)
+    go true e = inl (ltb-true a b e)
+    go false e = inr (ltb-false a b e)

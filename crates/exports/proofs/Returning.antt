@@ -23,7 +23,7 @@ use Rattle.evaluation.specs.Answers.{valuedOf}
 use Rattle.reduction.specs.declared.Reduced.{Reduced}
 use Rattle.reduction.specs.declared.Reduced.the-variants.{Written, Refused}
 use Rattle.reduction.specs.Answers.{reducedOf}
-use Rattle.reduction.proofs.Heads.{test-passed, test-refused}
+use Rattle.records.proofs.LetterTests.{test-passed, test-refused}
 use Rattle.reduction.proofs.KeptValue.{reduce-keeps-value}
 use Rattle.exports.specs.Returns.{returned, handed, threeInto, answerVec, valueTested, valueReturned, reduceReturned}
 

@@ -6,7 +6,7 @@ use mathlib.Core.List.{List, [], _∷_, _++_, map, flatMap}
 use Prim.Native.Nat.{ℕ, zero, suc, _+_, _*_, _-_, _≤_, _<_, _^_}
 use native.Mathlib.Nat as N
 use native.Mathlib.Omega.{arith}
-use borrow.Author.Tests.{lt-ltb, le-ltb, ltb-true, ltb-false, le-leb, lt-leb}
+use borrow.Author.Tests.{lt-ltb, le-ltb, le-leb, lt-leb}
 use lib.Dec.{T, ltb, leb, leb→le}
 use lib.IntN.{ℤ, natAbs, _*ℤ_}
 use lib.ListN.{length, take, drop, getD, length-map, drop-of-length-le}
@@ -16,6 +16,8 @@ use Rattle.specification.specs.Lists.{all}
 use Rattle.specification.specs.Terms.{vectorLetters, scalarLetters, coefWithin, termInShape}
 use Rattle.specification.specs.Terms as S
 use Rattle.specification.specs.Reduction.{pairsOf, pairLettersFit, pairCoefFits}
+use Rattle.algebra.specs.Conditions.{lt-or-le}
+use Rattle.theory.specs.Tests.{and-false}
 use Rattle.theory.specs.Elements.{All, all-T, all-implies}
 use Rattle.theory.specs.Shape.Terms.{TermShape, term-opens}
 use Rattle.theory.specs.Shape.Forms.{FormInShape}
@@ -34,14 +36,6 @@ use Rattle.operators.proofs.Places.{form-at}
 use Rattle.operators.specs.Limits.{testPairs, larger, coefSize, largest, MostWith, MostOf, MostSmall}
 
 -- ════ the larger of two
-
--- below, or not
-pub lt-or-le : (a b : ℕ) → (a < b) ⊎ (b ≤ a)
-lt-or-le a b = go (ltb a b) refl
-  where
-    go : (t : Bool) → ltb a b ≡ t → (a < b) ⊎ (b ≤ a)
-    go true e = inl (ltb-true a b e)
-    go false e = inr (ltb-false a b e)
 
 larger-is : (a b : ℕ) → ((larger a b ≡ a) × (b ≤ a)) ⊎ ((larger a b ≡ b) × (a ≤ b))
 unfolding larger
@@ -65,14 +59,6 @@ largest-below m c [] h = omega arith
 largest-below m c (t ∷ ts) h = larger-below (m t) (largest m ts) c (h .0) (largest-below m c ts (h .1))
 
 -- ════ all pairs
-
-and-true : (b : Bool) → (b && true) ≡ b
-and-true true = refl
-and-true false = refl
-
-and-false : (b : Bool) → (b && false) ≡ false
-and-false true = refl
-and-false false = refl
 
 -- of two tests of numbers against a limit the one of the larger decides
 and-second : (x y l : ℕ) → x ≤ y → (leb x l && leb y l) ≡ leb y l

@@ -11,6 +11,7 @@ use lib.ListN.{length, take, length-map}
 use lib.Seq.{length-take-le}
 use Rattle.algebra.specs.Integers.{natAbs-*ℤ}
 use Rattle.specification.specs.Terms.{timesTerm, insert, tidy, gatherInto, coefWithin, vectorLetters, scalarLetters, vectorLettersOf, scalarLettersOf}
+use Rattle.algebra.specs.Conditions.{lt-or-le}
 use Rattle.specification.specs.Terms as S
 use Rattle.specification.specs.Reduction.{joinedScalars, pairTerms, pairLettersFit, pairCoefFits}
 use Rattle.theory.specs.Tests.{and-split}
@@ -27,7 +28,6 @@ use Rattle.operators.specs.declared.parts.Operation.{Operation}
 use Rattle.operators.specs.declared.parts.Few.{Few}
 use Rattle.operators.specs.Parts.{partsOf, Small, listOf, FewMade}
 use Rattle.operators.specs.Products.{Scalars, Pair, PairBrought}
-use Rattle.operators.proofs.Largest.{lt-or-le}
 
 -- ════ few factors
 

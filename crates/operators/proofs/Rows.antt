@@ -12,6 +12,7 @@ use lib.Seq.{take-suc, take-all, getD-take, getD-append-add}
 use Rattle.specification.specs.Lists.{all}
 use Rattle.specification.specs.Letters.{scalar, vector}
 use Rattle.specification.specs.Terms.{gather, gatherInto}
+use Rattle.algebra.specs.Conditions.{lt-or-le}
 use Rattle.specification.specs.Terms as S
 use Rattle.specification.specs.Reduction.{pairTerms, pairsOf, pairLettersFit, pairCoefFits}
 use Rattle.theory.specs.Elements.{All, all-T, all-implies}
@@ -30,7 +31,6 @@ use Rattle.operators.specs.declared.parts.Operation.{Operation}
 use Rattle.operators.specs.declared.parts.Operation.the-variants.{Times, Dot, Wedge}
 use Rattle.operators.specs.Parts.{partsOf, Together}
 use Rattle.operators.specs.Products.{Pair, PairBrought, Kinds, PairsFit, PairsBrought}
-use Rattle.operators.proofs.Largest.{lt-or-le}
 use Rattle.operators.proofs.Places.{form-length, form-at, form-counted}
 
 -- ════ the pair at a place

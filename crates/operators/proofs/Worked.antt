@@ -14,7 +14,7 @@ use Rattle.specification.specs.Results.{Result, Test, given, refused, _>>=_, _>
 use Rattle.specification.specs.Terms.{gather, within}
 use Rattle.specification.specs.Terms as S
 use Rattle.specification.specs.Reduction.{timesParts, dotParts, wedgeParts, pairTerms, pairsOf, pairLettersFit, pairCoefFits, product, timesForms, dotForms, wedgeForms, tripleForms}
-use Rattle.theory.specs.Tests.{required, refused≢given}
+use Rattle.theory.specs.Tests.{and-false, required, refused≢given}
 use Rattle.theory.specs.Shape.Forms.{AllFit, form-fits}
 use Rattle.theory.specs.Reduction.Products.{product-fits}
 use Rattle.theory.specs.Reduction.Operators.{timesLeft-follows, timesRight-follows, dot-follows, wedge-follows}
@@ -27,6 +27,7 @@ use Rattle.gathering.specs.Sums.{sumOf, SumValid}
 use Rattle.gathering.specs.Closing.{closedOf, ClosedAs}
 use Rattle.gathering.proofs.Closing.{closed-valid, closed-given}
 use Rattle.records.specs.Tested.{testOf}
+use Rattle.records.proofs.LetterTests.{test-passed, test-refused}
 use Rattle.operators.specs.declared.parts.Operation.{Operation}
 use Rattle.operators.specs.declared.parts.Operation.the-variants.{Times, Dot, Wedge}
 use Rattle.operators.specs.Parts.{partsOf}
@@ -80,14 +81,6 @@ product-tested kind parts f g =
     three true false c r = refl
     three true true false r = refl
     three true true true r = refl
-
-test-refused : (n : ℕ) → (n ≡ 0 → ⊥) → testOf n ≡ refused n
-unfolding testOf
-test-refused n h = rw (ne-eqb n 0 h)
-
-test-passed : (n : ℕ) → n ≡ 0 → testOf n ≡ given tt
-unfolding testOf
-test-passed n e = rw (eq-eqb n 0 e)
 
 passed : (b : Bool) (n : ℕ) → require b n ≡ given tt → T b
 passed true n e = tt
@@ -180,11 +173,7 @@ module _ (f g : Form) (r : Closed) where
   -- one of them is none
   no-vectors : (f .kind ≡ 1 → ⊥) ⊎ (g .kind ≡ 1 → ⊥) → (eqb (f .kind) 1 && eqb (g .kind) 1) ≡ false
   no-vectors (inl h) = rw (ne-eqb (f .kind) 1 h)
-  no-vectors (inr h) = rw (ne-eqb (g .kind) 1 h) (second (eqb (f .kind) 1))
-    where
-      second : (b : Bool) → (b && false) ≡ false
-      second true = refl
-      second false = refl
+  no-vectors (inr h) = rw (ne-eqb (g .kind) 1 h) (and-false (eqb (f .kind) 1))
 
   pub dot-six : (f .kind ≡ 1 → ⊥) ⊎ (g .kind ≡ 1 → ⊥) → r .refusal ≡ 6 → WorkedAs (dotForms (formOf f) (formOf g)) r
   unfolding dotForms formOf
@@ -197,14 +186,10 @@ module _ (f g : Form) (r : Closed) where
 -- ════ the triple
 
 module _ (f g h : Form) where
-  third : (b : Bool) → (b && false) ≡ false
-  third true = refl
-  third false = refl
-
   -- the third is no vector
   pub triple-six : (r : Closed) → (h .kind ≡ 1 → ⊥) → r .refusal ≡ 6 → WorkedAs (tripleForms (formOf f) (formOf g) (formOf h)) r
   unfolding tripleForms formOf
-  triple-six r n e = refuses (tripleForms (formOf f) (formOf g) (formOf h)) r 6 e (λ z. omega arith) (rw (ne-eqb (h .kind) 1 n, third (eqb (f .kind) 1 && eqb (g .kind) 1)))
+  triple-six r n e = refuses (tripleForms (formOf f) (formOf g) (formOf h)) r 6 e (λ z. omega arith) (rw (ne-eqb (h .kind) 1 n, and-false (eqb (f .kind) 1 && eqb (g .kind) 1)))
 
   -- with a third vector it is a wedge and a dot
   triple-is : h .kind ≡ 1 → tripleForms (formOf f) (formOf g) (formOf h) ≡ (wedgeForms (formOf f) (formOf g) >>= λ fg. dotForms fg (formOf h))

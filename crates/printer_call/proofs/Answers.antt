@@ -21,7 +21,7 @@ use Rattle.gathering.specs.declared.Closed.{Closed}
 use Rattle.records.specs.Tested.{testOf}
 use Rattle.operators.specs.Products.{WorkedAs}
 use Rattle.operators.proofs.Worked.{worked-given, worked-refused}
-use Rattle.reduction.proofs.Heads.{test-passed, test-refused}
+use Rattle.records.proofs.LetterTests.{test-passed, test-refused}
 use Rattle.printing.specs.Printable.{Printable}
 use Rattle.printing.specs.Text.{TextWritten}
 use Rattle.printing.proofs.Named.{printable}

@@ -15,7 +15,8 @@ use Rattle.specification.specs.Letters.{isKind, goodTable, testTable}
 use Rattle.specification.specs.Expressions.{readExpr}
 use Rattle.specification.specs.Reduction.{reduced}
 use Rattle.specification.specs.Printing.{printResult, printCall}
-use Rattle.operators.proofs.Largest.{lt-or-le}
+use Rattle.algebra.specs.Conditions.{lt-or-le}
+use Rattle.theory.specs.Tests.{and-false}
 use Rattle.printer_call.specs.Lines.{printReduced}
 use Rattle.printer_call.proofs.Answers.{whole-read}
 
@@ -29,10 +30,6 @@ taken-twice (suc k) (suc n) (x ∷ l) h = ap (λ (m : List ℕ). x ∷ m) (taken
 long-table : (table expr : List ℕ) → 24 < length table → printReduced table expr ≡ printResult (refused 1)
 unfolding printReduced testTable goodTable
 long-table table expr h = rw (lt-leb (length table) 24 h, and-false (leb 1 (length table)))
-  where
-    and-false : (b : Bool) → (b && false) ≡ false
-    and-false true = refl
-    and-false false = refl
 
 -- an expression of over 512 bytes is refused, whatever its bytes
 long-expression : (table expr : List ℕ) → 512 < length expr → printReduced table expr ≡ printResult (testTable table >> refused 3)

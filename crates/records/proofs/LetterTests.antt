@@ -25,15 +25,23 @@ use Rattle.records.proofs.Letters.{one-byte, two-bytes, three-bytes}
 
 -- ════ a test's number
 
+-- not 0: refused with it
+pub test-refused : (n : ℕ) → (n ≡ 0 → ⊥) → testOf n ≡ refused n
+unfolding testOf
+test-refused n h = rw (ne-eqb n 0 h)
+
+-- 0: passed
+pub test-passed : (n : ℕ) → n ≡ 0 → testOf n ≡ given tt
+unfolding testOf
+test-passed n e = rw (eq-eqb n 0 e)
+
 -- not 0: what follows is not tested
 pub stops : (n : ℕ) (t u : Test) → testOf n ≡ t → (n ≡ 0 → ⊥) → testOf n ≡ (t >> u)
-unfolding testOf
-stops n t u e h = let q : testOf n ≡ refused n = rw (ne-eqb n 0 h) in q ∙ ap (λ (z : Test). z >> u) (sym q ∙ e)
+stops n t u e h = test-refused n h ∙ ap (λ (z : Test). z >> u) (sym (test-refused n h) ∙ e)
 
 -- 0: what follows decides
 pub goes-on : (n : ℕ) (t u : Test) → testOf n ≡ t → n ≡ 0 → (t >> u) ≡ u
-unfolding testOf
-goes-on n t u e p = let q : testOf n ≡ given tt = rw p in ap (λ (z : Test). z >> u) (sym e ∙ q)
+goes-on n t u e p = ap (λ (z : Test). z >> u) (sym e ∙ test-passed n p)
 
 -- ════ the table
 

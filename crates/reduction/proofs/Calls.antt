@@ -16,6 +16,7 @@ use Rattle.terms.specs.Abstraction.{formOf}
 use Rattle.terms.specs.declared.types.Form.{Form}
 use Rattle.gathering.specs.declared.Closed.{Closed}
 use Rattle.records.specs.Tested.{testOf}
+use Rattle.records.proofs.LetterTests.{test-passed, test-refused}
 use Rattle.records.specs.Written.{FormWritten}
 use Rattle.operators.specs.Products.{WorkedAs}
 use Rattle.operators.proofs.Worked.{refuses, works-as, worked-given, worked-refused}
@@ -24,7 +25,6 @@ use Rattle.reduction.specs.declared.Reduced.{Reduced}
 use Rattle.reduction.specs.declared.Reduced.the-variants.{Written, Refused}
 use Rattle.reduction.specs.Answers.{reducedOf}
 use Rattle.reduction.specs.Trees.{ReadAs}
-use Rattle.reduction.proofs.Heads.{test-passed, test-refused}
 use Rattle.reduction.proofs.Levels.{Found, read-refused, read-given}
 
 -- ════ an expression whole

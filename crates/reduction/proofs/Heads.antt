@@ -15,8 +15,9 @@ use Rattle.specification.specs.Records.{fourBytesAt}
 use Rattle.specification.specs.Terms.{Form}
 use Rattle.specification.specs.Expressions.{Expr, Letter, Constant, Sum, Difference, Negation, Times, Dot, Wedge, Triple, Token, leaf, one, two, three, tokenBytes, testBytes, readLetter, readToken, readOperands, readTree}
 use Rattle.specification.specs.Reduction.{negateForm, sumForms, timesForms, dotForms, wedgeForms, tripleForms, work}
-use Rattle.theory.specs.Tests.{refused≢given, given-same, required}
+use Rattle.theory.specs.Tests.{and-false, refused≢given, given-same, required}
 use Rattle.records.specs.Tested.{testOf}
+use Rattle.records.proofs.LetterTests.{test-passed, test-refused}
 use Rattle.reduction.specs.Trees.{operandCount, testToken, testHead, binary, onOne, onTwo, onThree}
 
 -- ════ a token by its number
@@ -106,10 +107,6 @@ pub count-three : (token : ℕ) → token ≡ 9 → 3 ≡ operandCount token
 unfolding operandCount
 count-three token e = subst (λ (t : ℕ). 3 ≡ operandCount t) (sym e) refl
 
-and-false : (b : Bool) → (b && false) ≡ false
-and-false true = refl
-and-false false = refl
-
 pub count-low : (token : ℕ) → token < 3 → 0 ≡ operandCount token
 unfolding operandCount
 count-low token h =
@@ -125,16 +122,6 @@ count-high token h m =
     rw (ne-eqb token 5 n, lt-leb token 8 l, and-false (leb 3 token), ne-eqb token 9 m)
 
 -- ════ the tests at a tree
-
--- a test that passed
-pub test-passed : (n : ℕ) → n ≡ 0 → testOf n ≡ given tt
-unfolding testOf
-test-passed n e = rw (eq-eqb n 0 e)
-
--- a test that refused
-pub test-refused : (n : ℕ) → (n ≡ 0 → ⊥) → testOf n ≡ refused n
-unfolding testOf
-test-refused n h = rw (ne-eqb n 0 h)
 
 -- the token is missing
 pub no-token : (s : List ℕ) (at : ℕ) → length s ≤ at → testOf 4 ≡ testBytes s at

@@ -25,12 +25,13 @@ use Rattle.terms.specs.Valid.{FormValid}
 use Rattle.gathering.specs.declared.Closed.{Closed}
 use Rattle.gathering.specs.Closing.{closedOf}
 use Rattle.records.specs.Tested.{testOf}
+use Rattle.records.proofs.LetterTests.{test-passed, test-refused}
 use Rattle.operators.specs.Products.{WorkedAs}
 use Rattle.operators.specs.Sums.{Negated}
 use Rattle.operators.proofs.Worked.{refuses, works-as, worked-given, worked-refused}
 use Rattle.reduction.specs.declared.trees.Tree.{Tree}
 use Rattle.reduction.specs.Trees.{operandCount, testToken, testHead, binary, onOne, onTwo, onThree, Sound, Unread, TreeAs, ReadAs, LeafAt, readLeaf}
-use Rattle.reduction.proofs.Heads.{more, chain, read-is, chain-more, test-passed, test-refused, bytes-passed, own-byte}
+use Rattle.reduction.proofs.Heads.{more, chain, read-is, chain-more, bytes-passed, own-byte}
 
 -- one of two, by cases
 pub either-way : {A B C : Type 0} → A ⊎ B → (A → C) → (B → C) → C

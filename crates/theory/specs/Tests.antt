@@ -25,6 +25,11 @@ pub and-split : (a b : Bool) → T (a && b) → T a × T b
 and-split true b t = (tt, t)
 and-split false b t = absurd t
 
+-- what fails second fails
+pub and-false : (b : Bool) → (b && false) ≡ false
+and-false true = refl
+and-false false = refl
+
 pub eqb-T : (m n : ℕ) → m ≡ n → T (eqb m n)
 eqb-T m n e = subst (λ (k : ℕ). T (eqb m k)) e (eqb-refl m)
 
