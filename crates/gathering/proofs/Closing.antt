@@ -25,7 +25,7 @@ use Rattle.specification.specs.Terms as S
 -- ════ counted
 
 -- the sum with one more counted
-abbrev counted : Sum → Sum
+abbrev pub counted : Sum → Sum
 counted r = record { brought = r .brought + 1; count = r .count; terms = r .terms }
 
 -- what is changed, and then counted, is what bringing gives
@@ -73,13 +73,13 @@ refused-10 s kind ts b k e p h =
     record { is = sym (within-10 kind (sumOf s) (sym e ∙ p) (omega (arith, length-sum s k))); few = omega arith; counted = tt }
 
 -- neither: the form with the terms of the sum
-pub given-form : (s : Sum) (f g : Form) (b : Bool) → SumValid s → s .count ≤ length (s .terms) → b ≡ all termWithin (sumOf s) → b ≡ true → s .count ≤ 48
-    → Copied f s g → ClosedAs s (f .kind) (record { refusal = 0; form = g })
+pub given-form : (s : Sum) (kind : ℕ) (g : Form) (b : Bool) → SumValid s → s .count ≤ length (s .terms) → b ≡ all termWithin (sumOf s) → b ≡ true → s .count ≤ 48
+    → Copied s kind g → ClosedAs s kind (record { refusal = 0; form = g })
 unfolding closedOf formOf sumOf
-given-form s f g b v k e p h c =
+given-form s kind g b v k e p h c =
     record {
       is = ap given (λ j. record { kind = c .kind j; terms = map termOf (c .terms j) })
-          ∙ sym (within-both (f .kind) (sumOf s) (sym e ∙ p) (omega (arith, length-sum s k)));
+          ∙ sym (within-both kind (sumOf s) (sym e ∙ p) (omega (arith, length-sum s k)));
       few = omega (arith, c .count);
       counted = subst (All Counted) (sym (c .terms)) (all-implies (Standing (s .brought)) Counted (λ t w. w .counted) (held s) (v .standing));
     }

@@ -1,3 +1,4 @@
 -- Lemmas that belong to no one function.
 pub mod Steps
+pub mod Bringing
 pub mod Closing

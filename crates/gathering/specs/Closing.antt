@@ -17,11 +17,11 @@ use Rattle.gathering.specs.Sums.{held, sumOf}
 unfoldable pub closedOf : Closed → Result S.Form
 closedOf r = if eqb (r .refusal) 0 then given (formOf (r .form)) else refused (r .refusal)
 
--- a form with the terms of a sum
-pub record Copied (f : Form) (s : Sum) (r : Form) : Type 0 where
+-- a form of a kind with the terms of a sum
+pub record Copied (s : Sum) (k : ℕ) (r : Form) : Type 0 where
   pub terms : take (r .count) (r .terms) ≡ held s
   pub count : r .count ≡ s .count
-  pub kind : r .kind ≡ f .kind
+  pub kind : r .kind ≡ k
 
 -- what closing a sum gives
 pub record ClosedAs (s : Sum) (kind : ℕ) (r : Closed) : Type 0 where

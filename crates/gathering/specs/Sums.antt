@@ -1,10 +1,12 @@
 -- A sum as the specification's gathered terms, its invariant, and what bringing a term in gives. Assumes nothing.
+use mathlib.Core.Bool.{Bool, true, false}
 use mathlib.Core.Path.{_≡_}
 use mathlib.Core.List.{List, [], _∷_, map}
 use Prim.Native.Nat.{ℕ, _+_, _*_, _≤_}
 use lib.IntN.{natAbs, _+ℤ_}
 use lib.ListN.{take, length}
-use Rattle.specification.specs.Terms.{insert, keep, withCoef, tidy}
+use Rattle.specification.specs.Lists.{byOrder}
+use Rattle.specification.specs.Terms.{compareTerms, insert, keep, withCoef, tidy, gatherInto}
 use Rattle.specification.specs.Terms as S
 use Rattle.theory.specs.Elements.{All}
 use Rattle.terms.specs.declared.types.Term.{Term}
@@ -65,3 +67,22 @@ pub record RawBrought (s : Sum) (t : Term) (r : Sum) : Type 0 where
   pub is : sumOf r ≡ insert (tidy (termOf t)) (sumOf s)
   pub valid : SumValid r
   pub brought : r .brought ≡ s .brought + 1
+
+-- a term that can be brought in
+pub record Bringable (t : Term) : Type 0 where
+  pub counted : Counted t
+  pub light : natAbs (t .coef) ≤ 2147483647
+
+-- a term comes behind another
+unfoldable pub isBehind : S.Term → S.Term → Bool
+isBehind t u = byOrder (compareTerms t u) false false true
+
+-- two terms are like
+unfoldable pub isLike : S.Term → S.Term → Bool
+isLike t u = byOrder (compareTerms t u) false true false
+
+-- what bringing in terms one after the other gives whose letters and factors stand in any order
+pub record AllBrought (s : Sum) (ts : List Term) (n : ℕ) (r : Sum) : Type 0 where
+  pub is : sumOf r ≡ gatherInto (sumOf s) (map termOf ts)
+  pub valid : SumValid r
+  pub brought : r .brought ≡ s .brought + n

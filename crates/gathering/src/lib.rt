@@ -6,9 +6,10 @@ ghost use lib.IntN.{natAbs};
 ghost use lib.ListN.{take, drop};
 ghost use Rattle.specification.specs.Lists.{all};
 ghost use Rattle.specification.specs.Terms.{keep, insert, termWithin};
+ghost use Rattle.theory.specs.Elements.{All};
 ghost use Rattle.terms.specs.Abstraction.{termOf, Counted};
-ghost use Rattle.gathering.specs.Sums.{held, sumOf, addedTo, Empty, SumValid, Held, Changed, Brought, RawBrought};
-ghost use Rattle.gathering.specs.Closing.{Copied, ClosedAs};
+ghost use Rattle.gathering.specs.Sums.{held, sumOf, addedTo, Empty, SumValid, Held, Changed, Brought, RawBrought, isBehind, isLike, Bringable, AllBrought};
+ghost use Rattle.gathering.specs.Closing.{ClosedAs};
 use integers::add;
 use integers::is_zero;
 use integers::within;
@@ -155,6 +156,80 @@ pub fn bring_raw(s: Sum, t: Term) -> Sum
     bring(s, u)
 }
 
+// Whether a term comes behind another.
+fn comes_behind(t: Term, u: Term) -> bool
+    requires { ⌜ Counted t × Counted u ⌝ }
+    ensures { λ r. ⌜ r ≡ isBehind (termOf t) (termOf u) ⌝ }
+{
+    let o = compare(t, u);
+    match o {
+        Order::Less => false,
+        Order::Equal => false,
+        Order::Greater => true,
+    }
+}
+
+// Whether two terms are like.
+fn are_like(t: Term, u: Term) -> bool
+    requires { ⌜ Counted t × Counted u ⌝ }
+    ensures { λ r. ⌜ r ≡ isLike (termOf t) (termOf u) ⌝ }
+{
+    let o = compare(t, u);
+    match o {
+        Order::Less => false,
+        Order::Equal => true,
+        Order::Greater => false,
+    }
+}
+
+// So many terms with their letters and factors in any order brought into a sum, one after the other.
+pub fn bring_all(s: Sum, ts: [Term; 96], n: usize) -> Sum
+    requires { ⌜ SumValid s × (s .brought + n ≤ 96) × All Bringable (take n ts) ⌝ }
+    ensures { λ r. ⌜ AllBrought s (take n ts) n r ⌝ }
+{
+    let mut g = s;
+    let mut k: usize = 0;
+    while k < n {
+        let x = ts[k];
+        let t = tidy(x);
+        k += 1;
+        let b = g.brought + 1;
+        let m = g.count;
+        let mut i: usize = 0;
+        let mut e = m;
+        while i < e {
+            let u = g.terms[i];
+            if comes_behind(t, u) {
+                i += 1;
+            } else {
+                e = i;
+            }
+        }
+        if i < m {
+            let u = g.terms[i];
+            if are_like(t, u) {
+                g = add_at(g, i, t);
+                g.brought = b;
+                continue;
+            }
+        }
+        if is_zero(t.coef) {
+            g.brought = b;
+            continue;
+        }
+        let mut j = m;
+        while j > i {
+            let u = g.terms[j - 1];
+            g.terms[j] = u;
+            j -= 1;
+        }
+        g.terms[i] = t;
+        g.count = m + 1;
+        g.brought = b;
+    }
+    g
+}
+
 // Whether every coefficient of a sum is within ±2147483647.
 fn all_within(s: Sum) -> bool
     requires { ⌜ s .count ≤ 96 ⌝ }
@@ -172,23 +247,6 @@ fn all_within(s: Sum) -> bool
     true
 }
 
-// The form with the terms of a sum instead of its own.
-fn copy_terms(f: Form, s: Sum) -> Form
-    requires { ⌜ s .count ≤ 48 ⌝ }
-    ensures { λ r. ⌜ Copied f s r ⌝ }
-{
-    let mut g = f;
-    let n = s.count;
-    let mut i: usize = 0;
-    while i < n {
-        let t = s.terms[i];
-        g.terms[i] = t;
-        i += 1;
-    }
-    g.count = n;
-    g
-}
-
 // The form of a sum, refused with 9 where a coefficient is beyond ±2147483647, else with 10 where there are more than 48 terms.
 pub fn close(s: Sum, kind: u8) -> Closed
     requires { ⌜ SumValid s ⌝ }
@@ -196,7 +254,7 @@ pub fn close(s: Sum, kind: u8) -> Closed
 {
     let t = s.terms[0];
     let ts = [t; 48];
-    let f = Form {
+    let mut f = Form {
         kind: kind,
         count: 0,
         terms: ts,
@@ -215,9 +273,15 @@ pub fn close(s: Sum, kind: u8) -> Closed
             form: f,
         };
     }
-    let g = copy_terms(f, s);
+    let mut i: usize = 0;
+    while i < n {
+        let u = s.terms[i];
+        f.terms[i] = u;
+        i += 1;
+    }
+    f.count = n;
     Closed {
         refusal: 0,
-        form: g,
+        form: f,
     }
 }

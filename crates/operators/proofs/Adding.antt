@@ -10,6 +10,7 @@ use lib.IntN.{ℤ, negℤ, natAbs}
 use lib.ListN.{length, take, drop, getD, set, drop-of-length-le}
 use lib.Seq.{take-suc}
 use Rattle.algebra.specs.Integers.{sfits-natAbs}
+use Rattle.specification.specs.Results.{refused}
 use Rattle.specification.specs.Terms.{gather, gatherInto, insert, tidy, within, negated, termInShape}
 use Rattle.specification.specs.Terms as S
 use Rattle.specification.specs.Reduction.{sumForms, negateForm}
@@ -31,68 +32,11 @@ use Rattle.gathering.specs.Sums.{held, sumOf, Standing, SumValid, Brought}
 use Rattle.gathering.specs.Closing.{ClosedAs}
 use Rattle.operators.specs.Limits.{coefSize}
 use Rattle.operators.specs.Products.{WorkedAs}
-use Rattle.operators.specs.Sums.{Begun, TermsBrought, Negated}
+use Rattle.operators.specs.Sums.{Negated}
 use Rattle.operators.proofs.Largest.{Limited, form-limited, form-size}
 use Rattle.operators.proofs.Places.{form-length, form-rest, form-at, form-counted}
 use Rattle.operators.proofs.Rows.{gather-join}
 use Rattle.operators.proofs.Worked.{refuses, works-as, closes}
-
--- ════ a sum begun with a form
-
--- a term that may be brought in
-abbrev Small : Term → Type 0
-Small t = Counted t × (natAbs (t .coef) ≤ 2147483647)
-
-smalls : (f : Form) → FormValid f → All Small (take (f .count) (f .terms))
-unfolding formOf termOf coefSize
-smalls f v = both (take (f .count) (f .terms)) (v .counted) (form-limited (formOf f) (v .inShape))
-  where
-    both : (l : List Term) → All Counted l → All Limited (map termOf l) → All Small l
-    both [] h k = tt
-    both (t ∷ l) h k = ((h .0, k .0 .size), both l (h .1) (k .1))
-
-stand : (n : ℕ) (l : List Term) → All Small (take n l) → All (Standing n) (take n l)
-stand zero l a = tt
-stand (suc n) l a = all-implies Small (Standing (suc n)) (λ t p. record { counted = p .0; light = omega (arith, p .1) }) (take (suc n) l) a
-
--- the form's own terms, counted as brought in
-pub begun : (f : Form) (s : Sum) → FormValid f → s .count ≡ f .count → s .brought ≡ f .count → take (f .count) (s .terms) ≡ take (f .count) (f .terms) → Begun f s
-unfolding sumOf held formOf
-begun f s v c b e =
-    let same : take (s .count) (s .terms) ≡ take (f .count) (f .terms) = ap (λ (n : ℕ). take n (s .terms)) c ∙ e in
-    record {
-      is = ap (map termOf) same;
-      brought = b;
-      valid = record {
-        fewer = omega (arith, c, b);
-        few = omega (arith, b, v .few);
-        standing = subst (λ (n : ℕ). All (Standing n) (held s)) (sym b) (subst (All (Standing (f .count))) (sym same) (stand (f .count) (f .terms) (smalls f v)));
-      };
-    }
-
--- ════ terms brought in
-
--- none yet
-pub none-brought : (s : Sum) (g : Form) → gatherInto (sumOf s) (drop 0 (formOf g .terms)) ≡ gatherInto (sumOf s) (formOf g .terms)
-none-brought s g = refl
-
--- one more
-pub one-brought : (g : Form) (i : ℕ) (q r : Sum) (l : List S.Term) → FormValid g → g .count ≤ length (g .terms) → i < g .count → gatherInto (sumOf q) (drop i (formOf g .terms)) ≡ l
-    → Brought q (getD (g .terms) i noTerm) r → gatherInto (sumOf r) (drop (i + 1) (formOf g .terms)) ≡ l
-unfolding gatherInto
-one-brought g i q r l v h k e b =
-    let tidied : tidy (termOf (getD (g .terms) i noTerm)) ≡ termOf (getD (g .terms) i noTerm) =
-    in-shape-tidy (termOf (getD (g .terms) i noTerm)) (form-at (λ (t : S.Term). T (termInShape t)) g i h k (all-T termInShape (formOf g .terms) (v .inShape .terms))) in
-    ap (λ (d : List S.Term). gatherInto d (drop (i + 1) (formOf g .terms))) (b .is ∙ ap (λ (t : S.Term). insert t (sumOf q)) (sym tidied))
-    ∙ ap (gatherInto (sumOf q)) (sym (form-rest g i h k)) ∙ e
-
--- all
-pub all-brought : (s q : Sum) (g : Form) (i : ℕ) → g .count ≤ length (g .terms) → g .count ≤ i → SumValid q → gatherInto (sumOf q) (drop i (formOf g .terms)) ≡ gatherInto (sumOf s) (formOf g .terms)
-    → TermsBrought s g q
-unfolding gatherInto
-all-brought s q g i h k v e =
-    let n : length (formOf g .terms) ≤ i = omega (arith, form-length g h) in
-    record { is = ap (gatherInto (sumOf q)) (sym (drop-of-length-le (formOf g .terms) n)) ∙ e; valid = v }
 
 -- ════ the sum
 
@@ -101,18 +45,28 @@ pub sum-six : (f g : Form) (r : Closed) → (f .kind ≡ g .kind → ⊥) → r 
 unfolding sumForms formOf
 sum-six f g r h e = refuses (sumForms (formOf f) (formOf g)) r 6 e (λ z. omega arith) (rw (ne-eqb (f .kind) (g .kind) h))
 
--- one kind
-pub sum-closed : (f g : Form) (s q : Sum) (r : Closed) → FormValid f → FormValid g → f .kind ≡ g .kind → Begun f s → TermsBrought s g q → ClosedAs q (f .kind) r
-    → WorkedAs (sumForms (formOf f) (formOf g)) r
-unfolding sumForms formOf
-sum-closed f g s q r v w e b t c =
-    let gathered : sumOf q ≡ gather (formOf f .terms ++ formOf g .terms) =
-    t .is ∙ ap (λ (d : List S.Term). gatherInto d (formOf g .terms)) (b .is ∙ sym (gather-again (formOf f .terms) (form-gathered (formOf f) (v .inShape))))
-    ∙ sym (gather-join (formOf f .terms) (formOf g .terms)) in
-    works-as (within (f .kind) (gather (formOf f .terms ++ formOf g .terms))) (sumForms (formOf f) (formOf g)) r (rw (eq-eqb (f .kind) (g .kind) e))
-    (closes q (f .kind) (formOf f .terms ++ formOf g .terms) r (v .inShape .kind) gathered
-    (all-append (λ (t : S.Term). Fits (f .kind) (monomial t)) (formOf f .terms) (formOf g .terms) (form-fits (formOf f) (v .inShape))
-    (subst (λ (k : ℕ). AllFit k (formOf g .terms)) (sym e) (form-fits (formOf g) (w .inShape)))) c)
+module _ (f g : Form) (v : FormValid f) (w : FormValid g) (e : f .kind ≡ g .kind) where
+  gathered : gatherInto (formOf f .terms) (formOf g .terms) ≡ gather (formOf f .terms ++ formOf g .terms)
+  gathered =
+      ap (λ (d : List S.Term). gatherInto d (formOf g .terms)) (sym (gather-again (formOf f .terms) (form-gathered (formOf f) (v .inShape))))
+      ∙ sym (gather-join (formOf f .terms) (formOf g .terms))
+
+  sum-is : within (f .kind) (gather (formOf f .terms ++ formOf g .terms)) ≡ sumForms (formOf f) (formOf g)
+  unfolding sumForms formOf
+  sum-is = rw (eq-eqb (f .kind) (g .kind) e)
+
+  -- one kind: what is gathered is refused
+  pub sum-refused : (r : Closed) (n : ℕ) → r .refusal ≡ n → (n ≡ 0 → ⊥) → within (f .kind) (gatherInto (formOf f .terms) (formOf g .terms)) ≡ refused n → WorkedAs (sumForms (formOf f) (formOf g)) r
+  sum-refused r n h z p = refuses (sumForms (formOf f) (formOf g)) r n h z (sym sum-is ∙ ap (within (f .kind)) (sym gathered) ∙ p)
+
+  -- or closed
+  pub sum-closed : (q : Sum) (r : Closed) → sumOf q ≡ gatherInto (formOf f .terms) (formOf g .terms) → ClosedAs q (f .kind) r → WorkedAs (sumForms (formOf f) (formOf g)) r
+  unfolding formOf
+  sum-closed q r b c =
+      works-as (within (f .kind) (gather (formOf f .terms ++ formOf g .terms))) (sumForms (formOf f) (formOf g)) r sum-is
+      (closes q (f .kind) (formOf f .terms ++ formOf g .terms) r (v .inShape .kind) (b ∙ gathered)
+      (all-append (λ (t : S.Term). Fits (f .kind) (monomial t)) (formOf f .terms) (formOf g .terms) (form-fits (formOf f) (v .inShape))
+      (subst (λ (k : ℕ). AllFit k (formOf g .terms)) (sym e) (form-fits (formOf g) (w .inShape)))) c)
 
 -- ════ signs turned
 

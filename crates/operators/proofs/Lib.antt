@@ -2,6 +2,7 @@
 pub mod Few
 pub mod Largest
 pub mod Places
+pub mod Merging
 pub mod Pairs
 pub mod Rows
 pub mod Worked

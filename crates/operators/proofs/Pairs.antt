@@ -1,4 +1,4 @@
--- The terms of one pair: the scalar parts joined, times what the vector parts make, brought into a sum. Assumes nothing.
+-- The terms of one pair: the scalar parts joined, times what the vector parts make. Assumes nothing.
 use mathlib.Core.Path.{_≡_, refl, ap, sym, subst, _∙_}
 use mathlib.Core.Logic.{_⊎_, inl, inr}
 use mathlib.Core.List.{List, [], _∷_, _++_, map}
@@ -10,7 +10,7 @@ use lib.IntN.{ℤ, natAbs, _*ℤ_}
 use lib.ListN.{length, take, length-map}
 use lib.Seq.{length-take-le}
 use Rattle.algebra.specs.Integers.{natAbs-*ℤ}
-use Rattle.specification.specs.Terms.{timesTerm, insert, tidy, gatherInto, coefWithin, vectorLetters, scalarLetters, vectorLettersOf, scalarLettersOf}
+use Rattle.specification.specs.Terms.{timesTerm, coefWithin, vectorLetters, scalarLetters, vectorLettersOf, scalarLettersOf}
 use Rattle.algebra.specs.Conditions.{lt-or-le}
 use Rattle.specification.specs.Terms as S
 use Rattle.specification.specs.Reduction.{joinedScalars, pairTerms, pairLettersFit, pairCoefFits}
@@ -22,12 +22,10 @@ use Rattle.terms.specs.Numbers.{lettersOf}
 use Rattle.terms.specs.Abstraction.{partOf, termOf, Counted}
 use Rattle.terms.specs.Tidy.{Joined}
 use Rattle.terms.proofs.InShape.{counted-scalar, counted-dot, counted-triple}
-use Rattle.gathering.specs.declared.Sum.{Sum}
-use Rattle.gathering.specs.Sums.{sumOf, SumValid, RawBrought}
 use Rattle.operators.specs.declared.parts.Operation.{Operation}
 use Rattle.operators.specs.declared.parts.Few.{Few}
 use Rattle.operators.specs.Parts.{partsOf, Small, listOf, FewMade}
-use Rattle.operators.specs.Products.{Scalars, Pair, PairBrought}
+use Rattle.operators.specs.Products.{Scalars, Pair}
 
 -- ════ few factors
 
@@ -145,54 +143,27 @@ module _ (t u b x : Term) (h : Base t u b) (s : Small x) where
         subst (λ (z : ℤ). natAbs z ≤ 2147483647) (sym (ap (λ (z : S.Term). z .coef) (j .is)))
         (subst (λ (n : ℕ). n ≤ 2147483647) (sym (natAbs-*ℤ (b .coef) (x .coef))) light)
 
--- ════ brought into a sum
+-- ════ the terms of a pair
 
--- the parts make these terms
-made-none : (ts : List S.Term) (r : Few) → FewMade ts r → r .count ≡ 0 → ts ≡ []
-unfolding listOf
-made-none ts r m e = sym (m .is) ∙ ap (λ (n : ℕ). map termOf (take n (r .first ∷ r .second ∷ []))) e
-
-made-one : (ts : List S.Term) (r : Few) → FewMade ts r → r .count ≡ 1 → ts ≡ termOf (r .first) ∷ []
-unfolding listOf
-made-one ts r m e = sym (m .is) ∙ ap (λ (n : ℕ). map termOf (take n (r .first ∷ r .second ∷ []))) e
-
-made-two : (ts : List S.Term) (r : Few) → FewMade ts r → (r .count ≡ 0 → ⊥) → (r .count ≡ 1 → ⊥) → ts ≡ termOf (r .first) ∷ termOf (r .second) ∷ []
-unfolding listOf
-made-two ts r m n o =
-    let e : r .count ≡ 2 = omega (arith, m .few) in
-    sym (m .is) ∙ ap (λ (n : ℕ). map termOf (take n (r .first ∷ r .second ∷ []))) e
-
-module _ (op : Operation) (s : Sum) (t u : Term) (few : Few) (m : FewMade (partsOf op (partOf (t .part)) (partOf (u .part))) few) (v : SumValid s) where
-  terms-are : (us : List S.Term) → partsOf op (partOf (t .part)) (partOf (u .part)) ≡ us → pairTerms (partsOf op) (termOf t, termOf u) ≡ map (timesTerm (joinedScalars (termOf t) (termOf u))) us
+module _ (op : Operation) (t u : Term) (few : Few) (m : FewMade (partsOf op (partOf (t .part)) (partOf (u .part))) few) where
+  -- each term that the parts make, times the joined scalar parts
+  times-each : pairTerms (partsOf op) (termOf t, termOf u) ≡ map (timesTerm (joinedScalars (termOf t) (termOf u))) (listOf few)
   unfolding pairTerms termOf
-  terms-are us e = ap (map (timesTerm (joinedScalars (termOf t) (termOf u)))) e
+  times-each = ap (map (timesTerm (joinedScalars (termOf t) (termOf u)))) (sym (m .is))
 
-  -- no term
-  pub brought-none : few .count ≡ 0 → PairBrought op s t u s
-  unfolding gatherInto
-  brought-none e = record {
-    is = ap (gatherInto (sumOf s)) (sym (terms-are [] (made-none _ few m e)));
-    valid = v;
-    brought = omega arith;
-  }
+  module _ (x : Term) (ex : termOf x ≡ timesTerm (joinedScalars (termOf t) (termOf u)) (termOf (few .first))) where
+    -- at most one term
+    pub made-few : (y : Term) → few .count < 2 → listOf (record { count = few .count; first = x; second = y }) ≡ pairTerms (partsOf op) (termOf t, termOf u)
+    unfolding listOf
+    made-few y h = go (few .count) refl h ∙ sym times-each
+      where
+        go : (n : ℕ) → few .count ≡ n → n < 2 → map termOf (take (few .count) (x ∷ y ∷ [])) ≡ map (timesTerm (joinedScalars (termOf t) (termOf u))) (map termOf (take (few .count) (few .first ∷ few .second ∷ [])))
+        go zero e g = rw e
+        go (suc zero) e g = rw (e, ex)
+        go (suc (suc n)) e g = absurd (omega arith)
 
-  -- one term
-  pub brought-one : (x : Term) (r : Sum) → few .count ≡ 1 → termOf x ≡ timesTerm (joinedScalars (termOf t) (termOf u)) (termOf (few .first)) → RawBrought s x r → PairBrought op s t u r
-  unfolding gatherInto
-  brought-one x r e is h = record {
-    is = h .is ∙ ap (λ (z : S.Term). insert (tidy z) (sumOf s)) is ∙ ap (gatherInto (sumOf s)) (sym (terms-are (termOf (few .first) ∷ []) (made-one _ few m e)));
-    valid = h .valid;
-    brought = omega (arith, h .brought);
-  }
-
-  -- two terms
-  pub brought-two : (x y : Term) (q r : Sum) → (few .count ≡ 0 → ⊥) → (few .count ≡ 1 → ⊥)
-      → termOf x ≡ timesTerm (joinedScalars (termOf t) (termOf u)) (termOf (few .first)) → termOf y ≡ timesTerm (joinedScalars (termOf t) (termOf u)) (termOf (few .second))
-      → RawBrought s x q → RawBrought q y r → PairBrought op s t u r
-  unfolding gatherInto
-  brought-two x y q r n o isx isy h k = record {
-    is = k .is ∙ (λ i. insert (tidy (isy i)) ((h .is ∙ ap (λ (z : S.Term). insert (tidy z) (sumOf s)) isx) i))
-        ∙ ap (gatherInto (sumOf s)) (sym (terms-are (termOf (few .first) ∷ termOf (few .second) ∷ []) (made-two _ few m n o)));
-    valid = k .valid;
-    brought = omega (arith, h .brought, k .brought);
-  }
+    -- two terms
+    pub made-two : (y : Term) → termOf y ≡ timesTerm (joinedScalars (termOf t) (termOf u)) (termOf (few .second)) → 2 ≤ few .count
+        → listOf (record { count = few .count; first = x; second = y }) ≡ pairTerms (partsOf op) (termOf t, termOf u)
+    unfolding listOf
+    made-two y ey h = let e : few .count ≡ 2 = omega (arith, m .few) in rw (e, ex, ey) (sym (rw e at times-each))

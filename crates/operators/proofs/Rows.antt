@@ -1,13 +1,13 @@
--- All pairs of two forms, one after the other: the pair at a place, and its terms gathered behind those before. Assumes nothing.
+-- All pairs of two forms, one after the other: the pair at a place, and its terms behind those before. Assumes nothing.
 use mathlib.Core.Path.{_≡_, refl, ap, sym, subst, _∙_}
 use mathlib.Core.Logic.{_⊎_, inl, inr}
-use mathlib.Core.List.{List, [], _∷_, _++_, map, flatMap, append-assoc, append-nil}
+use mathlib.Core.List.{List, [], _∷_, _++_, map, flatMap, append-assoc, append-nil, map-append}
 use Prim.Native.Nat.{ℕ, zero, suc, _+_, _*_, _-_, _/_, _%_, _≤_, _<_}
 use native.Mathlib.Nat as N
 use native.Mathlib.Numerals.{add-one}
 use native.Mathlib.Omega.{arith}
 use lib.Dec.{T}
-use lib.ListN.{length, take, drop, getD, length-append, length-map, List·getD-append, List·getD-map}
+use lib.ListN.{length, take, drop, getD, set, length-append, length-set, length-map, List·getD-append, List·getD-map}
 use lib.Seq.{take-suc, take-all, getD-take, getD-append-add}
 use Rattle.specification.specs.Lists.{all}
 use Rattle.specification.specs.Letters.{scalar, vector}
@@ -15,7 +15,7 @@ use Rattle.specification.specs.Terms.{gather, gatherInto}
 use Rattle.algebra.specs.Conditions.{lt-or-le}
 use Rattle.specification.specs.Terms as S
 use Rattle.specification.specs.Reduction.{pairTerms, pairsOf, pairLettersFit, pairCoefFits}
-use Rattle.theory.specs.Elements.{All, all-T, all-implies}
+use Rattle.theory.specs.Elements.{All, all-T, all-append}
 use Rattle.theory.specs.Order.{monomial}
 use Rattle.theory.specs.Shape.Terms.{Fits, no-part}
 use Rattle.theory.specs.Shape.Forms.{AllFit, form-fits}
@@ -25,12 +25,12 @@ use Rattle.terms.specs.Abstraction.{partOf, termOf, formOf, Counted}
 use Rattle.terms.specs.Valid.{FormValid}
 use Rattle.terms.proofs.Arrays.{noTerm}
 use Rattle.gathering.specs.declared.Sum.{Sum}
-use Rattle.gathering.specs.Sums.{sumOf, SumValid, Empty}
-use Rattle.gathering.proofs.Closing.{gather-none}
+use Rattle.gathering.specs.Sums.{Bringable, Empty, AllBrought}
+use Rattle.operators.specs.declared.parts.Few.{Few}
 use Rattle.operators.specs.declared.parts.Operation.{Operation}
 use Rattle.operators.specs.declared.parts.Operation.the-variants.{Times, Dot, Wedge}
-use Rattle.operators.specs.Parts.{partsOf, Together}
-use Rattle.operators.specs.Products.{Pair, PairBrought, Kinds, PairsFit, PairsBrought}
+use Rattle.operators.specs.Parts.{partsOf, listOf, Together}
+use Rattle.operators.specs.Products.{Pair, PairMade, Kinds, PairsFit, PairsBrought}
 use Rattle.operators.proofs.Places.{form-length, form-at, form-counted}
 
 -- ════ the pair at a place
@@ -110,7 +110,7 @@ pair-holds P ts us k h a = subst P (pairs-at ts us k h) (at (pairsOf ts us) k (o
     at (p ∷ l) zero h a = a .0
     at (p ∷ l) (suc k) h a = at l k (omega arith) (a .1)
 
--- ════ gathered so far
+-- ════ the terms so far
 
 flatMap-behind : {A B : Type 0} (f : A → List B) (xs : List A) (y : A) → flatMap f (xs ++ y ∷ []) ≡ flatMap f xs ++ f y
 unfolding flatMap
@@ -127,18 +127,17 @@ pub gather-join : (xs ys : List S.Term) → gather (xs ++ ys) ≡ gatherInto (ga
 unfolding gather
 gather-join xs ys = into-join [] xs ys
 
--- the terms of the first k pairs, gathered
+-- the terms of the first k pairs
 abbrev pub upTo : Operation → (ts us : List S.Term) → ℕ → List S.Term
-upTo op ts us k = gather (flatMap (pairTerms (partsOf op)) (take k (pairsOf ts us)))
+upTo op ts us k = flatMap (pairTerms (partsOf op)) (take k (pairsOf ts us))
 
 next-pair : (op : Operation) (ts us : List S.Term) (k : ℕ) → k < length ts * length us
-    → upTo op ts us (k + 1) ≡ gatherInto (upTo op ts us k) (pairTerms (partsOf op) (getD ts (k / length us) blank, getD us (k % length us) blank))
+    → upTo op ts us (k + 1) ≡ upTo op ts us k ++ pairTerms (partsOf op) (getD ts (k / length us) blank, getD us (k % length us) blank)
 next-pair op ts us k h =
     let g : k < length (pairsOf ts us) = omega (arith, pairs-length ts us) in
-    ap (λ (l : List (S.Term × S.Term)). gather (flatMap (pairTerms (partsOf op)) l))
+    ap (flatMap (pairTerms (partsOf op)))
     ((λ i. take (add-one k i) (pairsOf ts us)) ∙ take-suc (pairsOf ts us) k (blank, blank) g ∙ ap (λ (p : S.Term × S.Term). take k (pairsOf ts us) ++ p ∷ []) (pairs-at ts us k h))
-    ∙ ap gather (flatMap-behind (pairTerms (partsOf op)) (take k (pairsOf ts us)) (getD ts (k / length us) blank, getD us (k % length us) blank))
-    ∙ gather-join (flatMap (pairTerms (partsOf op)) (take k (pairsOf ts us))) (pairTerms (partsOf op) (getD ts (k / length us) blank, getD us (k % length us) blank))
+    ∙ flatMap-behind (pairTerms (partsOf op)) (take k (pairsOf ts us)) (getD ts (k / length us) blank, getD us (k % length us) blank)
 
 -- ════ the pairs of two forms
 
@@ -191,27 +190,75 @@ module _ (op : Operation) (f g : Form) (vf : FormValid f) (vg : FormValid g) (hf
     coef = at-pair (λ (p : S.Term × S.Term). T (pairCoefFits p)) (all-T pairCoefFits (pairsOf (formOf f .terms) (formOf g .terms)) (w .coefs));
   }
 
-  -- and its terms are gathered behind those before
-  pub pair-gathered : (s r : Sum) → sumOf s ≡ upTo op (formOf f .terms) (formOf g .terms) k
-      → PairBrought op s (getD (f .terms) (k / g .count) noTerm) (getD (g .terms) (k % g .count) noTerm) r → sumOf r ≡ upTo op (formOf f .terms) (formOf g .terms) (k + 1)
-  unfolding left right
-  pair-gathered s r e b =
-      b .is ∙ ap (λ (l : List S.Term). gatherInto l (pairTerms (partsOf op) (termOf left, termOf right))) e
-      ∙ ap (λ (p : S.Term × S.Term). gatherInto (upTo op (formOf f .terms) (formOf g .terms) k) (pairTerms (partsOf op) p)) (sym the-pair)
+  -- and its terms stand behind those before
+  pub pair-listed : (l : List Term) (few : Few) → map termOf l ≡ upTo op (formOf f .terms) (formOf g .terms) k
+      → PairMade op (getD (f .terms) (k / g .count) noTerm) (getD (g .terms) (k % g .count) noTerm) few
+      → map termOf (l ++ take (few .count) (few .first ∷ few .second ∷ [])) ≡ upTo op (formOf f .terms) (formOf g .terms) (k + 1)
+  unfolding left right listOf
+  pair-listed l few e b =
+      map-append termOf l (take (few .count) (few .first ∷ few .second ∷ []))
+      ∙ (λ i. e i ++ (b .is ∙ ap (pairTerms (partsOf op)) (sym the-pair)) i)
       ∙ sym (next-pair op (formOf f .terms) (formOf g .terms) k inside)
 
--- no pair yet
-pub none-gathered : (op : Operation) (ts us : List S.Term) (s : Sum) → Empty s → sumOf s ≡ upTo op ts us 0
-unfolding flatMap
-none-gathered op ts us s e = e .is ∙ sym gather-none
+-- ════ the terms of pairs in a list
 
--- all pairs
-pub all-gathered : (op : Operation) (f g : Form) (s : Sum) (k : ℕ) → f .count ≤ length (f .terms) → g .count ≤ length (g .terms) → f .count * g .count ≤ k → SumValid s
-    → sumOf s ≡ upTo op (formOf f .terms) (formOf g .terms) k → PairsBrought op f g s
-all-gathered op f g s k hf hg h v e =
+-- two terms stored behind others, of which so many count
+two-stored : {A : Type 0} (l : List A) (c z : ℕ) (x y : A) → z ≤ 2 → c + 1 < length l → take (c + z) (set (set l c x) (c + 1) y) ≡ take c l ++ take z (x ∷ y ∷ [])
+two-stored [] c z x y h k = absurd (omega arith)
+two-stored (a ∷ []) c z x y h k = absurd (omega arith)
+two-stored (a ∷ b ∷ l) zero zero x y h k = refl
+two-stored (a ∷ b ∷ l) zero (suc zero) x y h k = refl
+two-stored (a ∷ b ∷ l) zero (suc (suc zero)) x y h k = refl
+two-stored (a ∷ b ∷ l) zero (suc (suc (suc z))) x y h k = absurd (omega arith)
+two-stored (a ∷ b ∷ l) (suc c) z x y h k =
+    let e : suc c + z ≡ suc (c + z) = omega arith in
+    let d : suc c + 1 ≡ suc (c + 1) = omega arith in
+    rw (e, d) (ap (λ (m : List _). a ∷ m) (two-stored (b ∷ l) c z x y h (omega arith)))
+
+few-bringable : (few : Few) → few .count ≤ 2 → Bringable (few .first) → Bringable (few .second) → All Bringable (take (few .count) (few .first ∷ few .second ∷ []))
+few-bringable few h a b = go (few .count) h
+  where
+    go : (n : ℕ) → n ≤ 2 → All Bringable (take n (few .first ∷ few .second ∷ []))
+    go zero g = tt
+    go (suc zero) g = (a, tt)
+    go (suc (suc zero)) g = (a, (b, tt))
+    go (suc (suc (suc n))) g = absurd (omega arith)
+
+-- the terms of the first k pairs in a list of 96
+pub record Listed (op : Operation) (f g : Form) (k : ℕ) (ts : List Term) (count : ℕ) : Type 0 where
+  pub few : count ≤ 2 * k
+  pub places : length ts ≡ 96
+  pub bringable : All Bringable (take count ts)
+  pub is : map termOf (take count ts) ≡ upTo op (formOf f .terms) (formOf g .terms) k
+
+-- none yet
+pub listed-none : (op : Operation) (f g : Form) (ts : List Term) → length ts ≡ 96 → Listed op f g 0 ts 0
+unfolding flatMap
+listed-none op f g ts h = record { few = omega arith; places = h; bringable = tt; is = refl }
+
+-- one pair more
+pub listed-more : (op : Operation) (f g : Form) (vf : FormValid f) (vg : FormValid g) (hf : f .count ≤ length (f .terms)) (hg : g .count ≤ length (g .terms))
+    (k : ℕ) (h : k < f .count * g .count) (ts : List Term) (count : ℕ) (few : Few) → k < 48 → Listed op f g k ts count
+    → PairMade op (getD (f .terms) (k / g .count) noTerm) (getD (g .terms) (k % g .count) noTerm) few
+    → Listed op f g (k + 1) (set (set ts count (few .first)) (count + 1) (few .second)) (count + few .count)
+listed-more op f g vf vg hf hg k h ts count few n w b =
+    let e : take (count + few .count) (set (set ts count (few .first)) (count + 1) (few .second)) ≡ take count ts ++ take (few .count) (few .first ∷ few .second ∷ []) =
+    two-stored ts count (few .count) (few .first) (few .second) (b .few) (omega (arith, w .few, w .places)) in
+    record {
+      few = omega (arith, w .few, b .few);
+      places = simp length-set (w .places);
+      bringable = rw e (all-append Bringable (take count ts) (take (few .count) (few .first ∷ few .second ∷ [])) (w .bringable) (few-bringable few (b .few) (b .first) (b .second)));
+      is = rw e (pair-listed op f g vf vg hf hg k h (take count ts) few (w .is) b);
+    }
+
+-- all pairs, gathered
+pub listed-all : (op : Operation) (f g : Form) (s r : Sum) (k : ℕ) (ts : List Term) (count : ℕ) → f .count ≤ length (f .terms) → g .count ≤ length (g .terms) → f .count * g .count ≤ k
+    → Empty s → Listed op f g k ts count → AllBrought s (take count ts) count r → PairsBrought op f g r
+unfolding gather
+listed-all op f g s r k ts count hf hg h z w b =
     let n : length (pairsOf (formOf f .terms) (formOf g .terms)) ≤ k =
     subst (λ (n : ℕ). n ≤ k) (sym (pairs-length (formOf f .terms) (formOf g .terms) ∙ (λ i. form-length f hf i * form-length g hg i))) h in
     record {
-      is = e ∙ ap (λ (l : List (S.Term × S.Term)). gather (flatMap (pairTerms (partsOf op)) l)) (take-all k (pairsOf (formOf f .terms) (formOf g .terms)) n);
-      valid = v;
+      is = b .is ∙ (λ i. gatherInto (z .is i) (w .is i)) ∙ ap (λ (l : List (S.Term × S.Term)). gatherInto [] (flatMap (pairTerms (partsOf op)) l)) (take-all k (pairsOf (formOf f .terms) (formOf g .terms)) n);
+      valid = b .valid;
     }

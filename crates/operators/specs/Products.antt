@@ -1,4 +1,4 @@
--- What an operator gives, and the terms of pairs brought into a sum. Assumes nothing.
+-- What an operator gives, and the terms of pairs gathered. Assumes nothing.
 use mathlib.Core.Path.{_≡_}
 use mathlib.Core.Logic.{_⊎_}
 use mathlib.Core.List.{List, [], flatMap}
@@ -9,7 +9,7 @@ use Rattle.specification.specs.Lists.{all}
 use Rattle.specification.specs.Letters.{scalar, vector}
 use Rattle.specification.specs.Results.{Result}
 use Rattle.specification.specs.Terms as S
-use Rattle.specification.specs.Terms.{gather, gatherInto}
+use Rattle.specification.specs.Terms.{gather}
 use Rattle.specification.specs.Reduction.{pairTerms, pairsOf, pairLettersFit, pairCoefFits}
 use Rattle.terms.specs.declared.types.Term.{Term}
 use Rattle.terms.specs.declared.types.Form.{Form}
@@ -17,11 +17,12 @@ use Rattle.terms.specs.Abstraction.{partOf, termOf, formOf, Counted}
 use Rattle.terms.specs.Valid.{FormValid}
 use Rattle.gathering.specs.declared.Sum.{Sum}
 use Rattle.gathering.specs.declared.Closed.{Closed}
-use Rattle.gathering.specs.Sums.{sumOf, SumValid}
+use Rattle.gathering.specs.Sums.{sumOf, SumValid, Bringable}
 use Rattle.gathering.specs.Closing.{closedOf}
+use Rattle.operators.specs.declared.parts.Few.{Few}
 use Rattle.operators.specs.declared.parts.Operation.{Operation}
 use Rattle.operators.specs.declared.parts.Operation.the-variants.{Times, Dot, Wedge}
-use Rattle.operators.specs.Parts.{partsOf, Together}
+use Rattle.operators.specs.Parts.{partsOf, listOf, Together}
 
 -- what an operator gives: the result, and where it is a form, a valid one
 pub record WorkedAs (x : Result S.Form) (r : Closed) : Type 0 where
@@ -42,11 +43,12 @@ pub record Pair (op : Operation) (t u : Term) : Type 0 where
   pub letters : T (pairLettersFit (termOf t, termOf u))
   pub coef : T (pairCoefFits (termOf t, termOf u))
 
--- the terms of a pair, gathered into a sum
-pub record PairBrought (op : Operation) (s : Sum) (t u : Term) (r : Sum) : Type 0 where
-  pub is : sumOf r ≡ gatherInto (sumOf s) (pairTerms (partsOf op) (termOf t, termOf u))
-  pub valid : SumValid r
-  pub brought : r .brought ≤ s .brought + 2
+-- the terms of a pair, each of which can be brought into a sum
+pub record PairMade (op : Operation) (t u : Term) (r : Few) : Type 0 where
+  pub is : listOf r ≡ pairTerms (partsOf op) (termOf t, termOf u)
+  pub few : r .count ≤ 2
+  pub first : Bringable (r .first)
+  pub second : Bringable (r .second)
 
 -- the kinds of an operation's operands and of its result
 unfoldable pub Kinds : Operation → ℕ → Form → Form → Type 0

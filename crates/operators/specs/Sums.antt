@@ -1,24 +1,23 @@
--- A sum begun with a form, terms of a form brought in, a form negated. Assumes nothing.
+-- Two forms merged, and a form negated. Assumes nothing.
 use mathlib.Core.Path.{_≡_}
-use Prim.Native.Nat.{_+_}
-use Rattle.specification.specs.Terms.{gatherInto}
+use mathlib.Core.Bool.{Bool}
+use Prim.Native.Nat.{ℕ, Ordering, Ordering·lt, Ordering·gt, _<_}
+use Rattle.specification.specs.Results.{if_then_else_}
+use Rattle.specification.specs.Terms.{compareTerms}
+use Rattle.specification.specs.Terms as S
 use Rattle.specification.specs.Reduction.{negateForm}
 use Rattle.terms.specs.declared.types.Form.{Form}
 use Rattle.terms.specs.Abstraction.{formOf}
 use Rattle.terms.specs.Valid.{FormValid}
-use Rattle.gathering.specs.declared.Sum.{Sum}
-use Rattle.gathering.specs.Sums.{sumOf, SumValid}
 
--- a sum that holds the terms of a form
-pub record Begun (f : Form) (r : Sum) : Type 0 where
-  pub is : sumOf r ≡ formOf f .terms
-  pub valid : SumValid r
-  pub brought : r .brought ≡ f .count
+-- a place in a form
+pub record Capped (i r : ℕ) : Type 0 where
+  pub inside : r < 48
+  pub is : i < 48 → r ≡ i
 
--- the terms of a form, gathered into a sum
-pub record TermsBrought (s : Sum) (g : Form) (r : Sum) : Type 0 where
-  pub is : sumOf r ≡ gatherInto (sumOf s) (formOf g .terms)
-  pub valid : SumValid r
+-- which of two terms comes next, where there is a left one and a right one
+unfoldable pub nextOf : (left right : Bool) (x y : S.Term) → Ordering
+nextOf left right x y = if right then (if left then compareTerms x y else Ordering·gt) else Ordering·lt
 
 -- a form with the signs turned
 pub record Negated (f r : Form) : Type 0 where

@@ -2,21 +2,20 @@
 ghost use mathlib.Core.Path.{_≡_};
 ghost use mathlib.Core.Logic.{_⊎_};
 ghost use mathlib.Core.List.{[]};
-ghost use Prim.Native.Nat.{_+_, _≤_, _<_};
+ghost use Prim.Native.Nat.{_≤_, _<_};
 ghost use Rattle.specification.specs.Letters.{scalar, vector};
 ghost use Rattle.specification.specs.Reduction.{product, timesForms, dotForms, wedgeForms, tripleForms};
 ghost use Rattle.terms.specs.Abstraction.{termOf, formOf, Counted};
 ghost use Rattle.terms.specs.Valid.{FormValid};
-ghost use Rattle.gathering.specs.Sums.{SumValid};
 ghost use Rattle.operators.specs.Parts.{partsOf};
-ghost use Rattle.operators.specs.Products.{Scalars, Pair, PairBrought, Kinds, PairsFit, PairsBrought, WorkedAs};
-use crate::answers::refuse;
+ghost use Rattle.operators.specs.Products.{Scalars, Pair, PairMade, Kinds, PairsFit, PairsBrought, WorkedAs};
 use crate::limits::test_pairs;
+use crate::parts::Few;
 use crate::parts::Operation;
 use crate::parts::parts;
 use gathering::Closed;
 use gathering::Sum;
-use gathering::bring_raw;
+use gathering::bring_all;
 use gathering::close;
 use gathering::empty_sum;
 use terms::tidy::join;
@@ -41,26 +40,32 @@ fn scalars(t: Term) -> Term
     }
 }
 
-// The terms of one pair brought into a sum.
-fn bring_pair(s: Sum, op: Operation, t: Term, u: Term) -> Sum
-    requires { ⌜ SumValid s × (s .brought + 2 ≤ 96) × Pair op t u ⌝ }
-    ensures { λ r. ⌜ PairBrought op s t u r ⌝ }
+// The terms of one pair, their letters and factors in any order.
+fn pair_terms(op: Operation, t: Term, u: Term) -> Few
+    requires { ⌜ Pair op t u ⌝ }
+    ensures { λ r. ⌜ PairMade op t u r ⌝ }
 {
     let p = t.part;
     let q = u.part;
     let few = parts(op, p, q);
     let n = few.count;
-    if n == 0 {
-        return s;
-    }
     let b = join(scalars(t), scalars(u));
-    let x = few.first;
-    let r = bring_raw(s, join(b, x));
-    if n == 1 {
-        return r;
+    let f = few.first;
+    let x = join(b, f);
+    if n < 2 {
+        return Few {
+            count: n,
+            first: x,
+            second: x,
+        };
     }
-    let y = few.second;
-    bring_raw(r, join(b, y))
+    let g = few.second;
+    let y = join(b, g);
+    Few {
+        count: n,
+        first: x,
+        second: y,
+    }
 }
 
 // The terms of all pairs, gathered.
@@ -70,15 +75,22 @@ fn bring_pairs(op: Operation, f: Form, g: Form) -> Sum
 {
     let m = g.count;
     let n = f.count * m;
-    let mut s = empty_sum();
+    let s = empty_sum();
+    let mut ts = s.terms;
+    let mut count: usize = 0;
     let mut k: usize = 0;
     while k < n {
         let t = f.terms[k / m];
         let u = g.terms[k % m];
-        s = bring_pair(s, op, t, u);
+        let few = pair_terms(op, t, u);
+        let x = few.first;
+        let y = few.second;
+        ts[count] = x;
+        ts[count + 1] = y;
+        count += few.count;
         k += 1;
     }
-    s
+    bring_all(s, ts, count)
 }
 
 // The product of two forms: 7, 8 and 9 of the pairs, then 9 and 10 of what is gathered.
@@ -88,7 +100,10 @@ fn multiply(op: Operation, kind: u8, f: Form, g: Form) -> Closed
 {
     let n = test_pairs(f, g);
     if n != 0 {
-        return refuse(n);
+        return Closed {
+            refusal: n,
+            form: f,
+        };
     }
     let s = bring_pairs(op, f, g);
     close(s, kind)
@@ -107,7 +122,10 @@ pub fn times(f: Form, g: Form) -> Closed
     if b == 0 {
         return multiply(Operation::Times, a, f, g);
     }
-    refuse(6)
+    Closed {
+        refusal: 6,
+        form: f,
+    }
 }
 
 // The dot of two vectors.
@@ -116,10 +134,16 @@ pub fn dot(f: Form, g: Form) -> Closed
     ensures { λ r. ⌜ WorkedAs (dotForms (formOf f) (formOf g)) r ⌝ }
 {
     if f.kind != 1 {
-        return refuse(6);
+        return Closed {
+            refusal: 6,
+            form: f,
+        };
     }
     if g.kind != 1 {
-        return refuse(6);
+        return Closed {
+            refusal: 6,
+            form: f,
+        };
     }
     multiply(Operation::Dot, 0, f, g)
 }
@@ -130,10 +154,16 @@ pub fn wedge(f: Form, g: Form) -> Closed
     ensures { λ r. ⌜ WorkedAs (wedgeForms (formOf f) (formOf g)) r ⌝ }
 {
     if f.kind != 1 {
-        return refuse(6);
+        return Closed {
+            refusal: 6,
+            form: f,
+        };
     }
     if g.kind != 1 {
-        return refuse(6);
+        return Closed {
+            refusal: 6,
+            form: f,
+        };
     }
     multiply(Operation::Wedge, 1, f, g)
 }
@@ -144,7 +174,10 @@ pub fn triple(f: Form, g: Form, h: Form) -> Closed
     ensures { λ r. ⌜ WorkedAs (tripleForms (formOf f) (formOf g) (formOf h)) r ⌝ }
 {
     if h.kind != 1 {
-        return refuse(6);
+        return Closed {
+            refusal: 6,
+            form: f,
+        };
     }
     let w = wedge(f, g);
     if w.refusal != 0 {

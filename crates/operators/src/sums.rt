@@ -1,56 +1,102 @@
 // Sums, differences and negations of forms.
 ghost use mathlib.Core.Path.{_≡_};
-ghost use Prim.Native.Nat.{_+_, _≤_, _<_};
+ghost use mathlib.Core.Bool.{true};
 ghost use Rattle.specification.specs.Reduction.{sumForms, negateForm};
-ghost use Rattle.terms.specs.Abstraction.{formOf};
+ghost use Rattle.terms.specs.Abstraction.{termOf, formOf, orderingOf, Counted};
 ghost use Rattle.terms.specs.Valid.{FormValid};
-ghost use Rattle.gathering.specs.Sums.{SumValid};
 ghost use Rattle.operators.specs.Products.{WorkedAs};
-ghost use Rattle.operators.specs.Sums.{Begun, TermsBrought, Negated};
-use crate::answers::refuse;
+ghost use Rattle.operators.specs.Sums.{Capped, nextOf, Negated};
 use gathering::Closed;
-use gathering::Sum;
-use gathering::bring;
-use gathering::close;
+use integers::add;
+use integers::is_zero;
 use integers::neg;
+use integers::within;
+use terms::order::Order;
+use terms::order::compare;
 use terms::types::Form;
+use terms::types::Term;
 
-// A sum that holds the terms of a form.
-fn begin(f: Form) -> Sum
-    requires { ⌜ FormValid f ⌝ }
-    ensures { λ r. ⌜ Begun f r ⌝ }
+// A place in a form, the last one for all behind it.
+fn capped(i: usize) -> usize
+    ensures { λ r. ⌜ Capped i r ⌝ }
 {
-    let n = f.count;
-    let first = f.terms[0];
-    let ts = [first; 96];
-    let mut s = Sum {
-        brought: n,
-        count: n,
-        terms: ts,
-    };
-    let mut i: usize = 0;
-    while i < n {
-        let t = f.terms[i];
-        s.terms[i] = t;
-        i += 1;
-    }
-    s
+    if i < 48 { i } else { 47 }
 }
 
-// The terms of a form brought into a sum.
-fn bring_terms(s: Sum, g: Form) -> Sum
-    requires { ⌜ SumValid s × FormValid g × (s .brought + g .count ≤ 96) ⌝ }
-    ensures { λ r. ⌜ TermsBrought s g r ⌝ }
+// Which of two terms comes next, where there is a left one and a right one: it is Equal where both do.
+fn next(left: bool, right: bool, x: Term, y: Term) -> Order
+    requires { ⌜ (left ≡ true → Counted x) × (right ≡ true → Counted y) ⌝ }
+    ensures { λ r. ⌜ orderingOf r ≡ nextOf left right (termOf x) (termOf y) ⌝ }
 {
-    let mut r = s;
-    let n = g.count;
-    let mut i: usize = 0;
-    while i < n {
-        let t = g.terms[i];
-        r = bring(r, t);
-        i += 1;
+    if !right {
+        return Order::Less;
     }
-    r
+    if !left {
+        return Order::Greater;
+    }
+    compare(x, y)
+}
+
+// The terms of two forms of one kind in their order, like ones added.
+fn merge(f: Form, g: Form) -> Closed
+    requires { ⌜ FormValid f × FormValid g × (f .kind ≡ g .kind) ⌝ }
+    ensures { λ r. ⌜ WorkedAs (sumForms (formOf f) (formOf g)) r ⌝ }
+{
+    let n = f.count;
+    let m = g.count;
+    let mut r = f;
+    let mut count: usize = 0;
+    let mut i: usize = 0;
+    let mut j: usize = 0;
+    while i + j < n + m {
+        let a = capped(i);
+        let x = f.terms[a];
+        let b = capped(j);
+        let y = g.terms[b];
+        let c = capped(count);
+        let o = next(i < n, j < m, x, y);
+        match o {
+            Order::Less => {
+                r.terms[c] = x;
+                count += 1;
+                i += 1;
+            }
+            Order::Greater => {
+                r.terms[c] = y;
+                count += 1;
+                j += 1;
+            }
+            Order::Equal => {
+                i += 1;
+                j += 1;
+                let sum = add(y.coef, x.coef);
+                if is_zero(sum) {
+                    continue;
+                }
+                if !within(sum) {
+                    return Closed {
+                        refusal: 9,
+                        form: r,
+                    };
+                }
+                let mut z = x;
+                z.coef = sum;
+                r.terms[c] = z;
+                count += 1;
+            }
+        }
+    }
+    if count > 48 {
+        return Closed {
+            refusal: 10,
+            form: r,
+        };
+    }
+    r.count = count;
+    Closed {
+        refusal: 0,
+        form: r,
+    }
 }
 
 // The sum of two forms of one kind.
@@ -60,10 +106,12 @@ pub fn sum(f: Form, g: Form) -> Closed
 {
     let kind = f.kind;
     if kind != g.kind {
-        return refuse(6);
+        return Closed {
+            refusal: 6,
+            form: f,
+        };
     }
-    let s = bring_terms(begin(f), g);
-    close(s, kind)
+    merge(f, g)
 }
 
 // A form with the signs turned.

@@ -15,12 +15,15 @@ use Rattle.specification.specs.Results.{Result, refused, given, _>>=_, _>>_, re
 use Rattle.specification.specs.Terms.{withCoef, plus, termInShape}
 use Rattle.specification.specs.Terms as S
 use Rattle.specification.specs.Records.{isOne, fourBytesAt, stands, partLetters, goodBits, readCoef, readFactors, readLetters, factorsAt, testShape, readTermAt}
+use Rattle.terms.specs.declared.types.Part.the-variants.{Nothing}
 use Rattle.terms.specs.declared.types.Term.{Term}
 use Rattle.terms.specs.Numbers.{lettersOf, FactorNumber}
-use Rattle.terms.specs.Abstraction.{termOf, Counted}
+use Rattle.terms.specs.Abstraction.{partOf, termOf, Counted}
 use Rattle.terms.specs.Build.{behind, Appended}
+use Rattle.terms.proofs.Joins.{appended-one}
+use Rattle.records.specs.declared.read.Fields.{Fields}
 use Rattle.records.specs.declared.read.TermReading.{TermReading}
-use Rattle.records.specs.Reading.{readOf, coefStep, factorsStep, withPart, partStep, shapeStep, readFields, Stepped}
+use Rattle.records.specs.Reading.{readOf, listed, fieldsOf, FieldsRefused, coefStep, CoefRead, factorsStep, withPart, partStep, shapeStep, readFields, Stepped}
 
 -- ════ room
 
@@ -75,6 +78,17 @@ module _ (s : List ℕ) (t : S.Term) (at : ℕ) (there : Bool) (e : there ≡ tr
   unfolding coefStep readCoef
   coef-given f g = rw (e, f, g)
 
+module _ (there : Bool) (s : List ℕ) (at : ℕ) (q : Fields) (none : q .count ≡ 0) where
+  -- a coefficient read is that of a term without factors
+  pub coef-goes : q .ok ≡ true → coefStep there s (plus [] [], at) ≡ given (withCoef (q .coef) (plus [] []), q .next) → CoefRead there s at q
+  unfolding readOf fieldsOf termOf partOf
+  coef-goes o e = record { is = λ f. rw (o, none) (sym e); none = none }
+
+-- one refused
+pub coef-refuses : (there : Bool) (s : List ℕ) (at : ℕ) (r q : Fields) → r .count ≡ 0 → coefStep there s (plus [] [], at) ≡ refused 11 → FieldsRefused r q → CoefRead there s at q
+unfolding fieldsOf
+coef-refuses there s at r q z e h = record { is = λ f. h .is f ∙ sym e; none = ap (λ (t : Term). t .«factor_count») (h .stands []) ∙ z }
+
 -- ════ letters at a position
 
 module _ (s : List ℕ) (at : ℕ) where
@@ -111,6 +125,41 @@ appended-more t u r i size next k s at e n h g = record { is = g .is ∙ ap (beh
 
     together : behind (lettersOf k ∷ []) (behind (factorsAt i size s at) (termOf t)) ≡ behind (factorsAt (i + 1) size s at) (termOf t)
     together = ap (λ (fs : List (List ℕ)). record { coef = termOf t .coef; factors = fs; part = termOf t .part }) (append-assoc (termOf t .factors) (factorsAt i size s at) (lettersOf k ∷ []) ∙ ap (λ (z : List (List ℕ)). termOf t .factors ++ z) (grown i at e ∙ rw add-one))
+
+-- none in a list
+pub listed-none : (n size : ℕ) (s : List ℕ) (at : ℕ) (f : List ℕ) → Counted (listed n f) → Appended (factorsAt 0 size s at) 0 (listed n f) (listed (n + 0) f)
+listed-none n size s at f h = let e : n + 0 ≡ n = omega arith in rw e (appended-none (listed n f) size s at h)
+
+-- one factor more in a list of seven
+pub listed-more : (n k : ℕ) (f : List ℕ) → Counted (listed n f) → n < 7 → k < 16843008 → length f ≡ 7 → Appended (lettersOf k ∷ []) 1 (listed n f) (listed (n + 1) (set f n k))
+unfolding listed
+listed-more n k f h g b l = appended-one _ _ _ h g b l refl refl refl refl
+
+-- one more read, at its place in the list
+pub listed-turn : (n i size next k : ℕ) (s : List ℕ) (at : ℕ) (f₀ f : List ℕ) → next ≡ at + i * size → FactorNumber (take size (drop next s)) k → n + i < 7 → length f ≡ 7
+    → Appended (factorsAt i size s at) i (listed n f₀) (listed (n + i) f) → Appended (factorsAt (i + 1) size s at) (i + 1) (listed n f₀) (listed (n + (i + 1)) (set f (n + i) k))
+listed-turn n i size next k s at f₀ f e b g l h =
+    let q : n + (i + 1) ≡ n + i + 1 = omega arith in
+    rw q (appended-more (listed n f₀) (listed (n + i) f) (listed (n + i + 1) (set f (n + i) k)) i size next k s at e b h (listed-more (n + i) k f (h .counted) g (b .small) l))
+
+-- factors with a coefficient are counted as they are alone
+pub fields-counted : (k : ℤ) (n : ℕ) (f : List ℕ) → Counted (listed n f) → Counted (record { coef = k; factors = f; «factor_count» = n; part = Nothing })
+unfolding listed
+fields-counted k n f h = recounted _ _ refl refl h
+
+pub none-counted : (n : ℕ) (f : List ℕ) → n ≡ 0 → Counted (listed n f)
+unfolding listed
+none-counted n f e = rw e (record { few = omega arith; small = tt })
+
+pub again-counted : (r : Fields) (f : List ℕ) → Counted (fieldsOf r f .term) → Counted (listed (r .count) f)
+unfolding listed fieldsOf
+again-counted r f h = recounted _ _ refl refl h
+
+-- some behind others
+pub fields-appended : (k : ℤ) (n m : ℕ) (f g : List ℕ) (fs : List (List ℕ)) → Appended fs m (listed n f) (listed (n + m) g)
+    → behind fs (termOf (record { coef = k; factors = f; «factor_count» = n; part = Nothing })) ≡ termOf (record { coef = k; factors = g; «factor_count» = n + m; part = Nothing })
+unfolding behind termOf listed partOf
+fields-appended k n m f g fs h = λ i. record { coef = k; factors = sym (ap (λ (t : S.Term). t .factors) (h .is)) i; part = [] }
 
 -- ════ the tests before factors
 
@@ -280,10 +329,9 @@ pub spelled : (s : List ℕ) (at size n : ℕ) (l : List ℕ) (k : ℕ) → size
 spelled s at size n l k e q h = rw (e, q) h
 
 -- the steps made one after the other
-pub fields-read : (m : ℕ) (s : List ℕ) (at : ℕ) (begun coef scalars dots triples part all : TermReading) (b₀ b₁ b₂ b₃ : Bool) (n : ℕ)
+pub fields-read : (m : ℕ) (s : List ℕ) (at : ℕ) (coef scalars dots triples part all : TermReading) (b₀ b₁ b₂ b₃ : Bool) (n : ℕ)
     → b₀ ≡ eqb (m / 1 % 2) 1 → b₁ ≡ eqb (m / 2 % 2) 1 → b₂ ≡ eqb (m / 4 % 2) 1 → b₃ ≡ eqb (m / 8 % 2) 1 → n ≡ partLetters m
-    → readOf begun ≡ given (plus [] [], at)
-    → readOf coef ≡ (readOf begun >>= coefStep b₀ s)
+    → readOf coef ≡ coefStep b₀ s (plus [] [], at)
     → readOf scalars ≡ (readOf coef >>= factorsStep b₁ 2 1 s)
     → readOf dots ≡ (readOf scalars >>= factorsStep b₂ 3 2 s)
     → readOf triples ≡ (readOf dots >>= factorsStep b₃ 2 3 s)
@@ -291,4 +339,4 @@ pub fields-read : (m : ℕ) (s : List ℕ) (at : ℕ) (begun coef scalars dots t
     → readOf all ≡ (readOf part >>= shapeStep)
     → readOf all ≡ readFields m s at
 unfolding readFields stands
-fields-read m s at begun coef scalars dots triples part all b₀ b₁ b₂ b₃ n d₀ d₁ d₂ d₃ dn e₀ e₁ e₂ e₃ e₄ e₅ e₆ = rw (e₆, e₅, e₄, e₃, e₂, e₁, e₀, d₀, d₁, d₂, d₃, dn)
+fields-read m s at coef scalars dots triples part all b₀ b₁ b₂ b₃ n d₀ d₁ d₂ d₃ dn e₁ e₂ e₃ e₄ e₅ e₆ = rw (e₆, e₅, e₄, e₃, e₂, e₁, d₀, d₁, d₂, d₃, dn)

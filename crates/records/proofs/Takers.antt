@@ -23,7 +23,7 @@ use Rattle.terms.specs.Abstraction.{partOf, termOf, formOf, orderingOf, Counted
 use Rattle.records.specs.declared.read.TermReading.{TermReading}
 use Rattle.records.specs.declared.take.FormReading.{FormReading}
 use Rattle.records.specs.declared.take.Taken.{Taken}
-use Rattle.records.specs.Reading.{readOf, termsOf, termsReadOf, termStep, Readable, Pushed, TermTaken, TermsTaken, formReadOf, takenOf, FormTaken}
+use Rattle.records.specs.Reading.{readOf, termsOf, termsReadOf, behindLast, readBehind, Readable, TermsTaken, formReadOf, takenOf, FormTaken}
 use Rattle.records.specs.Tested.{testOf}
 use Rattle.terms.proofs.Arrays.{stored-behind, mapped-behind}
 
@@ -51,119 +51,112 @@ follows-last [] x y = refl
 follows-last (z ∷ []) x y = refl
 follows-last (z ∷ w ∷ zs) x y = follows-last (w ∷ zs) x y
 
-pub behind-none : (f : Form) (t : S.Term) → f .count ≡ 0 → true ≡ follows termBefore (termsOf f) t
-unfolding termsOf follows
-behind-none f t e = rw e
+-- before any term
+pub behind-none : (ts : List S.Term) (last : S.Term) → ts ≡ [] → (t : S.Term) → follows termBefore ts t ≡ behindLast 0 last t
+unfolding follows behindLast
+behind-none ts last e t = rw e
 
-pub behind-last : (f : Form) (t : S.Term) (d : Term) (o : Order) → f .count ≤ length (f .terms) → (f .count ≡ 0 → ⊥)
-    → orderingOf o ≡ compareTerms (termOf (getD (f .terms) (f .count - 1) d)) t → isLess (orderingOf o) ≡ follows termBefore (termsOf f) t
-unfolding termsOf
-behind-last f t d o l h e =
-    let m = f .count - 1 in
-    let c : f .count ≡ suc (f .count - 1) = omega arith in
-    let q : f .count - 1 < length (f .terms) = omega arith in
-    ap isLess e ∙ sym (ap (λ (n : ℕ). follows termBefore (map termOf (take n (f .terms))) t) c ∙ rw (take-suc (f .terms) (f .count - 1) d q, mapped-behind) (follows-last (map termOf (take (f .count - 1) (f .terms))) (termOf (getD (f .terms) (f .count - 1) d)) t))
+-- behind one term more
+pub behind-more : (ts us : List S.Term) (i : ℕ) (last : S.Term) → us ≡ ts ++ last ∷ [] → (t : S.Term) → follows termBefore us t ≡ behindLast (i + 1) last t
+unfolding behindLast
+behind-more ts us i last e t = rw (e, ne-eqb (i + 1) 0 (λ q. omega arith)) (follows-last ts last t)
+
+module _ (n : ℕ) (last t : S.Term) where
+  pub comes-first : n ≡ 0 → true ≡ behindLast n last t
+  unfolding behindLast
+  comes-first e = rw e
+
+  pub comes-after : (n ≡ 0 → ⊥) → (o : Order) → orderingOf o ≡ compareTerms last t → isLess (orderingOf o) ≡ behindLast n last t
+  unfolding behindLast
+  comes-after h o e = rw (ne-eqb n 0 h) (ap isLess e)
 
 -- ════ a term behind those of a form
-
-pub pushed : (t : Term) (f g : Form) → Readable 47 f → Counted t → length (f .terms) ≡ 48 → g .kind ≡ f .kind → g .count ≡ f .count + 1 → g .terms ≡ set (f .terms) (f .count) t → Pushed t f g
-unfolding termsOf
-pushed t f g h k l ek en et =
-    let b : f .count < length (f .terms) = omega (arith, h .few) in
-    let e : take (g .count) (g .terms) ≡ take (f .count) (f .terms) ++ t ∷ [] = rw (en, et) (stored-behind (f .terms) (f .count) t b) in
-    record { is = rw (e, mapped-behind); readable = record { few = omega arith; counted = rw e (all-append Counted (take (f .count) (f .terms)) (t ∷ []) (h .counted) (k, tt)) }; kind = ek }
 
 pub more-room : (m n : ℕ) (f : Form) → m ≤ n → Readable m f → Readable n f
 more-room m n f h r = record { few = omega (arith, r .few); counted = r .counted }
 
--- ════ one term more
+module _ (t : Term) (f g : Form) (i : ℕ) (n : f .count ≡ i) (l : i < length (f .terms)) (en : g .count ≡ i + 1) (et : g .terms ≡ set (f .terms) i t) where
+  pushed : take (g .count) (g .terms) ≡ take (f .count) (f .terms) ++ t ∷ []
+  pushed = rw (en, et, n) (stored-behind (f .terms) i t l)
 
-module _ (s : List ℕ) (r : FormReading) (h : Readable 47 (r .form)) where
-  same-room : (q : FormReading) → q .form ≡ r .form → Readable (r .form .count + 1) (q .form)
-  same-room q e = rw e (record { few = omega arith; counted = h .counted })
+  -- its terms
+  pub pushed-terms : termsOf g ≡ termsOf f ++ termOf t ∷ []
+  unfolding termsOf
+  pushed-terms = rw (pushed, mapped-behind)
 
-  pub taken-stays : r .ok ≡ false → TermTaken s (r .form .count + 1) r r
-  unfolding termsReadOf
-  taken-stays e = record { is = rw e; readable = same-room r refl; kind = refl }
+  pub pushed-readable : Readable i f → Counted t → Readable (i + 1) g
+  pushed-readable h k = record { few = omega arith; counted = rw pushed (all-append Counted (take (f .count) (f .terms)) (t ∷ []) (h .counted) (k, tt)) }
 
-  pub taken-refused : r .ok ≡ true → termStep (r .form .kind) s (termsOf (r .form), r .next) ≡ refused 11 → (q : FormReading) → (q .ok ≡ false) × (q .form ≡ r .form)
-      → TermTaken s (r .form .count + 1) r q
-  unfolding termsReadOf
-  taken-refused e f q w = record { is = rw (e, w .0) (sym f); readable = same-room q (w .1); kind = ap (λ (z : Form). z .kind) (w .1) }
+-- ════ a term of a form's kind, behind the last
 
-  pub taken-given : r .ok ≡ true → (t : Term) (at : ℕ) → termStep (r .form .kind) s (termsOf (r .form), r .next) ≡ given (termsOf (r .form) ++ termOf t ∷ [], at)
-      → (q : FormReading) → q .ok ≡ true → q .next ≡ at → Pushed t (r .form) (q .form) → TermTaken s (r .form .count + 1) r q
-  unfolding termsReadOf
-  taken-given e t at f q o n w = record { is = rw (e, o, n, w .is) (sym f); readable = w .readable; kind = w .kind }
-
-module _ (kind : ℕ) (s : List ℕ) (ts : List S.Term) (at : ℕ) (a : TermReading) (e : readOf a ≡ readTermAt s at) where
-  pub step-unread : a .ok ≡ false → termStep kind s (ts, at) ≡ refused 11
-  unfolding termStep readOf
-  step-unread o = let q : readTermAt s at ≡ refused 11 = sym e ∙ rw o in rw q
+module _ (kind n : ℕ) (last : S.Term) (s : List ℕ) (at : ℕ) (a : TermReading) (e : readOf a ≡ readTermAt s at) where
+  pub behind-unread : a .ok ≡ false → readOf a ≡ readBehind kind n last s at
+  unfolding readBehind readOf
+  behind-unread o = let q : readTermAt s at ≡ refused 11 = sym e ∙ rw o in rw (o, q)
 
   module _ (o : a .ok ≡ true) where
     read : readTermAt s at ≡ given (termOf (a .term), a .next)
     unfolding readOf
     read = sym e ∙ rw o
 
-    pub step-other-kind : partFits kind (termOf (a .term)) ≡ false → termStep kind s (ts, at) ≡ refused 11
-    unfolding termStep
-    step-other-kind f = rw (read, f)
+    pub behind-other-kind : partFits kind (termOf (a .term)) ≡ false → refused 11 ≡ readBehind kind n last s at
+    unfolding readBehind
+    behind-other-kind f = rw (read, f)
 
-    pub step-not-behind : partFits kind (termOf (a .term)) ≡ true → follows termBefore ts (termOf (a .term)) ≡ false → termStep kind s (ts, at) ≡ refused 11
-    unfolding termStep
-    step-not-behind f g = rw (read, f, g)
+    pub behind-not : partFits kind (termOf (a .term)) ≡ true → behindLast n last (termOf (a .term)) ≡ false → refused 11 ≡ readBehind kind n last s at
+    unfolding readBehind
+    behind-not f g = rw (read, f, g)
 
-    pub step-given : partFits kind (termOf (a .term)) ≡ true → follows termBefore ts (termOf (a .term)) ≡ true → termStep kind s (ts, at) ≡ given (ts ++ termOf (a .term) ∷ [], a .next)
-    unfolding termStep
-    step-given f g = rw (read, f, g)
+    pub behind-given : partFits kind (termOf (a .term)) ≡ true → behindLast n last (termOf (a .term)) ≡ true → readOf a ≡ readBehind kind n last s at
+    unfolding readBehind readOf
+    behind-given f g = rw (read, f, g, o)
 
 -- ════ so many terms
 
--- one turn is one term
-turn : (kind m : ℕ) (s : List ℕ) (x : List S.Term × ℕ) → (termStep kind s x >>= (λ (y : List S.Term × ℕ). readTerms m kind (y .0) s (y .1))) ≡ readTerms (suc m) kind (x .0) s (x .1)
-unfolding termStep readTerms
-turn kind m s x = go (readTermAt s (x .1))
-  where
-    tested : (b : Bool) (y : List S.Term × ℕ) → ((require b 11 >> given y) >>= (λ (z : List S.Term × ℕ). readTerms m kind (z .0) s (z .1))) ≡ (require b 11 >> readTerms m kind (y .0) s (y .1))
-    tested true y = refl
-    tested false y = refl
+module _ (kind n : ℕ) (last : S.Term) (s : List ℕ) (ts : List S.Term) (at : ℕ) (b : (t : S.Term) → follows termBefore ts t ≡ behindLast n last t)
+    (a : TermReading) (e : readOf a ≡ readBehind kind n last s at) (m : ℕ) where
+  -- one turn is one term
+  turn : readTerms (suc m) kind ts s at ≡ (readOf a >>= (λ (y : S.Term × ℕ). readTerms m kind (ts ++ y .0 ∷ []) s (y .1)))
+  unfolding readTerms readBehind
+  turn = go (readTermAt s at) ∙ ap (λ (z : Result (S.Term × ℕ)). z >>= (λ (y : S.Term × ℕ). readTerms m kind (ts ++ y .0 ∷ []) s (y .1))) (sym e)
+    where
+      tested : (b : Bool) (y : S.Term × ℕ) → (require b 11 >> readTerms m kind (ts ++ y .0 ∷ []) s (y .1)) ≡ ((require b 11 >> given y) >>= (λ (z : S.Term × ℕ). readTerms m kind (ts ++ z .0 ∷ []) s (z .1)))
+      tested true y = refl
+      tested false y = refl
 
-    go : (r : Result (S.Term × ℕ)) → ((r >>= (λ (z : S.Term × ℕ). require (partFits kind (z .0) && follows termBefore (x .0) (z .0)) 11 >> given (x .0 ++ z .0 ∷ [], z .1))) >>= (λ (y : List S.Term × ℕ). readTerms m kind (y .0) s (y .1)))
-        ≡ (r >>= (λ (z : S.Term × ℕ). require (partFits kind (z .0) && follows termBefore (x .0) (z .0)) 11 >> readTerms m kind (x .0 ++ z .0 ∷ []) s (z .1)))
-    go (refused n) = refl
-    go (given z) = tested (partFits kind (z .0) && follows termBefore (x .0) (z .0)) (x .0 ++ z .0 ∷ [], z .1)
+      go : (r : Result (S.Term × ℕ)) → (r >>= (λ (z : S.Term × ℕ). require (partFits kind (z .0) && follows termBefore ts (z .0)) 11 >> readTerms m kind (ts ++ z .0 ∷ []) s (z .1)))
+          ≡ ((r >>= (λ (z : S.Term × ℕ). require (partFits kind (z .0) && behindLast n last (z .0)) 11 >> given (z .0, z .1))) >>= (λ (y : S.Term × ℕ). readTerms m kind (ts ++ y .0 ∷ []) s (y .1)))
+      go (refused v) = refl
+      go (given z) = rw (b (z .0)) (tested (partFits kind (z .0) && behindLast n last (z .0)) z)
 
--- what is left to read after some turns
-unfoldable pub left : (kind m : ℕ) (s : List ℕ) → FormReading → Result (List S.Term × ℕ)
-left kind m s q = termsReadOf q >>= (λ (x : List S.Term × ℕ). readTerms m kind (x .0) s (x .1))
+  pub turn-refused : a .ok ≡ false → readTerms (suc m) kind ts s at ≡ refused 11
+  unfolding readOf
+  turn-refused o = turn ∙ rw o
 
-pub left-turn : (kind n i : ℕ) (s : List ℕ) (q p : FormReading) (c : ℕ) → i < n → q .form .kind ≡ kind → TermTaken s c q p → left kind (n - i) s q ≡ left kind (n - (i + 1)) s p
-unfolding left termsReadOf termsOf
-left-turn kind n i s q p c h k w =
-    let m = n - (i + 1) in
-    let e : n - i ≡ suc (n - (i + 1)) = omega arith in
-    rw (e, w .is, k) (step (termsReadOf q))
-  where
-    step : (r : Result (List S.Term × ℕ)) → (r >>= (λ (x : List S.Term × ℕ). readTerms (suc (n - (i + 1))) kind (x .0) s (x .1))) ≡ ((r >>= termStep kind s) >>= (λ (x : List S.Term × ℕ). readTerms (n - (i + 1)) kind (x .0) s (x .1)))
-    step (refused v) = refl
-    step (given x) = sym (turn kind (n - (i + 1)) s x)
+  pub turn-given : a .ok ≡ true → readTerms (suc m) kind ts s at ≡ readTerms m kind (ts ++ termOf (a .term) ∷ []) s (a .next)
+  unfolding readOf
+  turn-given o = turn ∙ rw o
 
-pub left-refused : (kind m : ℕ) (s : List ℕ) (q : FormReading) → q .ok ≡ false → left kind m s q ≡ termsReadOf q
-unfolding left termsReadOf
-left-refused kind m s q e = rw e
+-- what is left to read after a turn
+pub turned : (kind n i : ℕ) (last : S.Term) (s : List ℕ) (ts us : List S.Term) (at : ℕ) → ((t : S.Term) → follows termBefore ts t ≡ behindLast i last t)
+    → (a : TermReading) → readOf a ≡ readBehind kind i last s at → a .ok ≡ true → i < n → us ≡ ts ++ termOf (a .term) ∷ []
+    → readTerms (n - i) kind ts s at ≡ readTerms (n - (i + 1)) kind us s (a .next)
+turned kind n i last s ts us at b a e o h q =
+    let m : n - i ≡ suc (n - (i + 1)) = omega arith in
+    rw (m, q) (turn-given kind i last s ts at b a e (n - (i + 1)) o)
 
-pub left-none : (kind n i : ℕ) (s : List ℕ) (q : FormReading) → n ≤ i → left kind (n - i) s q ≡ termsReadOf q
-unfolding left readTerms
-left-none kind n i s q h = let e : n - i ≡ 0 = omega arith in rw e (same (termsReadOf q))
-  where
-    same : (r : Result (List S.Term × ℕ)) → (r >>= (λ (x : List S.Term × ℕ). given (x .0, x .1))) ≡ r
-    same (refused v) = refl
-    same (given x) = refl
+-- before the first turn
+pub begins : (kind n : ℕ) (s : List ℕ) (at : ℕ) (ts : List S.Term) → ts ≡ [] → readTerms n kind [] s at ≡ readTerms (n - 0) kind ts s at
+begins kind n s at ts e = let z : n - 0 ≡ n = omega arith in rw (e, z)
 
-pub all-taken : (s : List ℕ) (n : ℕ) (r q : FormReading) → left (r .form .kind) n s r ≡ termsReadOf q → Readable n (q .form) → q .form .kind ≡ r .form .kind → TermsTaken s n r q
-unfolding left
-all-taken s n r q e h k = record { is = sym e; readable = h; kind = k }
+module _ (kind n : ℕ) (q : FormReading) (h : Readable n (q .form)) (k : q .form .kind ≡ kind) where
+  pub terms-refused : (x : Result (List S.Term × ℕ)) → q .ok ≡ false → x ≡ refused 11 → TermsTaken x kind n q
+  unfolding termsReadOf
+  terms-refused x o e = record { is = rw (o, e); readable = h; kind = k }
+
+  pub terms-given : (x : Result (List S.Term × ℕ)) (s : List ℕ) → q .ok ≡ true → x ≡ readTerms 0 kind (termsOf (q .form)) s (q .next) → TermsTaken x kind n q
+  unfolding termsReadOf readTerms
+  terms-given x s o e = record { is = rw (o, e); readable = h; kind = k }
 
 -- ════ a form
 
@@ -185,21 +178,17 @@ module _ (s : List ℕ) (at : ℕ) where
     unfolding readFormAt
     form-too-long e g l = unread ∙ rw (e, le-leb (getD s at 0) 1 g, lt-leb (getD s (at + 1) 0) 48 l)
 
-  started : (r q : FormReading) → termsReadOf r ≡ given ([], at + 2) → r .form .kind ≡ getD s at 0 → TermsTaken s (getD s (at + 1) 0) r q
-      → termsReadOf q ≡ readTerms (getD s (at + 1) 0) (getD s at 0) [] s (at + 2)
-  started r q b k w = w .is ∙ rw (b, k)
-
-  pub form-of-terms : leb (at + 2) (length s) ≡ true → getD s at 0 ≤ 1 → getD s (at + 1) 0 ≤ 48 → (r q : FormReading) → termsReadOf r ≡ given ([], at + 2) → r .form .kind ≡ getD s at 0
-      → TermsTaken s (getD s (at + 1) 0) r q → formReadOf q ≡ readFormAt s at
+  pub form-of-terms : leb (at + 2) (length s) ≡ true → getD s at 0 ≤ 1 → getD s (at + 1) 0 ≤ 48 → (q : FormReading)
+      → TermsTaken (readTerms (getD s (at + 1) 0) (getD s at 0) [] s (at + 2)) (getD s at 0) (getD s (at + 1) 0) q → formReadOf q ≡ readFormAt s at
   unfolding readFormAt termsReadOf termsOf formReadOf formOf
-  form-of-terms e g l r q b k w =
-      sym (whole (q .ok) refl) ∙ ap named (started r q b k w) ∙ rw (e, le-leb (getD s at 0) 1 g, le-leb (getD s (at + 1) 0) 48 l)
+  form-of-terms e g l q w =
+      sym (whole (q .ok) refl) ∙ ap named (w .is) ∙ rw (e, le-leb (getD s at 0) 1 g, le-leb (getD s (at + 1) 0) 48 l)
     where
       named : Result (List S.Term × ℕ) → Result (S.Form × ℕ)
       named z = z >>= (λ (x : List S.Term × ℕ). given (record { kind = getD s at 0; terms = x .0 }, x .1))
 
       whole : (o : Bool) → q .ok ≡ o → named (termsReadOf q) ≡ formReadOf q
-      whole true d = rw d (rw (← (w .kind ∙ k)))
+      whole true d = rw d (rw (← (w .kind)))
       whole false d = rw d
 
 -- ════ the whole record, then the letters

@@ -1,9 +1,10 @@
 -- What the readers' structs say, and a term record as steps from one to the next. Assumes nothing.
-use mathlib.Core.Bool.{Bool, _&&_}
+use mathlib.Core.Bool.{Bool, true, _&&_}
 use mathlib.Core.Path.{_≡_}
 use mathlib.Core.List.{List, [], _∷_, _++_, map}
 use Prim.Native.Nat.{ℕ, _+_, _≤_}
 use lib.Dec.{eqb}
+use lib.IntN.{pos}
 use lib.ListN.{take}
 use Rattle.specification.specs.Lists.{follows}
 use Rattle.specification.specs.Results.{Result, refused, given, _>>=_, _>>_, require, if_then_else_}
@@ -11,11 +12,13 @@ use Rattle.specification.specs.Terms.{withCoef, plus, termBefore}
 use Rattle.specification.specs.Terms as S
 use Rattle.specification.specs.Records.{readCoef, readFactors, readLetters, testShape, readTermAt, readTerms, stands, partLetters, partFits}
 use Rattle.theory.specs.Elements.{All}
+use Rattle.terms.specs.declared.types.Part.the-variants.{Nothing}
 use Rattle.terms.specs.declared.types.Term.{Term}
 use Rattle.terms.specs.declared.types.Form.{Form}
 use Rattle.terms.specs.Abstraction.{termOf, formOf, Counted}
 use Rattle.terms.specs.Build.{behind}
 use Rattle.terms.specs.Valid.{FormValid}
+use Rattle.records.specs.declared.read.Fields.{Fields}
 use Rattle.records.specs.declared.read.TermReading.{TermReading}
 use Rattle.records.specs.declared.take.FormReading.{FormReading}
 use Rattle.records.specs.declared.take.Taken.{Taken}
@@ -25,6 +28,19 @@ use Rattle.records.specs.declared.take.Taken.{Taken}
 -- what was read of a term, and the position behind it; the only refusal here is 11
 unfoldable pub readOf : TermReading → Result (S.Term × ℕ)
 readOf r = if r .ok then given (termOf (r .term), r .next) else refused 11
+
+-- factors alone, the first n of a list
+unfoldable pub listed : ℕ → List ℕ → Term
+listed n f = record { coef = pos 0; factors = f; «factor_count» = n; part = Nothing }
+
+-- the fields of a term under way with its factors, as a term without a vector part
+unfoldable pub fieldsOf : Fields → List ℕ → TermReading
+fieldsOf r f = record { ok = r .ok; next = r .next; term = record { coef = r .coef; factors = f; «factor_count» = r .count; part = Nothing } }
+
+-- fields refused: what was read stands, and counts for nothing
+pub record FieldsRefused (r q : Fields) : Type 0 where
+  pub is : (f : List ℕ) → readOf (fieldsOf q f) ≡ refused 11
+  pub stands : (f : List ℕ) → fieldsOf q f .term ≡ fieldsOf r f .term
 
 -- the coefficient read
 unfoldable pub coefStep : (isThere : Bool) (s : List ℕ) → S.Term × ℕ → Result (S.Term × ℕ)
@@ -62,6 +78,11 @@ readFields bits s at =
     >>= partStep (partLetters bits) s
     >>= shapeStep
 
+-- the coefficient read, and no factors yet
+pub record CoefRead (isThere : Bool) (s : List ℕ) (at : ℕ) (q : Fields) : Type 0 where
+  pub is : (f : List ℕ) → readOf (fieldsOf q f) ≡ coefStep isThere s (plus [] [], at)
+  pub none : q .count ≡ 0
+
 -- a step made: a refusal stays, and so many factors more at most
 pub record Stepped (step : S.Term × ℕ → Result (S.Term × ℕ)) (more : ℕ) (r q : TermReading) : Type 0 where
   pub is : readOf q ≡ (readOf r >>= step)
@@ -89,35 +110,27 @@ termsOf f = map termOf (take (f .count) (f .terms))
 unfoldable pub termsReadOf : FormReading → Result (List S.Term × ℕ)
 termsReadOf r = if r .ok then given (termsOf (r .form), r .next) else refused 11
 
--- one term more
-unfoldable pub termStep : (kind : ℕ) (s : List ℕ) → List S.Term × ℕ → Result (List S.Term × ℕ)
-termStep kind s r = do
-  (t, next) ← readTermAt s (r .1)
-  require (partFits kind t && follows termBefore (r .0) t) 11
-  given (r .0 ++ t ∷ [], next)
+-- a term comes behind the last of so many
+unfoldable pub behindLast : ℕ → S.Term → S.Term → Bool
+behindLast n last t = if eqb n 0 then true else termBefore last t
+
+-- the term at a position, of a form's kind and behind the last of so many
+unfoldable pub readBehind : (kind n : ℕ) (last : S.Term) (s : List ℕ) (at : ℕ) → Result (S.Term × ℕ)
+readBehind kind n last s at = do
+  (t, next) ← readTermAt s at
+  require (partFits kind t && behindLast n last t) 11
+  given (t, next)
 
 -- a form that a reader can go on with
 pub record Readable (n : ℕ) (f : Form) : Type 0 where
   pub few : f .count ≤ n
   pub counted : All Counted (take (f .count) (f .terms))
 
--- a form with one term more
-pub record Pushed (t : Term) (f g : Form) : Type 0 where
-  pub is : termsOf g ≡ termsOf f ++ termOf t ∷ []
-  pub readable : Readable (f .count + 1) g
-  pub kind : g .kind ≡ f .kind
-
--- one term more read
-pub record TermTaken (s : List ℕ) (n : ℕ) (r q : FormReading) : Type 0 where
-  pub is : termsReadOf q ≡ (termsReadOf r >>= termStep (r .form .kind) s)
+-- so many terms of a kind read
+pub record TermsTaken (read : Result (List S.Term × ℕ)) (k n : ℕ) (q : FormReading) : Type 0 where
+  pub is : termsReadOf q ≡ read
   pub readable : Readable n (q .form)
-  pub kind : q .form .kind ≡ r .form .kind
-
--- so many terms more read
-pub record TermsTaken (s : List ℕ) (n : ℕ) (r q : FormReading) : Type 0 where
-  pub is : termsReadOf q ≡ (termsReadOf r >>= (λ (x : List S.Term × ℕ). readTerms n (r .form .kind) (x .0) s (x .1)))
-  pub readable : Readable n (q .form)
-  pub kind : q .form .kind ≡ r .form .kind
+  pub kind : q .form .kind ≡ k
 
 -- what was read of a form, and the position behind it
 unfoldable pub formReadOf : FormReading → Result (S.Form × ℕ)

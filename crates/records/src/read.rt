@@ -10,11 +10,10 @@ ghost use Rattle.specification.specs.Terms.{plus};
 ghost use Rattle.specification.specs.Records.{factorsAt, goodBits, partLetters, readTermAt};
 ghost use Rattle.terms.specs.Numbers.{FactorNumber};
 ghost use Rattle.terms.specs.Abstraction.{partOf, termOf, Counted};
-ghost use Rattle.records.specs.Reading.{readOf, coefStep, factorsStep, partStep, shapeStep, Stepped, Parted, TermRead, readFields};
+ghost use Rattle.records.specs.Reading.{readOf, fieldsOf, listed, FieldsRefused, factorsStep, partStep, shapeStep, CoefRead, Stepped, Parted, TermRead, readFields};
 ghost use Rattle.terms.specs.Build.{Appended};
 use integers::four_bytes_at;
 use integers::is_one;
-use terms::build::append_factor;
 use terms::factors::dot_number;
 use terms::factors::scalar_number;
 use terms::factors::triple_number;
@@ -27,6 +26,14 @@ pub struct TermReading {
     pub ok: bool,
     pub next: usize,
     pub term: Term,
+}
+
+// The fields of a term under way, its factors beside them: whether nothing was refused, the position behind what was read, the coefficient and the count of factors.
+pub struct Fields {
+    pub ok: bool,
+    pub next: usize,
+    pub coef: i64,
+    pub count: usize,
 }
 
 // Whether n bytes stand at a position.
@@ -59,7 +66,7 @@ fn begin(at: usize) -> TermReading
 }
 
 // A refusal: what was read stands, and counts for nothing.
-fn refuse(r: TermReading) -> TermReading
+pub fn refuse(r: TermReading) -> TermReading
     ensures { λ q. ⌜ (readOf q ≡ refused 11) × (q .term ≡ r .term) ⌝ }
 {
     let mut q = r;
@@ -67,33 +74,41 @@ fn refuse(r: TermReading) -> TermReading
     q
 }
 
-// The coefficient, if its bit stands.
-fn read_coef(s: &[u8], r: TermReading, there: bool) -> TermReading
-    requires { ⌜ Counted (r .term) ⌝ }
-    ensures { λ q. ⌜ Stepped (coefStep there (now (s .entry))) 0 r q ⌝ }
+// Fields refused: what was read stands, and counts for nothing.
+fn refuse_fields(r: Fields) -> Fields
+    ensures { λ q. ⌜ FieldsRefused r q ⌝ }
 {
-    if !r.ok {
+    let mut q = r;
+    q.ok = false;
+    q
+}
+
+// The coefficient, if its bit stands, before any factor.
+fn read_coef(s: &[u8], at: usize, there: bool) -> Fields
+    ensures { λ q. ⌜ CoefRead there (now (s .entry)) at q ⌝ }
+{
+    let r = Fields {
+        ok: true,
+        next: at,
+        coef: 1,
+        count: 0,
+    };
+    if !there {
         return r;
     }
-    let at = r.next;
-    let mut q = r;
-    let mut t = r.term;
-    if !there {
-        t.coef = 1;
-        q.term = t;
-        return q;
-    }
     if !room(s, at, 4) {
-        return refuse(r);
+        return refuse_fields(r);
     }
     let k = four_bytes_at(s, at);
     if is_one(k) {
-        return refuse(r);
+        return refuse_fields(r);
     }
-    t.coef = k;
-    q.term = t;
-    q.next = at + 4;
-    q
+    Fields {
+        ok: true,
+        next: at + 4,
+        coef: k,
+        count: 0,
+    }
 }
 
 // The factor of so many letters at a position.
@@ -113,21 +128,18 @@ fn factor_at(s: &[u8], at: usize, size: usize) -> u32
     triple_number(x, y, z)
 }
 
-// So many factors of so many letters behind those of a term.
-fn append_factors(s: &[u8], at: usize, count: usize, size: usize, t: Term) -> Term
-    requires { ⌜ Counted t × (t .«factor_count» + count ≤ 7) × (1 ≤ size) × (size ≤ 3) × (at + count * size ≤ length (now s)) ⌝ }
-    ensures { λ r. ⌜ Appended (factorsAt count size (now (s .entry)) at) count t r ⌝ }
+// So many factors of so many letters behind the first n.
+fn append_factors(s: &[u8], at: usize, count: usize, size: usize, f: &mut [u32; 7], n: usize)
+    requires { ⌜ Counted (listed n (now f)) × (n + count ≤ 7) × (1 ≤ size) × (size ≤ 3) × (at + count * size ≤ length (now s)) × (length (now f) ≡ 7) ⌝ }
+    ensures { λ r. ⌜ Appended (factorsAt count size (now (s .entry)) at) count (listed n (now (f .entry))) (listed (n + count) (now (f .exit))) × (length (now (f .exit)) ≡ 7) ⌝ }
 {
-    let mut u = t;
     let mut next = at;
     let mut i: usize = 0;
     while i < count {
-        let k = factor_at(s, next, size);
-        u = append_factor(u, k);
+        f[n + i] = factor_at(s, next, size);
         next += size;
         i += 1;
     }
-    u
 }
 
 // Whether a count from 1 to most stands at a position, and its factors behind it.
@@ -149,9 +161,16 @@ fn factors_stand(s: &[u8], at: usize, most: usize, size: usize) -> bool
 }
 
 // The factors of so many letters, at most so many, if their bit stands.
-fn read_factors(s: &[u8], r: TermReading, there: bool, most: usize, size: usize) -> TermReading
-    requires { ⌜ Counted (r .term) × (r .term .«factor_count» + most ≤ 7) × (1 ≤ size) × (size ≤ 3) ⌝ }
-    ensures { λ q. ⌜ Stepped (factorsStep there most size (now (s .entry))) most r q ⌝ }
+fn read_factors(
+    s: &[u8],
+    f: &mut [u32; 7],
+    r: Fields,
+    there: bool,
+    most: usize,
+    size: usize,
+) -> Fields
+    requires { ⌜ Counted (listed (r .count) (now f)) × (r .count + most ≤ 7) × (1 ≤ size) × (size ≤ 3) × (length (now f) ≡ 7) ⌝ }
+    ensures { λ q. ⌜ Stepped (factorsStep there most size (now (s .entry))) most (fieldsOf r (now (f .entry))) (fieldsOf q (now (f .exit))) × (length (now (f .exit)) ≡ 7) ⌝ }
 {
     if !r.ok {
         return r;
@@ -161,14 +180,14 @@ fn read_factors(s: &[u8], r: TermReading, there: bool, most: usize, size: usize)
     }
     let at = r.next;
     if !factors_stand(s, at, most, size) {
-        return refuse(r);
+        return refuse_fields(r);
     }
     let n = s[at] as usize;
-    let t = r.term;
-    let u = append_factors(s, at + 1, n, size, t);
+    let count = r.count;
+    append_factors(s, at + 1, n, size, f, count);
     let mut q = r;
-    q.term = u;
     q.next = at + 1 + n * size;
+    q.count = count + n;
     q
 }
 
@@ -272,16 +291,34 @@ fn bits_fit(m: u8) -> bool
     true
 }
 
+// A term of the fields read, without a vector part.
+fn gathered(r: Fields, f: [u32; 7]) -> TermReading
+    ensures { λ q. ⌜ q ≡ fieldsOf r f ⌝ }
+{
+    let p = Part::Nothing;
+    let t = Term {
+        coef: r.coef,
+        factors: f,
+        factor_count: r.count,
+        part: p,
+    };
+    TermReading {
+        ok: r.ok,
+        next: r.next,
+        term: t,
+    }
+}
+
 // The fields behind a bit map.
 fn read_fields(s: &[u8], at: usize, m: u8) -> TermReading
     ensures { λ q. ⌜ TermRead (readFields m (now (s .entry)) at) q ⌝ }
 {
-    let r0 = begin(at);
-    let r1 = read_coef(s, r0, bit_stands(m, 1));
-    let r2 = read_factors(s, r1, bit_stands(m, 2), 2, 1);
-    let r3 = read_factors(s, r2, bit_stands(m, 4), 3, 2);
-    let r4 = read_factors(s, r3, bit_stands(m, 8), 2, 3);
-    let r5 = read_part(s, r4, part_size(m));
+    let mut f = [0u32; 7];
+    let r1 = read_coef(s, at, bit_stands(m, 1));
+    let r2 = read_factors(s, &mut f, r1, bit_stands(m, 2), 2, 1);
+    let r3 = read_factors(s, &mut f, r2, bit_stands(m, 4), 3, 2);
+    let r4 = read_factors(s, &mut f, r3, bit_stands(m, 8), 2, 3);
+    let r5 = read_part(s, gathered(r4, f), part_size(m));
     test_shape(r5)
 }
 

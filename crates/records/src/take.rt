@@ -2,14 +2,14 @@
 ghost use mathlib.Core.Path.{_≡_};
 ghost use mathlib.Core.Bool.{false};
 ghost use mathlib.Core.List.{[]};
-ghost use Prim.Native.Nat.{_+_, _≤_, _<_};
-ghost use Rattle.specification.specs.Lists.{follows};
-ghost use Rattle.specification.specs.Results.{refused, given};
-ghost use Rattle.specification.specs.Terms.{termBefore};
-ghost use Rattle.specification.specs.Records.{partFits, readFormAt, takeForm};
+ghost use Prim.Native.Nat.{_≤_};
+ghost use lib.ListN.{length};
+ghost use Rattle.specification.specs.Records.{partFits, readTerms, readFormAt, takeForm};
 ghost use Rattle.terms.specs.Abstraction.{termOf, Counted};
-ghost use Rattle.records.specs.Reading.{termsOf, termsReadOf, Readable, Pushed, TermTaken, TermsTaken, FormRead, FormTaken};
+ghost use Rattle.records.specs.Reading.{termsOf, Readable, TermRead, behindLast, readBehind, TermsTaken, FormRead, FormTaken};
+use crate::read::TermReading;
 use crate::read::read_term;
+use crate::read::refuse;
 use crate::read::room;
 use crate::table::test_terms;
 use terms::order::Order;
@@ -32,38 +32,42 @@ pub struct Taken {
     pub form: Form,
 }
 
-// A form of a kind before any term is read.
-fn begin_form(kind: u8, at: usize) -> FormReading
-    ensures { λ r. ⌜ (termsReadOf r ≡ given ([], at)) × Readable 0 (r .form) × (r .form .kind ≡ kind) ⌝ }
+// A term that counts for nothing.
+fn no_term() -> Term
+    ensures { λ r. ⌜ Counted r ⌝ }
 {
     let p = Part::Nothing;
-    let a = [0u32; 7];
-    let t = Term {
+    let f = [0u32; 7];
+    Term {
         coef: 0,
-        factors: a,
+        factors: f,
         factor_count: 0,
         part: p,
-    };
+    }
+}
+
+// A form of a kind without terms.
+fn no_terms(kind: u8) -> Form
+    ensures { λ r. ⌜ (termsOf r ≡ []) × Readable 0 r × (r .kind ≡ kind) × (r .count ≡ 0) × (length (r .terms) ≡ 48) ⌝ }
+{
+    let t = no_term();
     let ts = [t; 48];
-    let f = Form {
+    Form {
         kind: kind,
         count: 0,
         terms: ts,
-    };
-    FormReading {
-        ok: true,
-        next: at,
-        form: f,
     }
 }
 
 // A refusal: what was read stands, and counts for nothing.
-fn refuse_form(r: FormReading) -> FormReading
-    ensures { λ q. ⌜ (q .ok ≡ false) × (q .form ≡ r .form) ⌝ }
+fn refuse_form(f: Form, at: usize) -> FormReading
+    ensures { λ q. ⌜ (q .ok ≡ false) × (q .form ≡ f) ⌝ }
 {
-    let mut q = r;
-    q.ok = false;
-    q
+    FormReading {
+        ok: false,
+        next: at,
+        form: f,
+    }
 }
 
 // A term is of a form's kind.
@@ -77,17 +81,15 @@ fn kind_fits(kind: u8, t: Term) -> bool
     kind == 1
 }
 
-// A term comes behind the last of a form, if there is one.
-fn comes_behind(f: Form, t: Term) -> bool
-    requires { ⌜ Readable 48 f × Counted t ⌝ }
-    ensures { λ r. ⌜ r ≡ follows termBefore (termsOf f) (termOf t) ⌝ }
+// A term comes behind the last of so many.
+fn comes_behind(n: usize, last: Term, t: Term) -> bool
+    requires { ⌜ Counted last × Counted t ⌝ }
+    ensures { λ r. ⌜ r ≡ behindLast n (termOf last) (termOf t) ⌝ }
 {
-    let n = f.count;
     if n == 0 {
         return true;
     }
-    let u = f.terms[n - 1];
-    let o = compare(u, t);
+    let o = compare(last, t);
     match o {
         Order::Less => true,
         Order::Equal => false,
@@ -95,61 +97,50 @@ fn comes_behind(f: Form, t: Term) -> bool
     }
 }
 
-// A term behind those of a form.
-fn push(f: Form, t: Term) -> Form
-    requires { ⌜ Readable 47 f × Counted t ⌝ }
-    ensures { λ g. ⌜ Pushed t f g ⌝ }
+// The term at a position, of a form's kind and behind the last of so many.
+fn take_term(s: &[u8], at: usize, kind: u8, n: usize, last: Term) -> TermReading
+    requires { ⌜ Counted last ⌝ }
+    ensures { λ q. ⌜ TermRead (readBehind kind n (termOf last) (now (s .entry)) at) q ⌝ }
 {
-    let mut g = f;
-    let n = f.count;
-    g.terms[n] = t;
-    g.count = n + 1;
-    g
-}
-
-// One term more.
-fn take_term(s: &[u8], r: FormReading) -> FormReading
-    requires { ⌜ Readable 47 (r .form) ⌝ }
-    ensures { λ q. ⌜ TermTaken (now (s .entry)) (r .form .count + 1) r q ⌝ }
-{
-    if !r.ok {
-        return r;
-    }
-    let f = r.form;
-    let a = read_term(s, r.next);
+    let a = read_term(s, at);
     if !a.ok {
-        return refuse_form(r);
+        return a;
     }
     let t = a.term;
-    if !kind_fits(f.kind, t) {
-        return refuse_form(r);
+    if !kind_fits(kind, t) {
+        return refuse(a);
     }
-    if !comes_behind(f, t) {
-        return refuse_form(r);
+    if !comes_behind(n, last, t) {
+        return refuse(a);
     }
-    let g = push(f, t);
-    FormReading {
-        ok: true,
-        next: a.next,
-        form: g,
-    }
+    a
 }
 
-// So many terms more.
-fn take_terms(s: &[u8], r: FormReading, n: usize) -> FormReading
-    requires { ⌜ (n ≤ 48) × Readable 0 (r .form) ⌝ }
-    ensures { λ q. ⌜ TermsTaken (now (s .entry)) n r q ⌝ }
+// So many terms of a kind from a position on.
+fn take_terms(s: &[u8], at: usize, kind: u8, n: usize) -> FormReading
+    requires { ⌜ n ≤ 48 ⌝ }
+    ensures { λ q. ⌜ TermsTaken (readTerms n kind [] (now (s .entry)) at) kind n q ⌝ }
 {
-    let mut q = r;
+    let mut f = no_terms(kind);
+    let mut last = no_term();
+    let mut next = at;
     let mut i: usize = 0;
     while i < n {
-        if !q.ok {
-            return q;
+        let a = take_term(s, next, kind, i, last);
+        if !a.ok {
+            return refuse_form(f, next);
         }
-        q = take_term(s, q);
+        last = a.term;
+        f.terms[i] = last;
+        f.count = i + 1;
+        next = a.next;
         i += 1;
     }
-    q
+    FormReading {
+        ok: true,
+        next: next,
+        form: f,
+    }
 }
 
 // The form record at a position.
@@ -157,18 +148,17 @@ pub fn read_form_at(s: &[u8], at: usize) -> FormReading
     ensures { λ q. ⌜ FormRead (readFormAt (now (s .entry)) at) q ⌝ }
 {
     if !room(s, at, 2) {
-        return refuse_form(begin_form(0, at));
+        return refuse_form(no_terms(0), at);
     }
     let kind = s[at];
     let n = s[at + 1] as usize;
     if kind > 1 {
-        return refuse_form(begin_form(0, at));
+        return refuse_form(no_terms(0), at);
     }
     if n > 48 {
-        return refuse_form(begin_form(0, at));
+        return refuse_form(no_terms(0), at);
     }
-    let r = begin_form(kind, at + 2);
-    take_terms(s, r, n)
+    take_terms(s, at + 2, kind, n)
 }
 
 // The form whose record the bytes are, from the first to the last, with letters of the table: 11, then 5 or 6, in byte order.

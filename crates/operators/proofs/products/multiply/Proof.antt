@@ -1,17 +1,11 @@
 use lib.ListN.{length, length-map}
 use Prim.Native.Nat.{_≤_}
-use mathlib.Core.Path.{_≡_, sym, _∙_}
+use mathlib.Core.Path.{refl, _≡_, sym, _∙_}
 use native.Mathlib.Omega.{arith}
 use Rattle.operators.proofs.Worked.{pairs-refused, pairs-fit, pairs-closed}
 use borrow.Author.Needs.{needs}
 use Rattle.operators.proofs.products.multiply.Statement.{statement}
 use Rattle.operators.proofs.products.multiply.Tie as tie
-use Rattle.operators.proofs.products.multiply.Reads as reads
-use Rattle.operators.proofs.products.multiply.Lts as lts
-use Rattle.gathering.proofs.close.Reads as close-reads
-use Rattle.operators.proofs.answers.refuse.Reads as refuse-reads
-use Rattle.operators.proofs.limits.test_pairs.Reads as test-pairs-reads
-use Rattle.operators.proofs.products.bring_pairs.Reads as bring-pairs-reads
 
 few-f : (c : tie.Start) → c .args .f .count ≤ length (c .args .f .terms)
 few-f c = let e : length (c .args .f .terms) ≡ 48 = sym (length-map (c .args .f .terms) _) ∙ c .good .1 .1 .0 .1 .1 .1 .1 .0 .1 .0 .1 in omega (arith, e, c .pre .0 .few)
@@ -19,27 +13,18 @@ few-f c = let e : length (c .args .f .terms) ≡ 48 = sym (length-map (c .args .
 few-g : (c : tie.Start) → c .args .g .count ≤ length (c .args .g .terms)
 few-g c = let e : length (c .args .g .terms) ≡ 48 = sym (length-map (c .args .g .terms) _) ∙ c .good .1 .1 .1 .0 .1 .1 .1 .1 .0 .1 .0 .1 in omega (arith, e, c .pre .1 .few)
 
--- src/products.rt:89:9
 test-pairs-requires : tie.Need-test-pairs-requires
 test-pairs-requires c κs = (c .pre .0, c .pre .1)
 
--- src/products.rt:91:9
-refuse-requires : tie.Need-refuse-requires
-refuse-requires c κs = tt
-
--- src/products.rt:91:9
 returns : tie.Need-returns
-returns c = pairs-refused _ _ _ _ _ _ (c .before .before .test-pairs .ensures) (c .before .if1 .taken) (c .refuse .ensures)
+returns c = pairs-refused _ _ _ _ _ _ (c .before .test-pairs .ensures) (c .if1 .taken) refl
 
--- src/products.rt:93:9
 bring-pairs-requires : tie.Need-bring-pairs-requires
 bring-pairs-requires c κs = ((c .before .before .pre .0), (c .before .before .pre .1), (pairs-fit _ _ _ _ _ (c .before .test-pairs .ensures) (c .if1 .left) (few-f (c .before .before)) (few-g (c .before .before)) (c .before .before .pre .2)))
 
--- src/products.rt:94:5
 close-requires : tie.Need-close-requires
 close-requires c κs = (c .bring-pairs .ensures .valid)
 
--- src/products.rt:85:1
 returns-2 : tie.Need-returns-2
 returns-2 c = pairs-closed _ _ _ _ _ _ _ (c .before .before .before .test-pairs .ensures) (c .before .before .if1 .left) (c .before .before .before .before .pre .2) (c .before .before .before .before .pre .0) (c .before .before .before .before .pre .1) (pairs-fit _ _ _ _ _ (c .before .before .before .test-pairs .ensures) (c .before .before .if1 .left) (few-f (c .before .before .before .before)) (few-g (c .before .before .before .before)) (c .before .before .before .before .pre .2)) (c .before .bring-pairs .ensures) (c .close .ensures)
 
@@ -48,7 +33,6 @@ multiply-spec =
     tie.close
     (tie.spec
     test-pairs-requires
-    refuse-requires
     returns
     bring-pairs-requires
     close-requires

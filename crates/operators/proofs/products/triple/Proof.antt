@@ -1,37 +1,24 @@
+use mathlib.Core.Path.{refl}
 use Rattle.operators.proofs.Worked.{triple-six, triple-refused, triple-dot}
 use borrow.Author.Needs.{needs}
 use Rattle.operators.proofs.products.triple.Statement.{statement}
 use Rattle.operators.proofs.products.triple.Tie as tie
-use Rattle.operators.proofs.products.triple.Reads as reads
-use Rattle.operators.proofs.products.triple.Lts as lts
-use Rattle.operators.proofs.answers.refuse.Reads as refuse-reads
-use Rattle.operators.proofs.products.dot.Reads as dot-reads
-use Rattle.operators.proofs.products.wedge.Reads as wedge-reads
 
--- src/products.rt:147:9
-refuse-requires : tie.Need-refuse-requires
-refuse-requires c κs = tt
-
--- src/products.rt:147:9
 returns : tie.Need-returns
-returns c = triple-six _ _ _ _ (c .before .if1 .taken) (c .refuse .ensures)
+returns c = triple-six _ _ _ _ (c .if1 .taken) refl
 
--- src/products.rt:149:9
 wedge-requires : tie.Need-wedge-requires
 wedge-requires c κs = ((c .before .before .pre .0), (c .before .before .pre .1))
 
--- src/products.rt:151:9
 returns-2 : tie.Need-returns-2
 returns-2 c = triple-refused _ _ _ _ (c .before .before .before .if1 .left) (c .before .before .wedge .ensures) (c .if2 .taken)
 
--- src/products.rt:154:5
 dot-requires : tie.Need-dot-requires
 dot-requires c κs = ((c .before .before .before .wedge .ensures .valid) (c .before .if2 .left), (c .before .before .before .before .before .before .pre .2))
 
--- src/products.rt:142:1
 returns-3 : tie.Need-returns-3
 returns-3 c = triple-dot _ _ _ _ _ (c .before .before .before .before .before .if1 .left) (c .before .before .before .before .wedge .ensures) (c .before .before .if2 .left) (c .dot .ensures)
 
 pub triple-spec : {M : Type 1} → statement M
 triple-spec =
-    tie.close (tie.spec refuse-requires returns wedge-requires returns-2 dot-requires returns-3)
+    tie.close (tie.spec returns wedge-requires returns-2 dot-requires returns-3)
