@@ -1,14 +1,14 @@
 -- A term brought in is counted, and a closed sum is what the tests of 9 and 10 make of it; a form that is given is in shape. Assumes nothing.
 use mathlib.Core.Path.{_≡_, refl, ap, sym, subst, _∙_}
 use mathlib.Core.Bool.{Bool, true, false}
-use mathlib.Core.List.{List, [], _∷_, _++_, map}
+use mathlib.Core.List.{List, [], map}
 use Prim.Native.Nat.{ℕ, _+_, _≤_, _<_}
 use native.Mathlib.Omega.{arith}
-use borrow.Author.Tests.{le-leb, lt-leb, eq-eqb, ne-eqb}
+use borrow.Author.Tests.{le-leb, lt-leb, eq-eqb}
 use lib.ListN.{length}
 use Rattle.specification.specs.Results.{given, refused}
 use Rattle.specification.specs.Lists.{all}
-use Rattle.specification.specs.Terms.{termWithin, within, insert, tidy, gather, gatherInto}
+use Rattle.specification.specs.Terms.{termWithin, within, insert, gather, gatherInto}
 use Rattle.theory.specs.Elements.{All, all-implies}
 use Rattle.theory.specs.Shape.Forms.{AllFit, within-given, within-in-shape}
 use Rattle.terms.specs.declared.types.Term.{Term}
@@ -86,16 +86,6 @@ given-form s kind g b v k e p h c =
 
 -- ════ what callers cite
 
-gathered-more : (done ts : List S.Term) (t : S.Term) → gatherInto done (ts ++ (t ∷ [])) ≡ insert (tidy t) (gatherInto done ts)
-unfolding gatherInto
-gathered-more done [] t = refl
-gathered-more done (u ∷ ts) t = gathered-more (insert (tidy u) done) ts t
-
--- bringing in a tidied term gathers one more
-pub gather-more : (ts : List S.Term) (t : S.Term) → gather (ts ++ (t ∷ [])) ≡ insert (tidy t) (gather ts)
-unfolding gather
-gather-more ts t = gathered-more [] ts t
-
 -- nothing brought in is nothing gathered
 pub gather-none : gather [] ≡ []
 unfolding gather gatherInto
@@ -105,11 +95,6 @@ gather-none = refl
 pub closed-given : (s : Sum) (kind : ℕ) (r : Closed) → ClosedAs s kind r → r .refusal ≡ 0 → within kind (sumOf s) ≡ given (formOf (r .form))
 unfolding closedOf
 closed-given s kind r c e = sym (c .is) ∙ rw (eq-eqb (r .refusal) 0 e)
-
--- with one it is that refusal
-pub closed-refused : (s : Sum) (kind : ℕ) (r : Closed) → ClosedAs s kind r → (r .refusal ≡ 0 → ⊥) → within kind (sumOf s) ≡ refused (r .refusal)
-unfolding closedOf
-closed-refused s kind r c e = sym (c .is) ∙ rw (ne-eqb (r .refusal) 0 e)
 
 -- gathered from terms that fit, the form given is in shape
 pub closed-valid : (s : Sum) (kind : ℕ) (ts : List S.Term) (r : Closed) → ClosedAs s kind r → r .refusal ≡ 0 → kind ≤ 1 → sumOf s ≡ gather ts → AllFit kind ts → FormValid (r .form)

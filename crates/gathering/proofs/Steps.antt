@@ -5,7 +5,7 @@ use mathlib.Core.List.{List, [], _∷_, _++_, map}
 use Prim.Native.Nat.{ℕ, zero, suc, _+_, _≤_, _<_, Ordering}
 use native.Mathlib.Numerals.{add-one}
 use native.Mathlib.Omega.{arith}
-use lib.IntN.{ℤ, pos, natAbs, _+ℤ_}
+use lib.IntN.{ℤ, natAbs, _+ℤ_}
 use lib.ListN.{length, take, drop, getD, set, take-append-drop, length-append, length-drop, drop-of-length-le, length-map}
 use lib.Seq.{drop-cons, take-suc, take-set-lt, set-split, length-take-le, append-snoc, getD-take, take-add, take-suc-set}
 use mir.Syntax.{w64}
@@ -14,7 +14,6 @@ use Rattle.algebra.specs.Integers.{natAbs-+ℤ, sfits-natAbs}
 use Rattle.specification.specs.Lists.{byOrder, all}
 use Rattle.specification.specs.Terms.{isZero, keep, insert, withCoef, compareTerms, coefWithin, termWithin}
 use Rattle.theory.specs.Elements.{All, all-append, all-implies}
-use Rattle.terms.specs.declared.types.Part.the-variants.{Nothing}
 use Rattle.terms.specs.declared.types.Term.{Term}
 use Rattle.terms.specs.declared.order.Order.{Order}
 use Rattle.terms.specs.declared.order.Order.the-variants.{Less, Equal, Greater}

@@ -6,7 +6,7 @@ use Prim.Native.Nat.{ℕ, _+_, _*_, _≤_}
 use lib.IntN.{natAbs, _+ℤ_}
 use lib.ListN.{take, length}
 use Rattle.specification.specs.Lists.{byOrder}
-use Rattle.specification.specs.Terms.{compareTerms, insert, keep, withCoef, tidy, gatherInto}
+use Rattle.specification.specs.Terms.{compareTerms, insert, keep, withCoef, gatherInto}
 use Rattle.specification.specs.Terms as S
 use Rattle.theory.specs.Elements.{All}
 use Rattle.terms.specs.declared.types.Term.{Term}
@@ -59,12 +59,6 @@ pub record Changed (s : Sum) (ts : List S.Term) (r : Sum) : Type 0 where
 -- what bringing a term in gives
 pub record Brought (s : Sum) (t : Term) (r : Sum) : Type 0 where
   pub is : sumOf r ≡ insert (termOf t) (sumOf s)
-  pub valid : SumValid r
-  pub brought : r .brought ≡ s .brought + 1
-
--- what bringing in a term gives whose letters and factors stand in any order
-pub record RawBrought (s : Sum) (t : Term) (r : Sum) : Type 0 where
-  pub is : sumOf r ≡ insert (tidy (termOf t)) (sumOf s)
   pub valid : SumValid r
   pub brought : r .brought ≡ s .brought + 1
 

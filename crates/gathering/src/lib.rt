@@ -1,14 +1,14 @@
 // Gathering: terms brought in one after the other, like ones added, zeros dropped; closed with the tests of 9 and 10.
 ghost use mathlib.Core.Path.{_≡_};
-ghost use mathlib.Core.List.{_∷_, _++_};
+ghost use mathlib.Core.List.{_++_};
 ghost use Prim.Native.Nat.{_+_, _≤_, _<_};
 ghost use lib.IntN.{natAbs};
 ghost use lib.ListN.{take, drop};
 ghost use Rattle.specification.specs.Lists.{all};
-ghost use Rattle.specification.specs.Terms.{keep, insert, termWithin};
+ghost use Rattle.specification.specs.Terms.{termWithin};
 ghost use Rattle.theory.specs.Elements.{All};
 ghost use Rattle.terms.specs.Abstraction.{termOf, Counted};
-ghost use Rattle.gathering.specs.Sums.{held, sumOf, addedTo, Empty, SumValid, Held, Changed, Brought, RawBrought, isBehind, isLike, Bringable, AllBrought};
+ghost use Rattle.gathering.specs.Sums.{held, sumOf, addedTo, Empty, SumValid, Held, Changed, isBehind, isLike, Bringable, AllBrought};
 ghost use Rattle.gathering.specs.Closing.{ClosedAs};
 use integers::add;
 use integers::is_zero;
@@ -31,24 +31,6 @@ pub struct Sum {
 pub struct Closed {
     pub refusal: u8,
     pub form: Form,
-}
-
-// The sum with a term at a place, those behind it moved up.
-fn insert_at(s: Sum, i: usize, t: Term) -> Sum
-    requires { ⌜ (i ≤ s .count) × (s .count < 96) ⌝ }
-    ensures { λ r. ⌜ Held s (take i (held s) ++ t ∷ drop i (held s)) r ⌝ }
-{
-    let mut g = s;
-    let n = g.count;
-    let mut j = n;
-    while j > i {
-        let u = g.terms[j - 1];
-        g.terms[j] = u;
-        j -= 1;
-    }
-    g.terms[i] = t;
-    g.count = n + 1;
-    g
 }
 
 // The sum without the term at a place, those behind it moved down.
@@ -88,18 +70,6 @@ pub fn empty_sum() -> Sum
     }
 }
 
-// A term put at a place, unless its coefficient is 0.
-fn keep_at(s: Sum, i: usize, t: Term) -> Sum
-    requires { ⌜ SumValid s × (s .brought < 96) × (i ≤ s .count) × Counted t × (natAbs (t .coef) ≤ 2147483647) ⌝ }
-    ensures { λ r. ⌜ Changed s (take i (sumOf s) ++ keep (termOf t) (drop i (sumOf s))) r ⌝ }
-{
-    let c = t.coef;
-    if is_zero(c) {
-        return s;
-    }
-    insert_at(s, i, t)
-}
-
 // A like term added to the one at a place; a sum of 0 takes it out.
 fn add_at(s: Sum, i: usize, t: Term) -> Sum
     requires { ⌜ SumValid s × (s .brought < 96) × (i < s .count) × Counted t × (natAbs (t .coef) ≤ 2147483647) ⌝ }
@@ -114,46 +84,6 @@ fn add_at(s: Sum, i: usize, t: Term) -> Sum
     let mut g = s;
     g.terms[i] = u;
     g
-}
-
-// A term put where the order of terms has it, or added to the one like it.
-fn merge(s: Sum, t: Term) -> Sum
-    requires { ⌜ SumValid s × (s .brought < 96) × Counted t × (natAbs (t .coef) ≤ 2147483647) ⌝ }
-    ensures { λ r. ⌜ Changed s (insert (termOf t) (sumOf s)) r ⌝ }
-{
-    let n = s.count;
-    let mut i: usize = 0;
-    while i < n {
-        let u = s.terms[i];
-        let o = compare(t, u);
-        match o {
-            Order::Less => return keep_at(s, i, t),
-            Order::Equal => return add_at(s, i, t),
-            Order::Greater => {
-                i += 1;
-            }
-        }
-    }
-    keep_at(s, n, t)
-}
-
-// A term brought into a sum.
-pub fn bring(s: Sum, t: Term) -> Sum
-    requires { ⌜ SumValid s × (s .brought < 96) × Counted t × (natAbs (t .coef) ≤ 2147483647) ⌝ }
-    ensures { λ r. ⌜ Brought s t r ⌝ }
-{
-    let mut g = merge(s, t);
-    g.brought += 1;
-    g
-}
-
-// A term with its letters and factors in any order brought into a sum.
-pub fn bring_raw(s: Sum, t: Term) -> Sum
-    requires { ⌜ SumValid s × (s .brought < 96) × Counted t × (natAbs (t .coef) ≤ 2147483647) ⌝ }
-    ensures { λ r. ⌜ RawBrought s t r ⌝ }
-{
-    let u = tidy(t);
-    bring(s, u)
 }
 
 // Whether a term comes behind another.
@@ -260,26 +190,26 @@ pub fn close(s: Sum, kind: u8) -> Closed
         terms: ts,
     };
     let fine = all_within(s);
-    let n = s.count;
+    let count = s.count;
     if !fine {
         return Closed {
             refusal: 9,
             form: f,
         };
     }
-    if n > 48 {
+    if count > 48 {
         return Closed {
             refusal: 10,
             form: f,
         };
     }
     let mut i: usize = 0;
-    while i < n {
+    while i < count {
         let u = s.terms[i];
         f.terms[i] = u;
         i += 1;
     }
-    f.count = n;
+    f.count = count;
     Closed {
         refusal: 0,
         form: f,

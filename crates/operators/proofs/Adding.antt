@@ -1,23 +1,22 @@
 -- Sums: a form begun with, terms brought in, signs turned. Assumes nothing.
 use mathlib.Core.Path.{_≡_, refl, ap, sym, subst, _∙_}
 use mathlib.Core.List.{List, [], _∷_, _++_, map}
-use Prim.Native.Nat.{ℕ, zero, suc, _+_, _*_, _≤_, _<_, _^_}
+use Prim.Native.Nat.{ℕ, _+_, _≤_, _<_}
 use native.Mathlib.Numerals.{add-one}
 use native.Mathlib.Omega.{arith}
 use borrow.Author.Tests.{eq-eqb, ne-eqb}
-use lib.Dec.{T}
 use lib.IntN.{ℤ, negℤ, natAbs}
-use lib.ListN.{length, take, drop, getD, set, drop-of-length-le}
+use lib.ListN.{length, take, getD, set}
 use lib.Seq.{take-suc}
 use Rattle.algebra.specs.Integers.{sfits-natAbs}
 use Rattle.specification.specs.Results.{refused}
-use Rattle.specification.specs.Terms.{gather, gatherInto, insert, tidy, within, negated, termInShape}
+use Rattle.specification.specs.Terms.{gather, gatherInto, within, negated}
 use Rattle.specification.specs.Terms as S
 use Rattle.specification.specs.Reduction.{sumForms, negateForm}
-use Rattle.theory.specs.Elements.{All, all-append, all-implies, all-T}
+use Rattle.theory.specs.Elements.{All, all-append}
 use Rattle.theory.specs.Order.{monomial}
 use Rattle.theory.specs.Gathering.Gathered.{gather-again}
-use Rattle.theory.specs.Shape.Terms.{Fits, in-shape-tidy}
+use Rattle.theory.specs.Shape.Terms.{Fits}
 use Rattle.theory.specs.Shape.Forms.{FormInShape, AllFit, form-fits, form-gathered}
 use Rattle.theory.specs.Reduction.Operators.{negate-in-shape}
 use Rattle.integers.proofs.Machine.{back, back-is}
@@ -25,16 +24,13 @@ use Rattle.terms.specs.declared.types.Term.{Term}
 use Rattle.terms.specs.declared.types.Form.{Form}
 use Rattle.terms.specs.Abstraction.{termOf, formOf, Counted}
 use Rattle.terms.specs.Valid.{FormValid}
-use Rattle.terms.proofs.Arrays.{noTerm, all-at, stored-behind, mapped-behind}
+use Rattle.terms.proofs.Arrays.{noTerm, stored-behind, mapped-behind}
 use Rattle.gathering.specs.declared.Sum.{Sum}
 use Rattle.gathering.specs.declared.Closed.{Closed}
-use Rattle.gathering.specs.Sums.{held, sumOf, Standing, SumValid, Brought}
+use Rattle.gathering.specs.Sums.{sumOf}
 use Rattle.gathering.specs.Closing.{ClosedAs}
-use Rattle.operators.specs.Limits.{coefSize}
 use Rattle.operators.specs.Products.{WorkedAs}
 use Rattle.operators.specs.Sums.{Negated}
-use Rattle.operators.proofs.Largest.{Limited, form-limited, form-size}
-use Rattle.operators.proofs.Places.{form-length, form-rest, form-at, form-counted}
 use Rattle.operators.proofs.Rows.{gather-join}
 use Rattle.operators.proofs.Worked.{refuses, works-as, closes}
 

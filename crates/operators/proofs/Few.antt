@@ -1,12 +1,11 @@
 -- What two vector parts make, case by case. Assumes nothing.
-use mathlib.Core.Path.{_≡_, refl, ap, sym, subst, _∙_}
+use mathlib.Core.Path.{_≡_, ap, sym, subst}
 use mathlib.Core.Logic.{_⊎_}
 use mathlib.Core.List.{List, [], _∷_, _++_}
 use Prim.Native.Nat.{ℕ}
-use lib.IntN.{ℤ}
 use Rattle.specification.specs.Terms.{plus, minus}
 use Rattle.specification.specs.Terms as S
-use Rattle.specification.specs.Reduction.{timesParts, dotParts}
+use Rattle.specification.specs.Reduction.{timesParts}
 use Rattle.terms.specs.declared.types.Part.{Part}
 use Rattle.terms.specs.declared.types.Part.the-variants.{Nothing, Letter, Wedge}
 use Rattle.terms.specs.declared.types.Term.{Term}

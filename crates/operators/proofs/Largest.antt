@@ -7,10 +7,9 @@ use Prim.Native.Nat.{ℕ, zero, suc, _+_, _*_, _-_, _≤_, _<_, _^_}
 use native.Mathlib.Nat as N
 use native.Mathlib.Omega.{arith}
 use borrow.Author.Tests.{lt-ltb, le-ltb, le-leb, lt-leb}
-use lib.Dec.{T, ltb, leb, leb→le}
+use lib.Dec.{T, leb, leb→le}
 use lib.IntN.{ℤ, natAbs, _*ℤ_}
-use lib.ListN.{length, take, drop, getD, length-map, drop-of-length-le}
-use lib.Seq.{length-take-le}
+use lib.ListN.{length, take, drop, getD, drop-of-length-le}
 use Rattle.algebra.specs.Integers.{natAbs-*ℤ, sfits-natAbs}
 use Rattle.specification.specs.Lists.{all}
 use Rattle.specification.specs.Terms.{vectorLetters, scalarLetters, coefWithin, termInShape}
@@ -26,7 +25,7 @@ use Rattle.terms.specs.declared.types.Term.{Term}
 use Rattle.terms.specs.declared.types.Form.{Form}
 use Rattle.terms.specs.declared.shape.Used.{Used}
 use Rattle.terms.specs.Numbers.{lettersOf}
-use Rattle.terms.specs.Abstraction.{partOf, termOf, formOf, Counted}
+use Rattle.terms.specs.Abstraction.{partOf, termOf, formOf}
 use Rattle.terms.specs.Used.{UsedBy}
 use Rattle.terms.specs.Valid.{FormValid}
 use Rattle.terms.proofs.Arrays.{noTerm}

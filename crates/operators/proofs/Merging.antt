@@ -5,14 +5,14 @@ use mathlib.Core.Logic.{_⊎_, inl, inr}
 use mathlib.Core.List.{List, [], _∷_, _++_, map, append-assoc, append-nil}
 use Prim.Native.Nat.{ℕ, zero, suc, _+_, _≤_, _<_, Ordering, Ordering·lt, Ordering·eq, Ordering·gt}
 use native.Mathlib.Omega.{arith}
-use borrow.Author.Tests.{lt-ltb, le-ltb, ltb-true, ltb-false, le-leb, lt-leb}
-use lib.Dec.{ltb, leb}
+use borrow.Author.Tests.{ltb-true, ltb-false, le-leb, lt-leb}
+use lib.Dec.{ltb}
 use lib.IntN.{ℤ, pos, negsuc, natAbs, _+ℤ_}
 use lib.ListN.{length, take, drop, getD, set, length-append, length-map, length-set, drop-of-length-le}
 use lib.Seq.{take-all}
 use Rattle.algebra.specs.Integers.{NonZero}
 use Rattle.specification.specs.Lists.{byOrder, all, isLess, isNotMore}
-use Rattle.specification.specs.Results.{Result, refused, given, if_then_else_}
+use Rattle.specification.specs.Results.{refused, if_then_else_}
 use Rattle.specification.specs.Terms.{isZero, keep, insert, gatherInto, tidy, withCoef, compareTerms, coefWithin, termWithin, within}
 use Rattle.specification.specs.Terms as S
 use Rattle.theory.specs.Elements.{All, all-append}

@@ -1,13 +1,13 @@
 -- The terms of one pair: the scalar parts joined, times what the vector parts make. Assumes nothing.
 use mathlib.Core.Path.{_≡_, refl, ap, sym, subst, _∙_}
 use mathlib.Core.Logic.{_⊎_, inl, inr}
-use mathlib.Core.List.{List, [], _∷_, _++_, map}
+use mathlib.Core.List.{List, [], _∷_, map}
 use Prim.Native.Nat.{ℕ, zero, suc, _+_, _*_, _≤_, _<_, _^_}
 use native.Mathlib.Nat as N
 use native.Mathlib.Omega.{arith}
-use lib.Dec.{T, leb, leb→le, ltb}
+use lib.Dec.{T, leb, leb→le}
 use lib.IntN.{ℤ, natAbs, _*ℤ_}
-use lib.ListN.{length, take, length-map}
+use lib.ListN.{length, take}
 use lib.Seq.{length-take-le}
 use Rattle.algebra.specs.Integers.{natAbs-*ℤ}
 use Rattle.specification.specs.Terms.{timesTerm, coefWithin, vectorLetters, scalarLetters, vectorLettersOf, scalarLettersOf}
@@ -15,8 +15,6 @@ use Rattle.algebra.specs.Conditions.{lt-or-le}
 use Rattle.specification.specs.Terms as S
 use Rattle.specification.specs.Reduction.{joinedScalars, pairTerms, pairLettersFit, pairCoefFits}
 use Rattle.theory.specs.Tests.{and-split}
-use Rattle.terms.specs.declared.types.Part.{Part}
-use Rattle.terms.specs.declared.types.Part.the-variants.{Nothing, Letter, Wedge}
 use Rattle.terms.specs.declared.types.Term.{Term}
 use Rattle.terms.specs.Numbers.{lettersOf}
 use Rattle.terms.specs.Abstraction.{partOf, termOf, Counted}

@@ -7,7 +7,7 @@ use native.Mathlib.Nat as N
 use native.Mathlib.Numerals.{add-one}
 use native.Mathlib.Omega.{arith}
 use lib.Dec.{T}
-use lib.ListN.{length, take, drop, getD, set, length-append, length-set, length-map, List·getD-append, List·getD-map}
+use lib.ListN.{length, take, getD, set, length-append, length-set, List·getD-append, List·getD-map}
 use lib.Seq.{take-suc, take-all, getD-take, getD-append-add}
 use Rattle.specification.specs.Lists.{all}
 use Rattle.specification.specs.Letters.{scalar, vector}
@@ -18,10 +18,10 @@ use Rattle.specification.specs.Reduction.{pairTerms, pairsOf, pairLettersFit, p
 use Rattle.theory.specs.Elements.{All, all-T, all-append}
 use Rattle.theory.specs.Order.{monomial}
 use Rattle.theory.specs.Shape.Terms.{Fits, no-part}
-use Rattle.theory.specs.Shape.Forms.{AllFit, form-fits}
+use Rattle.theory.specs.Shape.Forms.{form-fits}
 use Rattle.terms.specs.declared.types.Term.{Term}
 use Rattle.terms.specs.declared.types.Form.{Form}
-use Rattle.terms.specs.Abstraction.{partOf, termOf, formOf, Counted}
+use Rattle.terms.specs.Abstraction.{partOf, termOf, formOf}
 use Rattle.terms.specs.Valid.{FormValid}
 use Rattle.terms.proofs.Arrays.{noTerm}
 use Rattle.gathering.specs.declared.Sum.{Sum}

@@ -1,8 +1,8 @@
 -- What the operators give: tests, then what was gathered and closed. Assumes nothing.
 use mathlib.Core.Path.{_≡_, refl, ap, sym, subst, _∙_}
 use mathlib.Core.Logic.{_⊎_, inl, inr}
-use mathlib.Core.Bool.{Bool, true, false, _&&_, _||_}
-use mathlib.Core.List.{List, [], _∷_, _++_, flatMap}
+use mathlib.Core.Bool.{Bool, true, false, _&&_}
+use mathlib.Core.List.{List, flatMap}
 use Prim.Native.Nat.{ℕ, _*_, _≤_}
 use native.Mathlib.Omega.{arith}
 use borrow.Author.Tests.{eq-eqb, ne-eqb}
@@ -10,7 +10,7 @@ use lib.Dec.{T, leb, leb→le, eqb}
 use lib.ListN.{length}
 use Rattle.specification.specs.Lists.{all}
 use Rattle.specification.specs.Letters.{scalar, vector}
-use Rattle.specification.specs.Results.{Result, Test, given, refused, _>>=_, _>>_, require, if_then_else_}
+use Rattle.specification.specs.Results.{Result, Test, given, refused, _>>=_, _>>_, require}
 use Rattle.specification.specs.Terms.{gather, within}
 use Rattle.specification.specs.Terms as S
 use Rattle.specification.specs.Reduction.{timesParts, dotParts, wedgeParts, pairTerms, pairsOf, pairLettersFit, pairCoefFits, product, timesForms, dotForms, wedgeForms, tripleForms}
@@ -23,9 +23,9 @@ use Rattle.terms.specs.Abstraction.{formOf}
 use Rattle.terms.specs.Valid.{FormValid}
 use Rattle.gathering.specs.declared.Sum.{Sum}
 use Rattle.gathering.specs.declared.Closed.{Closed}
-use Rattle.gathering.specs.Sums.{sumOf, SumValid}
+use Rattle.gathering.specs.Sums.{sumOf}
 use Rattle.gathering.specs.Closing.{closedOf, ClosedAs}
-use Rattle.gathering.proofs.Closing.{closed-valid, closed-given}
+use Rattle.gathering.proofs.Closing.{closed-valid}
 use Rattle.records.specs.Tested.{testOf}
 use Rattle.records.proofs.LetterTests.{test-passed, test-refused}
 use Rattle.operators.specs.declared.parts.Operation.{Operation}

@@ -1,14 +1,14 @@
 -- The line that is printed, case by case. Assumes nothing.
-use mathlib.Core.Path.{_≡_, refl, ap, sym, subst, _∙_}
+use mathlib.Core.Path.{_≡_, ap, sym, subst, _∙_}
 use mathlib.Core.Bool.{Bool, true, false}
 use mathlib.Core.List.{List}
 use Prim.Native.Nat.{ℕ, _+_, _-_, _≤_, _<_}
 use native.Mathlib.Omega.{arith}
 use borrow.Author.Tests.{le-leb, lt-leb}
-use lib.Dec.{T, leb}
+use lib.Dec.{T}
 use lib.ListN.{length, getD, take, drop, length-drop}
 use lib.Seq.{take-all}
-use Rattle.specification.specs.Results.{Result, Test, refused, given, _>>_, require}
+use Rattle.specification.specs.Results.{Test, refused, given, _>>_, require}
 use Rattle.specification.specs.Letters.{goodTable, testTable}
 use Rattle.specification.specs.Terms as S
 use Rattle.specification.specs.Reduction.{reduced}
@@ -16,7 +16,6 @@ use Rattle.specification.specs.Printing.{printTested, printResult, printCall}
 use Rattle.theory.specs.Tests.{refused≢given}
 use Rattle.theory.specs.Reduction.Work.{reduction-keeps-value}
 use Rattle.terms.specs.Abstraction.{formOf}
-use Rattle.terms.specs.declared.types.Form.{Form}
 use Rattle.gathering.specs.declared.Closed.{Closed}
 use Rattle.records.specs.Tested.{testOf}
 use Rattle.operators.specs.Products.{WorkedAs}

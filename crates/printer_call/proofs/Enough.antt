@@ -1,7 +1,6 @@
 -- The printer reads no more than it needs: one byte more than the longest input that is not refused for its length settles the answer. Assumes nothing.
-use mathlib.Core.Path.{_≡_, refl, ap, sym, subst, _∙_}
+use mathlib.Core.Path.{_≡_, refl, ap, sym, _∙_}
 use mathlib.Core.Logic.{_⊎_, inl, inr}
-use mathlib.Core.Bool.{Bool, true, false, _&&_}
 use mathlib.Core.List.{List, [], _∷_}
 use Prim.Native.Nat.{ℕ, zero, suc, _+_, _-_, _≤_, _<_}
 use native.Mathlib.Omega.{arith}
@@ -9,9 +8,9 @@ use borrow.Author.Tests.{lt-leb}
 use lib.Dec.{leb}
 use lib.ListN.{length, getD, take, drop, length-drop}
 use lib.Seq.{take-all, length-take-le}
-use Rattle.specification.specs.Results.{Result, refused, _>>_}
+use Rattle.specification.specs.Results.{refused, _>>_}
 use Rattle.specification.specs.Lists.{all}
-use Rattle.specification.specs.Letters.{isKind, goodTable, testTable}
+use Rattle.specification.specs.Letters.{goodTable, testTable}
 use Rattle.specification.specs.Expressions.{readExpr}
 use Rattle.specification.specs.Reduction.{reduced}
 use Rattle.specification.specs.Printing.{printResult, printCall}

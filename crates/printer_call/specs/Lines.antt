@@ -1,7 +1,7 @@
 -- The line that a table and an expression print. Assumes nothing.
 use mathlib.Core.List.{List}
 use Prim.Native.Nat.{ℕ}
-use Rattle.specification.specs.Results.{Result, _>>_}
+use Rattle.specification.specs.Results.{_>>_}
 use Rattle.specification.specs.Letters.{testTable}
 use Rattle.specification.specs.Reduction.{reduced}
 use Rattle.specification.specs.Printing.{printResult}

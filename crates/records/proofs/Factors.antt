@@ -1,14 +1,13 @@
 -- The factors of one number of letters, found one number after the other. Assumes nothing.
 use mathlib.Core.Path.{_≡_, refl, sym, ap, _∙_}
 use mathlib.Core.List.{List, [], _∷_, _++_, map, map-append, append-assoc, append-nil}
-use Prim.Native.Nat.{ℕ, zero, suc, _+_, _<_, _≤_}
+use Prim.Native.Nat.{ℕ, _+_, _<_, _≤_}
 use native.Mathlib.Omega.{arith}
 use native.Mathlib.Numerals.{add-one}
 use lib.ListN.{length, getD, take, drop, length-append, take-append-drop}
 use lib.Seq.{take-suc, take-take}
 use borrow.Author.Tests.{eq-eqb, ne-eqb}
 use Rattle.specification.specs.Lists.{select, joined}
-use Rattle.theory.specs.Elements.{All}
 use Rattle.theory.specs.Records.Factors.{ofSize, ofSize-append}
 use Rattle.terms.specs.Numbers.{lettersOf}
 use Rattle.records.specs.Written.{Written}

@@ -1,16 +1,15 @@
 -- What the readers' structs say, and a term record as steps from one to the next. Assumes nothing.
 use mathlib.Core.Bool.{Bool, true, _&&_}
 use mathlib.Core.Path.{_≡_}
-use mathlib.Core.List.{List, [], _∷_, _++_, map}
+use mathlib.Core.List.{List, [], map}
 use Prim.Native.Nat.{ℕ, _+_, _≤_}
 use lib.Dec.{eqb}
 use lib.IntN.{pos}
 use lib.ListN.{take}
-use Rattle.specification.specs.Lists.{follows}
 use Rattle.specification.specs.Results.{Result, refused, given, _>>=_, _>>_, require, if_then_else_}
 use Rattle.specification.specs.Terms.{withCoef, plus, termBefore}
 use Rattle.specification.specs.Terms as S
-use Rattle.specification.specs.Records.{readCoef, readFactors, readLetters, testShape, readTermAt, readTerms, stands, partLetters, partFits}
+use Rattle.specification.specs.Records.{readCoef, readFactors, readLetters, testShape, readTermAt, stands, partLetters, partFits}
 use Rattle.theory.specs.Elements.{All}
 use Rattle.terms.specs.declared.types.Part.the-variants.{Nothing}
 use Rattle.terms.specs.declared.types.Term.{Term}

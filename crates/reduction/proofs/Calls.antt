@@ -1,15 +1,15 @@
 -- The call: an expression whole, and the record of its form in the bytes lent. Assumes nothing.
-use mathlib.Core.Path.{_≡_, refl, ap, sym, subst, _∙_}
+use mathlib.Core.Path.{_≡_, ap, sym, _∙_}
 use mathlib.Core.List.{List}
 use Prim.Native.Nat.{ℕ, _≤_, _<_}
 use borrow.Author.Tests.{le-leb, lt-leb, eq-eqb, ne-eqb}
 use native.Mathlib.Omega.{arith}
-use lib.Dec.{leb, eqb}
+use lib.Dec.{leb}
 use lib.ListN.{length}
-use Rattle.specification.specs.Results.{Result, Test, refused, given, _>>=_, _>>_, require}
+use Rattle.specification.specs.Results.{Result, Test, refused, given, _>>_, require}
 use Rattle.specification.specs.Letters.{testTable}
 use Rattle.specification.specs.Terms as S
-use Rattle.specification.specs.Records.{writeForm, writeInto, answerForm}
+use Rattle.specification.specs.Records.{answerForm}
 use Rattle.specification.specs.Expressions.{Expr, readTree, readExpr}
 use Rattle.specification.specs.Reduction.{work, reduced, reduceTested, reduceCall}
 use Rattle.terms.specs.Abstraction.{formOf}
@@ -21,7 +21,6 @@ use Rattle.records.specs.Written.{FormWritten}
 use Rattle.operators.specs.Products.{WorkedAs}
 use Rattle.operators.proofs.Worked.{refuses, works-as, worked-given, worked-refused}
 use Rattle.reduction.specs.declared.trees.Tree.{Tree}
-use Rattle.reduction.specs.declared.Reduced.{Reduced}
 use Rattle.reduction.specs.declared.Reduced.the-variants.{Written, Refused}
 use Rattle.reduction.specs.Answers.{reducedOf}
 use Rattle.reduction.specs.Trees.{ReadAs}

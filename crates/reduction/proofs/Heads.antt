@@ -1,24 +1,21 @@
 -- Tokens by their numbers, and the tests at a tree. Assumes nothing.
 use mathlib.Core.Path.{_≡_, refl, ap, sym, subst, _∙_}
-use mathlib.Core.Bool.{Bool, true, false, _&&_}
+use mathlib.Core.Bool.{Bool, true, false}
 use mathlib.Core.List.{List}
 use Prim.Native.Nat.{ℕ, zero, suc, _+_, _-_, _≤_, _<_}
 use native.Mathlib.Nat as N
-use native.Mathlib.Numerals.{sub-one}
 use native.Mathlib.Omega.{arith}
 use borrow.Author.Tests.{lt-ltb, le-ltb, le-leb, lt-leb, eq-eqb, ne-eqb, leb-true}
-use lib.Dec.{T, ltb, leb, eqb, leb→le}
+use lib.Dec.{ltb, leb, eqb}
 use lib.ListN.{length, getD}
-use Rattle.specification.specs.Results.{Result, Test, refused, given, _>>=_, _>>_, require, if_then_else_}
+use Rattle.specification.specs.Results.{Result, Test, refused, given, _>>_, require, if_then_else_}
 use Rattle.specification.specs.Letters.{kindOf}
 use Rattle.specification.specs.Records.{fourBytesAt}
-use Rattle.specification.specs.Terms.{Form}
-use Rattle.specification.specs.Expressions.{Expr, Letter, Constant, Sum, Difference, Negation, Times, Dot, Wedge, Triple, Token, leaf, one, two, three, tokenBytes, testBytes, readLetter, readToken, readOperands, readTree}
-use Rattle.specification.specs.Reduction.{negateForm, sumForms, timesForms, dotForms, wedgeForms, tripleForms, work}
-use Rattle.theory.specs.Tests.{and-false, refused≢given, given-same, required}
+use Rattle.specification.specs.Expressions.{Expr, Letter, Constant, Sum, Difference, Negation, Times, Dot, Wedge, Triple, Token, leaf, one, two, three, tokenBytes, testBytes, readLetter, readToken}
+use Rattle.theory.specs.Tests.{and-false, refused≢given, required}
 use Rattle.records.specs.Tested.{testOf}
 use Rattle.records.proofs.LetterTests.{test-passed, test-refused}
-use Rattle.reduction.specs.Trees.{operandCount, testToken, testHead, binary, onOne, onTwo, onThree}
+use Rattle.reduction.specs.Trees.{operandCount, testToken, testHead}
 
 -- ════ a token by its number
 

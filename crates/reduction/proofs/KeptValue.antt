@@ -1,14 +1,14 @@
 -- The theorem at the call: what `reduce` writes is, read back, a form with the value of the expression. Assumes nothing.
 use mathlib.Core.Path.{_≡_, refl, ap, sym, subst, _∙_}
-use mathlib.Core.List.{List, _++_}
+use mathlib.Core.List.{List}
 use Prim.Native.Nat.{ℕ, _≤_}
 use lib.Dec.{T, leb}
 use lib.ListN.{length, take, drop}
 use lib.Seq.{take-at}
-use Rattle.specification.specs.Results.{Result, Test, refused, given, _>>_, require}
+use Rattle.specification.specs.Results.{Result, refused, given, _>>_, require}
 use Rattle.specification.specs.Letters.{goodTable, testTable}
 use Rattle.specification.specs.Terms.{Form}
-use Rattle.specification.specs.Records.{writeForm, writeInto, answerForm, readForm, testTerms, takeForm}
+use Rattle.specification.specs.Records.{writeForm, writeInto, answerForm, takeForm}
 use Rattle.specification.specs.Reduction.{reduced, reduceTested, reduceCall}
 use Rattle.theory.specs.Tests.{refused≢given, given-same, required}
 use Rattle.theory.specs.Records.Forms.{form-read-back, form-short}

@@ -7,30 +7,29 @@ use Prim.Native.Nat.{ℕ, zero, suc, _+_, _-_, _≤_, _<_}
 use native.Mathlib.Numerals.{sub-one}
 use native.Mathlib.Omega.{arith}
 use borrow.Author.Tests.{eq-eqb, ne-eqb, lt-ltb, ltb-true, le-leb}
-use lib.Dec.{eqb, ltb}
+use lib.Dec.{ltb}
 use lib.IntN.{ℤ, natAbs}
 use lib.ListN.{length, getD}
 use Rattle.specification.specs.Results.{Result, Test, refused, given, _>>=_, _>>_, require}
 use Rattle.specification.specs.Letters.{kindOf}
 use Rattle.specification.specs.Records.{fourBytesAt}
 use Rattle.specification.specs.Terms as S
-use Rattle.specification.specs.Expressions.{Expr, Letter, Constant, Sum, Difference, Negation, Times, Dot, Wedge, Triple, Token, leaf, one, two, three, tokenBytes, testBytes, readLetter, readToken, readOperands, readTree}
+use Rattle.specification.specs.Expressions.{Expr, Letter, Constant, Token, leaf, one, two, three, tokenBytes, testBytes, readLetter, readToken, readOperands, readTree}
 use Rattle.specification.specs.Reduction.{negateForm, sumForms, timesForms, dotForms, wedgeForms, tripleForms, letterForm, constantForm, work}
 use Rattle.theory.specs.Tests.{refused≢given, given-same}
 use Rattle.algebra.specs.Integers.{sfits-natAbs}
 use Rattle.integers.proofs.Machine.{back, back-is}
 use Rattle.terms.specs.declared.types.Form.{Form}
 use Rattle.terms.specs.Abstraction.{formOf}
-use Rattle.terms.specs.Valid.{FormValid}
 use Rattle.gathering.specs.declared.Closed.{Closed}
 use Rattle.gathering.specs.Closing.{closedOf}
 use Rattle.records.specs.Tested.{testOf}
 use Rattle.records.proofs.LetterTests.{test-passed, test-refused}
 use Rattle.operators.specs.Products.{WorkedAs}
 use Rattle.operators.specs.Sums.{Negated}
-use Rattle.operators.proofs.Worked.{refuses, works-as, worked-given, worked-refused}
+use Rattle.operators.proofs.Worked.{refuses, works-as}
 use Rattle.reduction.specs.declared.trees.Tree.{Tree}
-use Rattle.reduction.specs.Trees.{operandCount, testToken, testHead, binary, onOne, onTwo, onThree, Sound, Unread, TreeAs, ReadAs, LeafAt, readLeaf}
+use Rattle.reduction.specs.Trees.{operandCount, testToken, testHead, binary, onOne, onTwo, onThree, Sound, ReadAs, LeafAt, readLeaf}
 use Rattle.reduction.proofs.Heads.{more, chain, read-is, chain-more, bytes-passed, own-byte}
 
 -- one of two, by cases

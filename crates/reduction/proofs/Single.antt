@@ -1,17 +1,16 @@
 -- Forms of at most one term: a letter alone, a constant. Assumes nothing.
-use mathlib.Core.Path.{_≡_, refl, ap, sym, subst, _∙_}
+use mathlib.Core.Path.{_≡_, ap, sym, subst, _∙_}
 use mathlib.Core.Bool.{Bool, true, false}
 use mathlib.Core.List.{List, [], _∷_, map}
-use Prim.Native.Nat.{ℕ, zero, suc, _≤_, _<_}
+use Prim.Native.Nat.{ℕ, zero, suc, _≤_}
 use native.Mathlib.Omega.{arith}
 use borrow.Author.Tests.{eq-eqb, ne-eqb}
-use lib.Dec.{T}
-use lib.IntN.{ℤ, pos}
+use lib.IntN.{ℤ}
 use lib.ListN.{take}
 use mir.Syntax.{w64}
 use mir.Val.{SFits}
-use Rattle.specification.specs.Results.{Result, given, refused}
-use Rattle.specification.specs.Letters.{scalar, vector}
+use Rattle.specification.specs.Results.{Result, given}
+use Rattle.specification.specs.Letters.{scalar}
 use Rattle.specification.specs.Terms.{plus, isZero, keep, coefWithin}
 use Rattle.specification.specs.Terms as S
 use Rattle.specification.specs.Reduction.{letterForm, constantForm}
@@ -23,7 +22,6 @@ use Rattle.integers.proofs.Machine.{back, back-is}
 use Rattle.terms.specs.declared.types.Term.{Term}
 use Rattle.terms.specs.declared.types.Form.{Form}
 use Rattle.terms.specs.Abstraction.{termOf, formOf, Counted}
-use Rattle.terms.specs.Valid.{FormValid}
 use Rattle.gathering.specs.declared.Closed.{Closed}
 use Rattle.gathering.specs.Closing.{closedOf}
 use Rattle.operators.specs.Products.{WorkedAs}

@@ -1,8 +1,7 @@
-use mathlib.Core.Bool.{Bool, true, false}
+use mathlib.Core.Bool.{true, false}
 use mathlib.Core.Path.{sym, ap, _∙_}
 use Prim.Native.Nat.{Ordering}
 use Rattle.specification.specs.Lists.{byOrder}
-use Rattle.terms.specs.declared.order.Order.{Order}
 use Rattle.terms.specs.Abstraction.{orderingOf}
 use Rattle.gathering.specs.Sums.{isBehind}
 use borrow.Author.Needs.{needs}

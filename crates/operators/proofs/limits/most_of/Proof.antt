@@ -1,8 +1,8 @@
 use Rattle.operators.specs.Limits.{MostOf}
 use Rattle.terms.specs.Abstraction.{formOf}
 use lib.ListN.{length, length-map, drop}
-use Prim.Native.Nat.{_+_, _-_, _≤_, _<_}
-use mathlib.Core.Path.{_≡_, refl, sym, ap, _∙_}
+use Prim.Native.Nat.{_-_, _≤_, _<_}
+use mathlib.Core.Path.{_≡_, sym, _∙_}
 use Rattle.operators.proofs.Places.{form-length, form-rest, form-counted}
 use native.Mathlib.Omega.{arith}
 use Rattle.operators.proofs.Largest.{most-none, most-more, most-all, again, form-size}

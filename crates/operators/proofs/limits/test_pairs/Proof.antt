@@ -2,7 +2,7 @@ use Rattle.theory.specs.Elements.{All}
 use Rattle.terms.specs.Abstraction.{formOf}
 use lib.ListN.{length, length-map}
 use Prim.Native.Nat.{ℕ, _*_, _≤_, _<_}
-use mathlib.Core.Path.{_≡_, refl, sym, subst, _∙_}
+use mathlib.Core.Path.{_≡_, sym, subst, _∙_}
 use borrow.Author.Tests.{not-true, not-false}
 use native.Mathlib.Nat.{mul-le-mul}
 use Rattle.operators.proofs.Places.{form-length}

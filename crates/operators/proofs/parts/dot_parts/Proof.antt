@@ -1,7 +1,7 @@
 use Rattle.specification.specs.Reduction.{dotParts}
 use Prim.Native.Nat.{ℕ}
 use Rattle.terms.specs.Abstraction.{partOf}
-use mathlib.Core.List.{List, [], _∷_}
+use mathlib.Core.List.{List}
 use Rattle.operators.proofs.Few.{at-nothing, at-letter, at-wedge}
 use borrow.Author.Needs.{needs}
 use Rattle.operators.proofs.parts.dot_parts.Statement.{statement}

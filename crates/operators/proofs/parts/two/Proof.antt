@@ -1,5 +1,5 @@
 use Rattle.operators.specs.Parts.{listOf}
-use Rattle.terms.specs.Abstraction.{termOf, partOf}
+use Rattle.terms.specs.Abstraction.{termOf}
 use borrow.Author.Needs.{needs}
 use Rattle.operators.proofs.parts.two.Statement.{statement}
 use Rattle.operators.proofs.parts.two.Tie as tie

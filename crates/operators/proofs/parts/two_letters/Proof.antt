@@ -1,4 +1,4 @@
-use Rattle.terms.specs.Abstraction.{termOf, partOf}
+use Rattle.terms.specs.Abstraction.{partOf}
 use Rattle.operators.proofs.Few.{two-made}
 use borrow.Author.Needs.{needs}
 use Rattle.operators.proofs.parts.two_letters.Statement.{statement}

@@ -1,4 +1,4 @@
-use Rattle.terms.specs.Abstraction.{termOf, partOf}
+use Rattle.terms.specs.Abstraction.{partOf}
 use Rattle.operators.proofs.Few.{one-made}
 use borrow.Author.Needs.{needs}
 use Rattle.operators.proofs.parts.wedge_alone.Statement.{statement}

@@ -1,5 +1,5 @@
 use Rattle.specification.specs.Reduction.{wedgeParts}
-use mathlib.Core.List.{List, [], _∷_}
+use mathlib.Core.List.{[], _∷_}
 use Rattle.operators.proofs.Few.{two-factors}
 use Rattle.operators.proofs.Few.{at-nothing, at-letter, at-wedge}
 use borrow.Author.Needs.{needs}

@@ -2,7 +2,6 @@ use mathlib.Core.Path.{refl}
 use mathlib.Core.Logic.{inl, inr}
 use Rattle.operators.specs.Products.{Kinds}
 use Rattle.operators.proofs.Worked.{dot-six, dot-vectors}
-use borrow.Author.Needs.{needs}
 use Rattle.operators.proofs.products.dot.Statement.{statement}
 use Rattle.operators.proofs.products.dot.Tie as tie
 

@@ -3,7 +3,6 @@ use Prim.Native.Nat.{_≤_}
 use mathlib.Core.Path.{refl, _≡_, sym, _∙_}
 use native.Mathlib.Omega.{arith}
 use Rattle.operators.proofs.Worked.{pairs-refused, pairs-fit, pairs-closed}
-use borrow.Author.Needs.{needs}
 use Rattle.operators.proofs.products.multiply.Statement.{statement}
 use Rattle.operators.proofs.products.multiply.Tie as tie
 

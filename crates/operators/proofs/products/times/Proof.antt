@@ -2,7 +2,6 @@ use mathlib.Core.Path.{refl}
 use mathlib.Core.Logic.{inl, inr}
 use Rattle.operators.specs.Products.{Kinds}
 use Rattle.operators.proofs.Worked.{times-left, times-right, times-six}
-use borrow.Author.Needs.{needs}
 use Rattle.operators.proofs.products.times.Statement.{statement}
 use Rattle.operators.proofs.products.times.Tie as tie
 

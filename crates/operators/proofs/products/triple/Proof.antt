@@ -1,6 +1,5 @@
 use mathlib.Core.Path.{refl}
 use Rattle.operators.proofs.Worked.{triple-six, triple-refused, triple-dot}
-use borrow.Author.Needs.{needs}
 use Rattle.operators.proofs.products.triple.Statement.{statement}
 use Rattle.operators.proofs.products.triple.Tie as tie
 

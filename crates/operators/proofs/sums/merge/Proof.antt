@@ -7,7 +7,7 @@ use lib.IntN.{natAbs, _+ℤ_}
 use lib.ListN.{length, length-map, getD}
 use Rattle.integers.proofs.Machine.{back, back-is}
 use Rattle.terms.specs.declared.types.Form.{Form}
-use Rattle.terms.specs.Abstraction.{termOf, orderingOf}
+use Rattle.terms.specs.Abstraction.{orderingOf}
 use Rattle.terms.proofs.Arrays.{noTerm}
 use Rattle.operators.proofs.Adding.{sum-refused, sum-closed}
 use Rattle.operators.proofs.Merging.{Merging, merging-none, merging-more, merging-same, place-counted, place-size, place-within, left-turn, right-turn, both-left, both-right, both-dropped, both-added, merged-beyond, merged-many, merged-sum, merged-closed, recounted}

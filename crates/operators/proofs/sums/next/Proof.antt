@@ -2,7 +2,6 @@ use mathlib.Core.Path.{_∙_}
 use borrow.Author.Tests.{not-true, not-false}
 use Rattle.terms.specs.Abstraction.{orderingOf}
 use Rattle.operators.proofs.Merging.{next-left, next-right, next-either}
-use borrow.Author.Needs.{needs}
 use Rattle.operators.proofs.sums.next.Statement.{statement}
 use Rattle.operators.proofs.sums.next.Tie as tie
 

@@ -2,7 +2,6 @@ use mathlib.Core.Path.{ap}
 use lib.IntN.{ℤ}
 use Rattle.integers.proofs.Machine.{back-is}
 use Rattle.terms.specs.declared.types.Part.the-variants.{Nothing}
-use Rattle.records.specs.declared.read.TermReading.{TermReading}
 use Rattle.records.specs.Reading.{fieldsOf}
 use Rattle.records.proofs.read.gathered.Statement.{statement}
 use Rattle.records.proofs.read.gathered.Tie as tie

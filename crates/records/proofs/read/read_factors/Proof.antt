@@ -1,4 +1,4 @@
-use mathlib.Core.Path.{refl, sym, ap, _∙_}
+use mathlib.Core.Path.{sym, ap, _∙_}
 use Prim.Native.Nat.{_+_, _*_, _≤_, _<_}
 use native.Mathlib.Omega.{arith}
 use borrow.Author.Needs.{needs}
@@ -7,7 +7,7 @@ use denote.Ref.{now}
 use lib.ListN.{length, getD}
 use Rattle.specification.specs.Results.{given}
 use Rattle.specification.specs.Terms as S
-use Rattle.terms.specs.Abstraction.{termOf, Counted}
+use Rattle.terms.specs.Abstraction.{Counted}
 use Rattle.records.specs.Reading.{fieldsOf}
 use Rattle.records.proofs.Readers.{stays, goes, refuses, factors-absent, factors-refused, factors-given, stand-says, small-product, fields-counted, fields-appended}
 use Rattle.records.proofs.read.read_factors.Statement.{statement}
