@@ -32,7 +32,7 @@ pub fn print_bytes(s: &[u8]) {
 }
 
 // A signed number in decimal.
-pub fn print_number(a: i64)
+fn print_number(a: i64)
     requires { ⌜ natAbs a < 2 ^ 63 ⌝ }
 {
     if is_negative(a) {

@@ -86,11 +86,6 @@ given-form s kind g b v k e p h c =
 
 -- ════ what callers cite
 
--- nothing brought in is nothing gathered
-pub gather-none : gather [] ≡ []
-unfolding gather gatherInto
-gather-none = refl
-
 -- a closed sum without a refusal is a form given
 pub closed-given : (s : Sum) (kind : ℕ) (r : Closed) → ClosedAs s kind r → r .refusal ≡ 0 → within kind (sumOf s) ≡ given (formOf (r .form))
 unfolding closedOf

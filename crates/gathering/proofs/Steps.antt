@@ -34,7 +34,8 @@ module _ {A B : Type 0} (f : A → B) where
   map-take (suc i) [] = refl
   map-take (suc i) (x ∷ l) = ap (λ (k : List B). f x ∷ k) (map-take i l)
 
-  map-drop : (i : ℕ) (l : List A) → map f (drop i l) ≡ drop i (map f l)
+  -- what is dropped may be mapped before or after
+  pub map-drop : (i : ℕ) (l : List A) → map f (drop i l) ≡ drop i (map f l)
   map-drop zero l = refl
   map-drop (suc i) [] = refl
   map-drop (suc i) (x ∷ l) = map-drop i l

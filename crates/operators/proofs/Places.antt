@@ -10,6 +10,7 @@ use Rattle.terms.specs.declared.types.Term.{Term}
 use Rattle.terms.specs.declared.types.Form.{Form}
 use Rattle.terms.specs.Abstraction.{termOf, formOf, Counted}
 use Rattle.terms.specs.Valid.{FormValid}
+use Rattle.gathering.proofs.Steps.{map-drop}
 use Rattle.terms.proofs.Arrays.{rest-at, all-at, noTerm}
 
 -- as many as are counted
@@ -21,13 +22,8 @@ form-length f h = length-map (take (f .count) (f .terms)) termOf ∙ length-take
 pub form-rest : (f : Form) (i : ℕ) → f .count ≤ length (f .terms) → i < f .count → drop i (formOf f .terms) ≡ termOf (getD (f .terms) i noTerm) ∷ drop (i + 1) (formOf f .terms)
 unfolding formOf
 form-rest f i h g =
-    sym (map-drop i (take (f .count) (f .terms))) ∙ ap (map termOf) (rest-at (f .terms) (f .count) i noTerm h g)
-    ∙ ap (λ (l : List S.Term). termOf (getD (f .terms) i noTerm) ∷ l) (map-drop (i + 1) (take (f .count) (f .terms)))
-  where
-    map-drop : (i : ℕ) (l : List Term) → map termOf (drop i l) ≡ drop i (map termOf l)
-    map-drop zero l = refl
-    map-drop (suc i) [] = refl
-    map-drop (suc i) (t ∷ l) = map-drop i l
+    sym (map-drop termOf i (take (f .count) (f .terms))) ∙ ap (map termOf) (rest-at (f .terms) (f .count) i noTerm h g)
+    ∙ ap (λ (l : List S.Term). termOf (getD (f .terms) i noTerm) ∷ l) (map-drop termOf (i + 1) (take (f .count) (f .terms)))
 
 -- a term of a valid form is counted
 pub form-counted : (f : Form) (i : ℕ) → FormValid f → f .count ≤ length (f .terms) → i < f .count → Counted (getD (f .terms) i noTerm)
