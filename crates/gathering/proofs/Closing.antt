@@ -4,9 +4,9 @@ use mathlib.Core.Bool.{Bool, true, false}
 use mathlib.Core.List.{List, [], map}
 use Prim.Native.Nat.{ℕ, _+_, _≤_, _<_}
 use native.Mathlib.Omega.{arith}
-use borrow.Author.Tests.{le-leb, lt-leb, eq-eqb}
+use borrow.Author.Tests.{le-leb, lt-leb, eq-eqb, ne-eqb}
 use lib.ListN.{length}
-use Rattle.specification.specs.Results.{given, refused}
+use Rattle.specification.specs.Results.{Result, given, refused}
 use Rattle.specification.specs.Lists.{all}
 use Rattle.specification.specs.Terms.{termWithin, within, insert, gather, gatherInto}
 use Rattle.theory.specs.Elements.{All, all-implies}
@@ -18,7 +18,7 @@ use Rattle.terms.specs.Valid.{FormValid}
 use Rattle.gathering.specs.declared.Sum.{Sum}
 use Rattle.gathering.specs.declared.Closed.{Closed}
 use Rattle.gathering.specs.Sums.{held, sumOf, Standing, SumValid, Changed, Brought}
-use Rattle.gathering.specs.Closing.{closedOf, Copied, ClosedAs}
+use Rattle.gathering.specs.Closing.{closedOf, Copied, ClosedAs, WorkedAs}
 use Rattle.gathering.proofs.Steps.{length-sum}
 use Rattle.specification.specs.Terms as S
 
@@ -100,3 +100,32 @@ closed-valid s kind ts r c e k g h =
       inShape = within-in-shape kind ts (formOf (r .form)) k h
           (within-given kind (gather ts) (formOf (r .form)) (ap (within kind) (sym g) ∙ closed-given s kind r c e));
     }
+
+-- a refusal is that refusal
+pub refuses : (x : Result S.Form) (r : Closed) (n : ℕ) → r .refusal ≡ n → (n ≡ 0 → ⊥) → x ≡ refused n → WorkedAs x r
+unfolding closedOf
+refuses x r n e h p = record {
+  is = rw (ne-eqb (r .refusal) 0 (λ z. h (sym e ∙ z))) (ap refused e) ∙ sym p;
+  valid = λ z. absurd (h (sym e ∙ z));
+}
+
+-- the same result in other words
+pub works-as : (x y : Result S.Form) (r : Closed) → x ≡ y → WorkedAs x r → WorkedAs y r
+works-as x y r e w = record { is = w .is ∙ e; valid = w .valid }
+
+-- a closed sum of terms that fit
+pub closes : (s : Sum) (kind : ℕ) (ts : List S.Term) (r : Closed) → kind ≤ 1 → sumOf s ≡ gather ts → AllFit kind ts → ClosedAs s kind r → WorkedAs (within kind (gather ts)) r
+closes s kind ts r k e h c = record {
+  is = c .is ∙ ap (within kind) e;
+  valid = λ z. closed-valid s kind ts r c z k e h;
+}
+
+-- a result that was given, by its number
+pub worked-given : (x : Result S.Form) (r : Closed) → WorkedAs x r → r .refusal ≡ 0 → x ≡ given (formOf (r .form))
+unfolding closedOf
+worked-given x r w e = sym (w .is) ∙ rw (eq-eqb (r .refusal) 0 e)
+
+-- a result that was refused, by its number
+pub worked-refused : (x : Result S.Form) (r : Closed) → WorkedAs x r → (r .refusal ≡ 0 → ⊥) → x ≡ refused (r .refusal)
+unfolding closedOf
+worked-refused x r w e = sym (w .is) ∙ rw (ne-eqb (r .refusal) 0 e)

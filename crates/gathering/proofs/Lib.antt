@@ -2,3 +2,4 @@
 pub mod Steps
 pub mod Bringing
 pub mod Closing
+pub mod FormTerms

@@ -9,6 +9,7 @@ use Rattle.specification.specs.Terms as S
 use Rattle.theory.specs.Elements.{All}
 use Rattle.terms.specs.declared.types.Form.{Form}
 use Rattle.terms.specs.Abstraction.{formOf, Counted}
+use Rattle.terms.specs.Valid.{FormValid}
 use Rattle.gathering.specs.declared.Sum.{Sum}
 use Rattle.gathering.specs.declared.Closed.{Closed}
 use Rattle.gathering.specs.Sums.{held, sumOf}
@@ -28,3 +29,8 @@ pub record ClosedAs (s : Sum) (kind : ℕ) (r : Closed) : Type 0 where
   pub is : closedOf r ≡ within kind (sumOf s)
   pub few : r .form .count ≤ 48
   pub counted : All Counted (take (r .form .count) (r .form .terms))
+
+-- what an operator or a step gives: the result, and where it is a form, a valid one
+pub record WorkedAs (x : Result S.Form) (r : Closed) : Type 0 where
+  pub is : closedOf r ≡ x
+  pub valid : r .refusal ≡ 0 → FormValid (r .form)

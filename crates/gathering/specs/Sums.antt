@@ -10,7 +10,8 @@ use Rattle.specification.specs.Terms.{compareTerms, insert, keep, withCoef, gat
 use Rattle.specification.specs.Terms as S
 use Rattle.theory.specs.Elements.{All}
 use Rattle.terms.specs.declared.types.Term.{Term}
-use Rattle.terms.specs.Abstraction.{termOf, Counted}
+use Rattle.terms.specs.declared.types.Form.{Form}
+use Rattle.terms.specs.Abstraction.{termOf, formOf, Counted}
 use Rattle.gathering.specs.declared.Sum.{Sum}
 
 -- the terms that stand
@@ -43,6 +44,12 @@ pub record Empty (r : Sum) : Type 0 where
   pub is : sumOf r ≡ []
   pub valid : SumValid r
   pub brought : r .brought ≡ 0
+
+-- the sum of a form's terms
+pub record Holding (f : Form) (r : Sum) : Type 0 where
+  pub is : sumOf r ≡ formOf f .terms
+  pub valid : SumValid r
+  pub brought : r .brought ≡ f .count
 
 -- a term added to the first of a list
 unfoldable pub addedTo : S.Term → List S.Term → List S.Term

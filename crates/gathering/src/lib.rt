@@ -8,7 +8,8 @@ ghost use Rattle.specification.specs.Lists.{all};
 ghost use Rattle.specification.specs.Terms.{termWithin};
 ghost use Rattle.theory.specs.Elements.{All};
 ghost use Rattle.terms.specs.Abstraction.{termOf, Counted};
-ghost use Rattle.gathering.specs.Sums.{held, sumOf, addedTo, Empty, SumValid, Held, Changed, isBehind, isLike, Bringable, AllBrought};
+ghost use Rattle.terms.specs.Valid.{FormValid};
+ghost use Rattle.gathering.specs.Sums.{held, sumOf, addedTo, Empty, Holding, SumValid, Held, Changed, isBehind, isLike, Bringable, AllBrought};
 ghost use Rattle.gathering.specs.Closing.{ClosedAs};
 use integers::add;
 use integers::is_zero;
@@ -68,6 +69,24 @@ pub fn empty_sum() -> Sum
         count: 0,
         terms: ts,
     }
+}
+
+// The sum that holds the terms of a form.
+pub fn holding(f: Form) -> Sum
+    requires { ⌜ FormValid f ⌝ }
+    ensures { λ r. ⌜ Holding f r ⌝ }
+{
+    let mut s = empty_sum();
+    let n = f.count;
+    let mut i: usize = 0;
+    while i < n {
+        let t = f.terms[i];
+        s.terms[i] = t;
+        i += 1;
+    }
+    s.count = n;
+    s.brought = n;
+    s
 }
 
 // A like term added to the one at a place; a sum of 0 takes it out.

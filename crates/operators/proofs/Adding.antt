@@ -15,7 +15,7 @@ use Rattle.specification.specs.Terms as S
 use Rattle.specification.specs.Reduction.{sumForms, negateForm}
 use Rattle.theory.specs.Elements.{All, all-append}
 use Rattle.theory.specs.Order.{monomial}
-use Rattle.theory.specs.Gathering.Gathered.{gather-again}
+use Rattle.theory.specs.Gathering.Gathered.{gather-onto}
 use Rattle.theory.specs.Shape.Terms.{Fits}
 use Rattle.theory.specs.Shape.Forms.{FormInShape, AllFit, form-fits, form-gathered}
 use Rattle.theory.specs.Reduction.Operators.{negate-in-shape}
@@ -28,11 +28,9 @@ use Rattle.terms.proofs.Arrays.{noTerm, stored-behind, mapped-behind}
 use Rattle.gathering.specs.declared.Sum.{Sum}
 use Rattle.gathering.specs.declared.Closed.{Closed}
 use Rattle.gathering.specs.Sums.{sumOf}
-use Rattle.gathering.specs.Closing.{ClosedAs}
-use Rattle.operators.specs.Products.{WorkedAs}
+use Rattle.gathering.specs.Closing.{ClosedAs, WorkedAs}
 use Rattle.operators.specs.Sums.{Negated}
-use Rattle.operators.proofs.Rows.{gather-join}
-use Rattle.operators.proofs.Worked.{refuses, works-as, closes}
+use Rattle.gathering.proofs.Closing.{refuses, works-as, closes}
 
 -- ════ the sum
 
@@ -43,9 +41,7 @@ sum-six f g r h e = refuses (sumForms (formOf f) (formOf g)) r 6 e (λ z. omega 
 
 module _ (f g : Form) (v : FormValid f) (w : FormValid g) (e : f .kind ≡ g .kind) where
   gathered : gatherInto (formOf f .terms) (formOf g .terms) ≡ gather (formOf f .terms ++ formOf g .terms)
-  gathered =
-      ap (λ (d : List S.Term). gatherInto d (formOf g .terms)) (sym (gather-again (formOf f .terms) (form-gathered (formOf f) (v .inShape))))
-      ∙ sym (gather-join (formOf f .terms) (formOf g .terms))
+  gathered = gather-onto (formOf f .terms) (formOf g .terms) (form-gathered (formOf f) (v .inShape))
 
   sum-is : within (f .kind) (gather (formOf f .terms ++ formOf g .terms)) ≡ sumForms (formOf f) (formOf g)
   unfolding sumForms formOf

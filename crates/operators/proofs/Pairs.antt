@@ -19,35 +19,13 @@ use Rattle.terms.specs.declared.types.Term.{Term}
 use Rattle.terms.specs.Numbers.{lettersOf}
 use Rattle.terms.specs.Abstraction.{partOf, termOf, Counted}
 use Rattle.terms.specs.Tidy.{Joined}
-use Rattle.terms.proofs.InShape.{counted-scalar, counted-dot, counted-triple}
+use Rattle.terms.proofs.InShape.{factors-count}
 use Rattle.operators.specs.declared.parts.Operation.{Operation}
 use Rattle.operators.specs.declared.parts.Few.{Few}
 use Rattle.operators.specs.Parts.{partsOf, Small, listOf, FewMade}
 use Rattle.operators.specs.Products.{Scalars, Pair}
 
 -- ════ few factors
-
--- what one factor counts: a scalar letter, or at least two vector letters
-factor-counts : (k : ℕ) → 2 ≤ 2 * scalarLettersOf (lettersOf k ∷ []) + vectorLettersOf (lettersOf k ∷ [])
-factor-counts k = go (lt-or-le k 256) (lt-or-le k 65792)
-  where
-    go : (k < 256) ⊎ (256 ≤ k) → (k < 65792) ⊎ (65792 ≤ k) → 2 ≤ 2 * scalarLettersOf (lettersOf k ∷ []) + vectorLettersOf (lettersOf k ∷ [])
-    go (inl h) o = omega (arith, counted-scalar k h .0, counted-scalar k h .1)
-    go (inr h) (inl g) = omega (arith, counted-dot k h g .0, counted-dot k h g .1)
-    go (inr h) (inr g) = omega (arith, counted-triple k g .0, counted-triple k g .1)
-
-scalars-first : (f : List ℕ) (fs : List (List ℕ)) → scalarLettersOf (f ∷ fs) ≡ scalarLettersOf (f ∷ []) + scalarLettersOf fs
-unfolding scalarLettersOf
-scalars-first f fs = omega arith
-
-vectors-first : (f : List ℕ) (fs : List (List ℕ)) → vectorLettersOf (f ∷ fs) ≡ vectorLettersOf (f ∷ []) + vectorLettersOf fs
-unfolding vectorLettersOf
-vectors-first f fs = omega arith
-
-factors-count : (ks : List ℕ) → 2 * length ks ≤ 2 * scalarLettersOf (map lettersOf ks) + vectorLettersOf (map lettersOf ks)
-factors-count [] = omega arith
-factors-count (k ∷ ks) =
-    omega (arith, factor-counts k, factors-count ks, scalars-first (lettersOf k) (map lettersOf ks), vectors-first (lettersOf k) (map lettersOf ks))
 
 -- the factors of a pair whose letters fit are at most five
 pub pair-few : (t u : Term) → t .«factor_count» ≤ length (t .factors) → u .«factor_count» ≤ length (u .factors) → T (pairLettersFit (termOf t, termOf u))

@@ -117,16 +117,6 @@ unfolding flatMap
 flatMap-behind f [] y = append-nil (f y)
 flatMap-behind f (x ∷ xs) y = ap (λ (l : List _). f x ++ l) (flatMap-behind f xs y) ∙ sym (append-assoc (f x) (flatMap f xs) (f y))
 
-into-join : (done xs ys : List S.Term) → gatherInto done (xs ++ ys) ≡ gatherInto (gatherInto done xs) ys
-unfolding gatherInto
-into-join done [] ys = refl
-into-join done (x ∷ xs) ys = into-join _ xs ys
-
--- terms behind others are gathered into what those made
-pub gather-join : (xs ys : List S.Term) → gather (xs ++ ys) ≡ gatherInto (gather xs) ys
-unfolding gather
-gather-join xs ys = into-join [] xs ys
-
 -- the terms of the first k pairs
 abbrev pub upTo : Operation → (ts us : List S.Term) → ℕ → List S.Term
 upTo op ts us k = flatMap (pairTerms (partsOf op)) (take k (pairsOf ts us))

@@ -24,47 +24,16 @@ use Rattle.terms.specs.Valid.{FormValid}
 use Rattle.gathering.specs.declared.Sum.{Sum}
 use Rattle.gathering.specs.declared.Closed.{Closed}
 use Rattle.gathering.specs.Sums.{sumOf}
-use Rattle.gathering.specs.Closing.{closedOf, ClosedAs}
-use Rattle.gathering.proofs.Closing.{closed-valid}
+use Rattle.gathering.specs.Closing.{ClosedAs, WorkedAs}
+use Rattle.gathering.proofs.Closing.{refuses, works-as, closes, worked-given, worked-refused}
 use Rattle.records.specs.Tested.{testOf}
 use Rattle.records.proofs.LetterTests.{test-passed, test-refused}
 use Rattle.operators.specs.declared.parts.Operation.{Operation}
 use Rattle.operators.specs.declared.parts.Operation.the-variants.{Times, Dot, Wedge}
 use Rattle.operators.specs.Parts.{partsOf}
 use Rattle.operators.specs.Limits.{testPairs}
-use Rattle.operators.specs.Products.{WorkedAs, Kinds, PairsFit, PairsBrought}
+use Rattle.operators.specs.Products.{Kinds, PairsFit, PairsBrought}
 use Rattle.operators.proofs.Places.{form-length}
-
--- ════ answers
-
--- a refusal is that refusal
-pub refuses : (x : Result S.Form) (r : Closed) (n : ℕ) → r .refusal ≡ n → (n ≡ 0 → ⊥) → x ≡ refused n → WorkedAs x r
-unfolding closedOf
-refuses x r n e h p = record {
-  is = rw (ne-eqb (r .refusal) 0 (λ z. h (sym e ∙ z))) (ap refused e) ∙ sym p;
-  valid = λ z. absurd (h (sym e ∙ z));
-}
-
--- the same result in other words
-pub works-as : (x y : Result S.Form) (r : Closed) → x ≡ y → WorkedAs x r → WorkedAs y r
-works-as x y r e w = record { is = w .is ∙ e; valid = w .valid }
-
--- a closed sum of terms that fit
-pub closes : (s : Sum) (kind : ℕ) (ts : List S.Term) (r : Closed) → kind ≤ 1 → sumOf s ≡ gather ts → AllFit kind ts → ClosedAs s kind r → WorkedAs (within kind (gather ts)) r
-closes s kind ts r k e h c = record {
-  is = c .is ∙ ap (within kind) e;
-  valid = λ z. closed-valid s kind ts r c z k e h;
-}
-
--- a result that was given, by its number
-pub worked-given : (x : Result S.Form) (r : Closed) → WorkedAs x r → r .refusal ≡ 0 → x ≡ given (formOf (r .form))
-unfolding closedOf
-worked-given x r w e = sym (w .is) ∙ rw (eq-eqb (r .refusal) 0 e)
-
--- a result that was refused, by its number
-pub worked-refused : (x : Result S.Form) (r : Closed) → WorkedAs x r → (r .refusal ≡ 0 → ⊥) → x ≡ refused (r .refusal)
-unfolding closedOf
-worked-refused x r w e = sym (w .is) ∙ rw (ne-eqb (r .refusal) 0 e)
 
 -- ════ products
 

@@ -1,4 +1,4 @@
--- What an operator gives, and the terms of pairs gathered. Assumes nothing.
+-- The terms of pairs, gathered. Assumes nothing.
 use mathlib.Core.Path.{_≡_}
 use mathlib.Core.Logic.{_⊎_}
 use mathlib.Core.List.{[], flatMap}
@@ -6,7 +6,6 @@ use Prim.Native.Nat.{ℕ, _*_, _≤_}
 use lib.Dec.{T}
 use Rattle.specification.specs.Lists.{all}
 use Rattle.specification.specs.Letters.{scalar, vector}
-use Rattle.specification.specs.Results.{Result}
 use Rattle.specification.specs.Terms as S
 use Rattle.specification.specs.Terms.{gather}
 use Rattle.specification.specs.Reduction.{pairTerms, pairsOf, pairLettersFit, pairCoefFits}
@@ -15,18 +14,11 @@ use Rattle.terms.specs.declared.types.Form.{Form}
 use Rattle.terms.specs.Abstraction.{partOf, termOf, formOf, Counted}
 use Rattle.terms.specs.Valid.{FormValid}
 use Rattle.gathering.specs.declared.Sum.{Sum}
-use Rattle.gathering.specs.declared.Closed.{Closed}
 use Rattle.gathering.specs.Sums.{sumOf, SumValid, Bringable}
-use Rattle.gathering.specs.Closing.{closedOf}
 use Rattle.operators.specs.declared.parts.Few.{Few}
 use Rattle.operators.specs.declared.parts.Operation.{Operation}
 use Rattle.operators.specs.declared.parts.Operation.the-variants.{Times, Dot, Wedge}
 use Rattle.operators.specs.Parts.{partsOf, listOf, Together}
-
--- what an operator gives: the result, and where it is a form, a valid one
-pub record WorkedAs (x : Result S.Form) (r : Closed) : Type 0 where
-  pub is : closedOf r ≡ x
-  pub valid : r .refusal ≡ 0 → FormValid (r .form)
 
 -- a term without its vector part
 pub record Scalars (t r : Term) : Type 0 where

@@ -8,7 +8,8 @@ ghost use Rattle.specification.specs.Reduction.{product, timesForms, dotForms, 
 ghost use Rattle.terms.specs.Abstraction.{termOf, formOf, Counted};
 ghost use Rattle.terms.specs.Valid.{FormValid};
 ghost use Rattle.operators.specs.Parts.{partsOf};
-ghost use Rattle.operators.specs.Products.{Scalars, Pair, PairMade, Kinds, PairsFit, PairsBrought, WorkedAs};
+ghost use Rattle.gathering.specs.Closing.{WorkedAs};
+ghost use Rattle.operators.specs.Products.{Scalars, Pair, PairMade, Kinds, PairsFit, PairsBrought};
 use crate::limits::test_pairs;
 use crate::parts::Few;
 use crate::parts::Operation;

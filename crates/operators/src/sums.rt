@@ -4,7 +4,7 @@ ghost use mathlib.Core.Bool.{true};
 ghost use Rattle.specification.specs.Reduction.{sumForms, negateForm};
 ghost use Rattle.terms.specs.Abstraction.{termOf, formOf, orderingOf, Counted};
 ghost use Rattle.terms.specs.Valid.{FormValid};
-ghost use Rattle.operators.specs.Products.{WorkedAs};
+ghost use Rattle.gathering.specs.Closing.{WorkedAs};
 ghost use Rattle.operators.specs.Sums.{Capped, nextOf, Negated};
 use gathering::Closed;
 use integers::add;

@@ -18,8 +18,8 @@ use Rattle.theory.specs.Reduction.Work.{reduction-keeps-value}
 use Rattle.terms.specs.Abstraction.{formOf}
 use Rattle.gathering.specs.declared.Closed.{Closed}
 use Rattle.records.specs.Tested.{testOf}
-use Rattle.operators.specs.Products.{WorkedAs}
-use Rattle.operators.proofs.Worked.{worked-given, worked-refused}
+use Rattle.gathering.specs.Closing.{WorkedAs}
+use Rattle.gathering.proofs.Closing.{worked-given, worked-refused}
 use Rattle.records.proofs.LetterTests.{test-passed, test-refused}
 use Rattle.printing.specs.Printable.{Printable}
 use Rattle.printing.specs.Text.{TextWritten}

@@ -18,8 +18,8 @@ use Rattle.gathering.specs.declared.Closed.{Closed}
 use Rattle.records.specs.Tested.{testOf}
 use Rattle.records.proofs.LetterTests.{test-passed, test-refused}
 use Rattle.records.specs.Written.{FormWritten}
-use Rattle.operators.specs.Products.{WorkedAs}
-use Rattle.operators.proofs.Worked.{refuses, works-as, worked-given, worked-refused}
+use Rattle.gathering.specs.Closing.{WorkedAs}
+use Rattle.gathering.proofs.Closing.{refuses, works-as, worked-given, worked-refused}
 use Rattle.reduction.specs.declared.trees.Tree.{Tree}
 use Rattle.reduction.specs.declared.Reduced.the-variants.{Written, Refused}
 use Rattle.reduction.specs.Answers.{reducedOf}

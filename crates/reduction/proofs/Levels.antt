@@ -22,12 +22,11 @@ use Rattle.integers.proofs.Machine.{back, back-is}
 use Rattle.terms.specs.declared.types.Form.{Form}
 use Rattle.terms.specs.Abstraction.{formOf}
 use Rattle.gathering.specs.declared.Closed.{Closed}
-use Rattle.gathering.specs.Closing.{closedOf}
+use Rattle.gathering.specs.Closing.{closedOf, WorkedAs}
 use Rattle.records.specs.Tested.{testOf}
 use Rattle.records.proofs.LetterTests.{test-passed, test-refused}
-use Rattle.operators.specs.Products.{WorkedAs}
 use Rattle.operators.specs.Sums.{Negated}
-use Rattle.operators.proofs.Worked.{refuses, works-as}
+use Rattle.gathering.proofs.Closing.{refuses, works-as}
 use Rattle.reduction.specs.declared.trees.Tree.{Tree}
 use Rattle.reduction.specs.Trees.{operandCount, testToken, testHead, binary, onOne, onTwo, onThree, Sound, ReadAs, LeafAt, readLeaf}
 use Rattle.reduction.proofs.Heads.{more, chain, read-is, chain-more, bytes-passed, own-byte}

@@ -23,9 +23,8 @@ use Rattle.terms.specs.declared.types.Term.{Term}
 use Rattle.terms.specs.declared.types.Form.{Form}
 use Rattle.terms.specs.Abstraction.{termOf, formOf, Counted}
 use Rattle.gathering.specs.declared.Closed.{Closed}
-use Rattle.gathering.specs.Closing.{closedOf}
-use Rattle.operators.specs.Products.{WorkedAs}
-use Rattle.operators.proofs.Worked.{refuses}
+use Rattle.gathering.specs.Closing.{closedOf, WorkedAs}
+use Rattle.gathering.proofs.Closing.{refuses}
 use Rattle.reduction.specs.Leaves.{Alone, TermAs}
 
 -- ════ at most one term

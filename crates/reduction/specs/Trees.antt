@@ -11,7 +11,7 @@ use Rattle.specification.specs.Expressions.{Expr, tokenBytes, testBytes, readTo
 use Rattle.specification.specs.Reduction.{negateForm, sumForms, timesForms, dotForms, wedgeForms, tripleForms, work}
 use Rattle.terms.specs.Valid.{FormValid}
 use Rattle.gathering.specs.declared.Closed.{Closed}
-use Rattle.operators.specs.Products.{WorkedAs}
+use Rattle.gathering.specs.Closing.{WorkedAs}
 use Rattle.reduction.specs.declared.trees.Tree.{Tree}
 
 -- ════ tokens

@@ -4,7 +4,7 @@ ghost use Rattle.specification.specs.Results.{given};
 ghost use Rattle.specification.specs.Terms.{plus};
 ghost use Rattle.specification.specs.Reduction.{letterForm, constantForm};
 ghost use Rattle.terms.specs.Abstraction.{partOf};
-ghost use Rattle.operators.specs.Products.{WorkedAs};
+ghost use Rattle.gathering.specs.Closing.{WorkedAs};
 ghost use Rattle.reduction.specs.Leaves.{Alone, TermAs};
 use gathering::Closed;
 use integers::is_zero;

@@ -1,7 +1,7 @@
 // Reduction: an expression read as a tree and worked into a form, and the call that writes its record.
 ghost use mathlib.Core.Path.{_≡_};
 ghost use Rattle.specification.specs.Reduction.{reduced, reduceCall};
-ghost use Rattle.operators.specs.Products.{WorkedAs};
+ghost use Rattle.gathering.specs.Closing.{WorkedAs};
 ghost use Rattle.reduction.specs.Answers.{reducedOf};
 use gathering::Closed;
 use operators::answers::refuse;

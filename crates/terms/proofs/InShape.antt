@@ -1,13 +1,15 @@
 -- The shape of factors by their numbers, and the letters that they use, one turn at a time. Assumes nothing.
 use mathlib.Core.Path.{_≡_, refl, ap, sym, _∙_}
+use mathlib.Core.Logic.{_⊎_, inl, inr}
 use mathlib.Core.Bool.{Bool, true, false, not, _&&_}
 use mathlib.Core.List.{List, [], _∷_, map}
-use Prim.Native.Nat.{ℕ, zero, _+_, _-_, _/_, _%_, _<_, _≤_}
+use Prim.Native.Nat.{ℕ, zero, _+_, _-_, _*_, _/_, _%_, _<_, _≤_}
 use native.Mathlib.Omega.{arith}
 use lib.Dec.{ltb, leb}
 use lib.ListN.{length, getD, take, drop, drop-of-length-le}
 use lib.Seq.{length-take-le}
 use borrow.Author.Tests.{lt-ltb, le-ltb, le-leb, lt-leb, ltb-true, ltb-false}
+use Rattle.algebra.specs.Conditions.{lt-or-le}
 use Rattle.specification.specs.Lists.{order, isNotMore, all, ascend}
 use Rattle.specification.specs.Terms.{isZero, coefWithin, factorInShape, factorNotAfter, partInShape, vectorLettersOf, scalarLettersOf, vectorLetters, scalarLetters, termInShape}
 use Rattle.specification.specs.Terms as S
@@ -144,6 +146,31 @@ module _ (f : List ℕ) (n i : ℕ) (fl : n ≤ length f) (h : n ≤ i) where
   unfolding scalarLettersOf
   scalars-all a r q = omega (arith, rw (nothing-left f n i fl h) at q)
 
+-- ════ few factors
+
+-- what one factor counts: a scalar letter, or at least two vector letters
+factor-counts : (k : ℕ) → 2 ≤ 2 * scalarLettersOf (lettersOf k ∷ []) + vectorLettersOf (lettersOf k ∷ [])
+factor-counts k = go (lt-or-le k 256) (lt-or-le k 65792)
+  where
+    go : (k < 256) ⊎ (256 ≤ k) → (k < 65792) ⊎ (65792 ≤ k) → 2 ≤ 2 * scalarLettersOf (lettersOf k ∷ []) + vectorLettersOf (lettersOf k ∷ [])
+    go (inl h) o = omega (arith, counted-scalar k h .0, counted-scalar k h .1)
+    go (inr h) (inl g) = omega (arith, counted-dot k h g .0, counted-dot k h g .1)
+    go (inr h) (inr g) = omega (arith, counted-triple k g .0, counted-triple k g .1)
+
+scalars-first : (f : List ℕ) (fs : List (List ℕ)) → scalarLettersOf (f ∷ fs) ≡ scalarLettersOf (f ∷ []) + scalarLettersOf fs
+unfolding scalarLettersOf
+scalars-first f fs = omega arith
+
+vectors-first : (f : List ℕ) (fs : List (List ℕ)) → vectorLettersOf (f ∷ fs) ≡ vectorLettersOf (f ∷ []) + vectorLettersOf fs
+unfolding vectorLettersOf
+vectors-first f fs = omega arith
+
+-- factors are few where their letters are
+pub factors-count : (ks : List ℕ) → 2 * length ks ≤ 2 * scalarLettersOf (map lettersOf ks) + vectorLettersOf (map lettersOf ks)
+factors-count [] = omega arith
+factors-count (k ∷ ks) =
+    omega (arith, factor-counts k, factors-count ks, scalars-first (lettersOf k) (map lettersOf ks), vectors-first (lettersOf k) (map lettersOf ks))
+
 -- ════ a term
 
 -- the tests of a term's shape as they are made
@@ -170,7 +197,7 @@ part-few (Letter x) = omega arith
 part-few (Wedge x y) = omega arith
 
 module _ (t : Term) (u : Used) (r : ℕ) (h : UsedBy (map lettersOf (take (t .«factor_count») (t .factors))) u) (e : r ≡ length (partOf (t .part))) where
-  all-letters : u .vectors + r ≡ vectorLetters (termOf t)
+  pub all-letters : u .vectors + r ≡ vectorLetters (termOf t)
   unfolding vectorLetters termOf
   all-letters = omega (arith, h .vectors, e)
 

@@ -1,5 +1,6 @@
 -- A step that is taken keeps value, kind and shape (P5): M times the left side less M times the right side is 0 under every assignment. Assumes nothing.
 use mathlib.Core.Path.{_≡_, refl, sym, _∙_, ap, subst}
+use mathlib.Core.Logic.{_⊎_, inl, inr}
 use mathlib.Core.Bool.{Bool, true, false, _&&_}
 use mathlib.Core.List.{List, [], _∷_, _++_, map, append-nil}
 use Prim.Native.Nat.{ℕ, _+_, _≤_}
@@ -86,6 +87,12 @@ module _ (σ : ℕ → Vec) (t : Term) where
 
 -- ════ what a step adds
 
+-- the terms of a scalar rule have no vector part
+scalar-rule : (s : Step) → StepShape s → ruleKind (s .rule) ≡ scalar → All (λ (u : Term). u .part ≡ []) (ruleTerms (s .rule) (s .letters))
+scalar-rule s o r =
+    all-implies (Bare (ruleKind (s .rule)) (ruleLetters (s .rule))) (λ (u : Term). u .part ≡ []) (λ u b. no-part (u .part) (b .kindIs ∙ r))
+    (ruleTerms (s .rule) (s .letters)) (ruleTerms-bare (s .rule) (o .rule) (s .letters))
+
 module _ (f : Form) (s : Step) (agree : Agreeing f s) (shape : StepShape s) where
   -- the terms of the rule at its letters
   abbrev rs : List Term
@@ -110,7 +117,7 @@ module _ (f : Form) (s : Step) (agree : Agreeing f s) (shape : StepShape s) wher
           let c : ℤ = s .m .coef *ℤ factorsValue σ (s .m .factors) in
           times-values σ (s .m) rs p ∙ ap (λ (v : Vec). c • v) nothing ∙ •-zero c
       go (scalarRule r k) =
-          scalar-values σ (s .m) rs (all-implies IsRuleTerm (λ (u : Term). u .part ≡ []) (λ u b. no-part (u .part) (b .kindIs ∙ r)) rs bare)
+          scalar-values σ (s .m) rs (scalar-rule s shape r)
           ∙ ap (λ (v : Vec). v .x • termValue σ (s .m)) nothing ∙ zero-• (termValue σ (s .m))
 
   -- the parts of M and of a rule's term together
@@ -147,6 +154,19 @@ module _ (f : Form) (s : Step) (agree : Agreeing f s) (shape : StepShape s) wher
 
 -- ════ the theorem
 
+-- the terms that a step gathers are of the form's kind and within the limits
+pub step-fits : (f : Form) (s : Step) → FormInShape f → StepShape s → T (stepKindsFit f s) → vectorLetters (s .m) + ruleLetters (s .rule) ≤ 6 → AllFit (f .kind) (f .terms ++ stepTerms s)
+step-fits f s shape o kinds few =
+    all-append (λ (t : Term). Fits (f .kind) (monomial t)) (f .terms) (stepTerms s) (form-fits f shape) (stepTerms-fit f s (agreeing f s kinds) o few)
+
+-- M has no vector part, or the rule's terms have none
+pub step-parts : (f : Form) (s : Step) → StepShape s → T (stepKindsFit f s) → (s .m .part ≡ []) ⊎ All (λ (u : Term). u .part ≡ []) (ruleTerms (s .rule) (s .letters))
+step-parts f s o kinds = go (agreeing f s kinds)
+  where
+    go : Agreeing f s → (s .m .part ≡ []) ⊎ All (λ (u : Term). u .part ≡ []) (ruleTerms (s .rule) (s .letters))
+    go (vectorRule r p k) = inl p
+    go (scalarRule r k) = inr (scalar-rule s o r)
+
 -- P5: a step that is taken keeps the value, the kind and the shape, and brings in no letter that is not in the table
 pub step-keeps : (table : List ℕ) (f : Form) (s : Step) (g : Form) → FormInShape f → AllKnown table (f .terms)
     → T (stepInShape s) → testStepLetters table s ≡ given tt → takeStep f s ≡ given g → Denotes table g (f .kind) (λ σ. value σ f)
@@ -158,7 +178,7 @@ step-keeps table f s g shape known inShape tests e =
     let a : Agreeing f s = agreeing f s (w₁ .0) in
     let o : StepShape s = step-opens s inShape in
     let d = within-denotes table (f .kind) (f .terms ++ stepTerms s) g (shape .kind)
-    (all-append (λ (t : Term). Fits (f .kind) (monomial t)) (f .terms) (stepTerms s) (form-fits f shape) (stepTerms-fit f s a o few))
+    (step-fits f s shape o (w₁ .0) few)
     (all-append (λ (t : Term). MonomialKnown table (monomial t)) (f .terms) (stepTerms s) known (stepTerms-known f s a o table tests))
     (w₂ .1) in
     record {

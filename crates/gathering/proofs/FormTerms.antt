@@ -1,0 +1,50 @@
+-- A sum that holds the terms of a form. Assumes nothing.
+use mathlib.Core.Path.{_≡_, ap, sym, subst, _∙_}
+use mathlib.Core.List.{List, [], _∷_, map}
+use Prim.Native.Nat.{ℕ, zero, suc, _*_, _≤_}
+use native.Mathlib.Nat as N
+use native.Mathlib.Omega.{arith}
+use lib.Dec.{T, leb→le}
+use lib.IntN.{natAbs}
+use lib.ListN.{length, take}
+use Rattle.specification.specs.Lists.{all}
+use Rattle.specification.specs.Terms.{coefWithin, termInShape}
+use Rattle.specification.specs.Terms as S
+use Rattle.theory.specs.Elements.{All, all-T}
+use Rattle.theory.specs.Shape.Terms.{term-opens}
+use Rattle.terms.specs.declared.types.Term.{Term}
+use Rattle.terms.specs.declared.types.Form.{Form}
+use Rattle.terms.specs.Abstraction.{termOf, formOf, Counted}
+use Rattle.terms.specs.Valid.{FormValid}
+use Rattle.gathering.specs.declared.Sum.{Sum}
+use Rattle.gathering.specs.Sums.{held, sumOf, Standing, Holding}
+
+-- a term in shape has a coefficient within the limit
+in-limit : (t : S.Term) → T (termInShape t) → natAbs (t .coef) ≤ 2147483647
+unfolding coefWithin
+in-limit t h = leb→le (natAbs (t .coef)) 2147483647 (term-opens t h .within)
+
+-- so the terms of a form may stand after as many were brought in
+standing : (n : ℕ) (ts : List Term) → 1 ≤ n → All Counted ts → All (λ (t : S.Term). T (termInShape t)) (map termOf ts) → All (Standing n) ts
+unfolding termOf
+standing n [] h a b = tt
+standing n (t ∷ ts) h a b = (record { counted = a .0; light = omega (arith, in-limit (termOf t) (b .0)) }, standing n ts h (a .1) (b .1))
+
+-- what the loop copied
+pub held-form : (f : Form) (r : Sum) → FormValid f → r .count ≡ f .count → r .brought ≡ f .count → take (f .count) (r .terms) ≡ take (f .count) (f .terms) → Holding f r
+unfolding held sumOf formOf
+held-form f r v n b e =
+    let s : take (r .count) (r .terms) ≡ take (f .count) (f .terms) = ap (λ (m : ℕ). take m (r .terms)) n ∙ e in
+    record {
+      is = ap (map termOf) s;
+      valid = record {
+        fewer = omega (arith, n, b);
+        few = omega (arith, b, v .few);
+        standing = subst (All (Standing (r .brought))) (sym s) (subst (λ (m : ℕ). All (Standing m) (take (f .count) (f .terms))) (sym b) (go (f .count) (v .counted) (all-T termInShape (map termOf (take (f .count) (f .terms))) (v .inShape .terms))));
+      };
+      brought = b;
+    }
+  where
+    go : (n : ℕ) → All Counted (take n (f .terms)) → All (λ (t : S.Term). T (termInShape t)) (map termOf (take n (f .terms))) → All (Standing n) (take n (f .terms))
+    go zero a b = tt
+    go (suc n) a b = standing (suc n) (take (suc n) (f .terms)) (omega arith) a b
