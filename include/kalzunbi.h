@@ -1,6 +1,6 @@
 /* Kalzunbi for C: vector algebra in letters. C99, x86-64 Linux; link libexports.a (rt staticlib exports), and nothing beside the C library's memcpy.
  *
- * A call answers with one signed number: 0 or more where it gives something, minus the number of the refusal otherwise.
+ * A call answers with one signed number: 0 or more where it gives something, minus the number of the refusal otherwise; for a log the step is told too.
  *
  *    1  a table of 0 or over 24 bytes, or a byte above 1                                    the caller
  *    2  memory lent that is shorter than required                                           the caller
@@ -13,7 +13,8 @@
  *    8  a pair with over 6 vector letters or over 2 scalar letters                          the author of the expression
  *    9  a coefficient beyond 2147483647 in size                                             the author of the expression
  *   10  more than 48 terms                                                                  the author of the expression
- *   11  bytes that are not the one record of a form                                         the sender of the form
+ *   11  bytes that are not the one record of a form or a log                                the sender of the form or the log
+ *   13  a log's last form that is not the one its steps reach                               the sender of the log
  *
  * 1 comes first, then 2, then contents. A refused call leaves all memory as it was.
  *
@@ -76,6 +77,18 @@ int64_t kalzunbi_value(const uint8_t *table, size_t table_length, const uint8_t 
  * Returns the length of the record, or -1, -2, then -3, -4 or -5 from reading, then -6, -7, -8, -9 or -10 from working. */
 int64_t kalzunbi_reduce(const uint8_t *table, size_t table_length, const uint8_t *expression, size_t expression_length, uint8_t *out,
                         size_t out_length);
+
+/* Whether the steps of a log lead from its first form to its last.
+ *
+ * table: as above.
+ * log: the record of the first form, a count byte 0 to 64, the steps, the record of the last form; at most 3013 bytes. A step is a rule's number 1 to 5,
+ *   its 4, 4, 5, 5 or 6 letters, and the record of a term.
+ * places: at least 3 numbers. For an accepted log the first 3 become where the first form ends, where the last begins, and the number of steps: the first
+ *   form is the bytes of the log before places[0], the last form those from places[1] on. Further ones stand.
+ *
+ * Returns 0 for accepted, or minus (256 times the number of the refusal plus the step), where the step is 0 for the first form and steps + 1 for the last:
+ * -256 and -512 for 1 and 2, -2816 for 11; then 5 or 6, the first letter in byte order; then step by step 6, 8, 9 or 10; then 13. */
+int64_t kalzunbi_check(const uint8_t *table, size_t table_length, const uint8_t *log, size_t log_length, uint64_t *places, size_t places_length);
 
 #ifdef __cplusplus
 }
