@@ -1,6 +1,8 @@
-/* Nanoseconds a call, through the calls for C: one line for each measure of tests/benchmark.gp, in its order. */
+/* Nanoseconds a call, through the calls for C: one line for each measure of tests/benchmark.gp, in its order, then the check of logs, which it has not.
+ * The logs are in logs.h, which tests/check_cases.py --header prints. */
 #define _POSIX_C_SOURCE 199309L
 #include "kalzunbi.h"
+#include "logs.h"
 
 #include <stdio.h>
 #include <stdlib.h>
@@ -33,6 +35,16 @@ static void measure_reduction(const char *what, const uint8_t *expression, size_
     for (int i = 0; i < count; i++)
         returned = kalzunbi_reduce(table, 24, expression, length, out, KALZUNBI_FORM);
     report(what, returned, expected, since, count);
+}
+
+static void measure_check(const char *what, const uint8_t *letters, size_t letters_length, const uint8_t *log, size_t log_length, int count)
+{
+    uint64_t places[3];
+    int64_t returned = 0;
+    double since = now();
+    for (int i = 0; i < count; i++)
+        returned = kalzunbi_check(letters, letters_length, log, log_length, places, 3);
+    report(what, returned, 0, since, count);
 }
 
 /* the sum of so many letters, from the first on, each added to the sum of those before */
@@ -87,5 +99,8 @@ int main(void)
     length += sum(product + length, 12, 6);
     length += sum(product + length, 0, 8);
     measure_reduction("reduction of 6 scalar letters times 8 vector letters", product, length, 194, 10000);
+
+    measure_check("check of a log of 8 steps, from 19 terms to 6", eight_table, sizeof eight_table, eight_log, sizeof eight_log, 10000);
+    measure_check("check of the longest log, 64 steps at 44 to 48 terms", longest_table, sizeof longest_table, longest_log, sizeof longest_log, 1000);
     return 0;
 }

@@ -1,10 +1,11 @@
 #!/bin/sh
-# Prints the nanoseconds a call takes through the calls for C, and beside them those of PARI/GP, which is installed if it is missing.
+# Prints the nanoseconds a call takes through the calls for C, and beside them those of PARI/GP, which is installed if it is missing; it checks no logs.
 set -eu
 cd "$(dirname "$0")/.."
 mkdir -p target
 rt staticlib exports >target/benchmark.log 2>&1 || { cat target/benchmark.log; exit 1; }
-gcc -O2 -std=c99 -Wall -Wextra -Werror -Iinclude tests/benchmark.c target/staticlib/libexports.a -o target/benchmark
+python3 tests/check_cases.py --header >target/logs.h
+gcc -O2 -std=c99 -Wall -Wextra -Werror -Iinclude -Itarget tests/benchmark.c target/staticlib/libexports.a -o target/benchmark
 command -v gp >/dev/null || apt-get install -y -q pari-gp >/dev/null
 target/benchmark >target/benchmark.here
 gp -q -f tests/benchmark.gp </dev/null >target/benchmark.gp

@@ -19,6 +19,14 @@
 #define Z512 Z64 Z64 Z64 Z64 Z64 Z64 Z64 Z64
 /* the products of six scalar letters with the vector letter v */
 #define SIX(v) "12010c" v "12010d" v "12010e" v "12010f" v "120110" v "120111" v
+#define FORTY_EIGHT "0130" SIX("00") SIX("01") SIX("02") SIX("03") SIX("04") SIX("05") SIX("06") SIX("07")
+/* (bcd)*a-(acd)*b+(abd)*c-(abc)*d in 34 bytes, its negation, and 2147483647(abc)*d */
+#define FOUR "010418010102030019ffffffff010002030118010001030219ffffffff0100010203"
+#define NEGATED "010419ffffffff010102030018010002030119ffffffff0100010302180100010203"
+#define LARGE "0101197fffffff0100010203"
+/* rule 2 at a b c d with M = 1, in 6 bytes, and with M = -1, in 10 */
+#define STEP "020001020300"
+#define BACK "020001020301ffffffff"
 
 static int calls, failures;
 
@@ -161,7 +169,7 @@ static const struct reduce_row reduce_rows[] = {
     {SMALL, "0602ffff4afc020000b504", 770, 0, "000101800157f0"},
     {SMALL, "06020000b505020000b505", 770, -9, ""},
     {WIDE, "060303010c03010d010e03010f03011001110303030100010103010201030303010401050301060107", 770, 0,
-     "0130" SIX("00") SIX("01") SIX("02") SIX("03") SIX("04") SIX("05") SIX("06") SIX("07")},
+     FORTY_EIGHT},
     {WIDE, "060303010c03010d010e0303010f011003011101120303010003010101020303010301040301050106", 770, -7, ""},
     {SMALL, "0606070100010007010001000701000100", 770, 0, "00010403000000000000"},
     {SMALL, "0606060701000100070100010007010001000100", 770, -8, ""},
@@ -221,10 +229,101 @@ static void reduce_calls(void)
     }
 }
 
+/* ---- the check call */
+
+#define REFUSED(number, step) (-(INT64_C(256) * (number) + (step)))
+
+struct check_row {
+    const char *table, *log;
+    size_t lent;
+    int64_t returned;
+    uint64_t places[3];
+};
+
+static const struct check_row check_rows[] = {
+    /* no steps */
+    {SMALL, "0000" "00" "0000", 3, 0, {2, 3, 0}},
+    {SMALL, "0100" "00" "0100", 8, 0, {2, 3, 0}},
+    {SMALL, FOUR "00" FOUR, 3, 0, {34, 35, 0}},
+    /* document 01's line: that form, rule 2, letters a b c d, M = 1: empty */
+    {SMALL, FOUR "01" STEP "0100", 3, 0, {34, 41, 1}},
+    {"01010101", FOUR "01" STEP "0100", 3, 0, {34, 41, 1}},
+    {SMALL, "0100" "01" BACK FOUR, 3, 0, {2, 13, 1}},
+    {SMALL, "0100" "02" STEP BACK "0100", 4, 0, {2, 19, 2}},
+    {SMALL, FOUR "03" STEP STEP BACK "0100", 3, 0, {34, 57, 3}},
+    {SMALL, FOUR "02" STEP STEP NEGATED, 3, 0, {34, 47, 2}},
+    /* both sides of rule 2 are equal at a b c a: the form is left as it is */
+    {SMALL, LARGE "01" "0200010200" "017fffffff" LARGE, 3, 0, {12, 23, 1}},
+    {WIDE, FORTY_EIGHT "01" "020001020000" FORTY_EIGHT, 3, 0, {194, 201, 1}},
+    /* 1, before all others */
+    {"", "0000" "00" "0000", 3, REFUSED(1, 0), {0}},
+    {"02", "0000" "00" "0000", 3, REFUSED(1, 0), {0}},
+    {"00000000000000000000000000000000000000000000000000", "0000" "00" "0000", 3, REFUSED(1, 0), {0}},
+    {"0102", "", 0, REFUSED(1, 0), {0}},
+    /* 2, before contents */
+    {SMALL, "0000" "00" "0000", 2, REFUSED(2, 0), {0}},
+    {SMALL, "0000" "00" "0000", 0, REFUSED(2, 0), {0}},
+    {SMALL, "", 2, REFUSED(2, 0), {0}},
+    /* 11: no bytes, the first form, no count, a count, a rule, M, the last form, a byte left over; also before an absent letter */
+    {SMALL, "", 3, REFUSED(11, 0), {0}},
+    {SMALL, "0200" "00" "0000", 3, REFUSED(11, 0), {0}},
+    {SMALL, "0000", 3, REFUSED(11, 0), {0}},
+    {SMALL, "0000" "41" "0000", 3, REFUSED(11, 0), {0}},
+    {SMALL, "0100" "01" "000001020300" "0100", 3, REFUSED(11, 0), {0}},
+    {SMALL, "0100" "01" "060001020300" "0100", 3, REFUSED(11, 0), {0}},
+    {SMALL, "0100" "01" "0200010203" "0100000001" "0100", 3, REFUSED(11, 0), {0}},
+    {SMALL, "0000" "00" "0001", 3, REFUSED(11, 0), {0}},
+    {SMALL, "0000" "00" "0000" "00", 3, REFUSED(11, 0), {0}},
+    {SMALL, "01011007" "00" "0100" "00", 3, REFUSED(11, 0), {0}},
+    /* 5 and 6 of letters: the first form, a rule's letters, M, the last form; the first in byte order, before any step */
+    {SMALL, "01011007" "00" "0100", 3, REFUSED(5, 0), {0}},
+    {SMALL, "01011004" "00" "01011007", 3, REFUSED(6, 0), {0}},
+    {SMALL, "0100" "01" "020001020700" "0100", 3, REFUSED(5, 1), {0}},
+    {SMALL, "0100" "02" STEP "020001020400" "0100", 3, REFUSED(6, 2), {0}},
+    {SMALL, "0100" "02" STEP "0200010203" "0201ff" "0100", 3, REFUSED(5, 2), {0}},
+    {SMALL, "0100" "01" "0200010203" "020100" "01011007", 3, REFUSED(6, 1), {0}},
+    {SMALL, "0000" "01" STEP "0001020107", 3, REFUSED(5, 2), {0}},
+    /* 6 of a step: its kind, M with a vector part */
+    {SMALL, "0000" "01" STEP "0000", 3, REFUSED(6, 1), {0}},
+    {SMALL, "0100" "02" STEP "0200010203" "1000" "0100", 3, REFUSED(6, 2), {0}},
+    /* 8: M with a triple; 9: a coefficient; 10: 52 terms */
+    {SMALL, "0100" "01" "0200010203" "0801000102" "0100", 3, REFUSED(8, 1), {0}},
+    {SMALL, "0100" "03" STEP BACK "0200010203" "0801000102" "0100", 3, REFUSED(8, 3), {0}},
+    {SMALL, LARGE "01" STEP "0100", 3, REFUSED(9, 1), {0}},
+    {SMALL, LARGE "04" BACK STEP STEP BACK LARGE, 3, REFUSED(9, 3), {0}},
+    {WIDE, FORTY_EIGHT "01" STEP "0100", 3, REFUSED(10, 1), {0}},
+    {WIDE, FORTY_EIGHT "02" "020001020000" STEP "0100", 3, REFUSED(10, 2), {0}},
+    /* 13: another form, the same of another kind */
+    {SMALL, FOUR "01" STEP FOUR, 3, REFUSED(13, 2), {0}},
+    {SMALL, FOUR "01" STEP "0000", 3, REFUSED(13, 2), {0}},
+    {SMALL, FOUR "02" STEP BACK NEGATED, 3, REFUSED(13, 3), {0}},
+    {SMALL, "0000" "00" "0100", 5, REFUSED(13, 1), {0}},
+};
+
+static void check_calls(void)
+{
+    for (size_t i = 0; i < sizeof check_rows / sizeof *check_rows; i++) {
+        const struct check_row *row = &check_rows[i];
+        struct bytes table = from(row->table), log = from(row->log);
+        struct bytes table_before = table, log_before = log;
+        uint64_t places[16], expected[16];
+        for (int k = 0; k < 16; k++)
+            places[k] = expected[k] = UINT64_C(12345678901234567890) + (uint64_t)k;
+        if (row->returned == 0)
+            memcpy(expected + 4, row->places, sizeof row->places);
+        int64_t returned = kalzunbi_check(at(&table), table.length, at(&log), log.length, places + 4, row->lent);
+        calls++;
+        check(returned == row->returned, "check: what is returned, row", (int)i);
+        check(memcmp(places, expected, sizeof places) == 0, "check: the numbers lent, row", (int)i);
+        check(same(&table, &table_before) && same(&log, &log_before), "check: memory, row", (int)i);
+    }
+}
+
 int main(void)
 {
     value_calls();
     reduce_calls();
+    check_calls();
     printf("%d calls, %d differences\n", calls, failures);
     return failures != 0;
 }

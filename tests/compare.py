@@ -1,5 +1,5 @@
 #!/usr/bin/env python3
-"""The calls for C on random and damaged inputs, against the unrelated programs value_cases.py and reduction_cases.py.
+"""The calls for C on random and damaged inputs, against the unrelated programs value_cases.py, reduction_cases.py and check_cases.py.
 
 compare.py [COUNT [SEED]]: COUNT inputs for each call (10000). What is returned and all memory, lent or around what is lent, is compared.
 A form that is given is handed on to the value call, whose numbers must be those of the expression by components.
@@ -11,6 +11,7 @@ import random
 import subprocess
 import sys
 
+import check_cases as logs
 import reduction_cases as expressions
 import value_cases as forms
 
@@ -25,7 +26,7 @@ def load():
     subprocess.run(["rt", "staticlib", "exports"], cwd=HOME, check=True, stdout=subprocess.DEVNULL, stderr=subprocess.DEVNULL)
     subprocess.run(["gcc", "-shared", "-o", shared, "-Wl,--whole-archive", made, "-Wl,--no-whole-archive"], check=True)
     library = ctypes.CDLL(str(shared))
-    for call in (library.kalzunbi_value, library.kalzunbi_reduce):
+    for call in (library.kalzunbi_value, library.kalzunbi_reduce, library.kalzunbi_check):
         call.restype = ctypes.c_int64
     return library
 
@@ -113,6 +114,14 @@ def expression_inputs(chance):
             yield any_table(chance, table), data, chance.choice((770, 770, 770, 771, 800, chance.randrange(771)))
 
 
+def log_inputs(chance):
+    while True:
+        made = chance.choice((logs.random_log, logs.damaged_log))
+        table, data = made(chance, *chance.choices(((3, 4), (12, 8), (48, 6), (2, 64)), (12, 4, 3, 1))[0])
+        data = chance.choices((data, damaged(chance, data), any_bytes(chance, 60)), (12, 3, 1))[0]
+        yield any_table(chance, table), data, chance.choice((3, 3, 3, 3, 4, 9, chance.randrange(4)))
+
+
 # ════ comparing
 
 def bad_table(table):
@@ -144,12 +153,23 @@ def compare_reduce(functions, chance, table, data, lent):
     return same and returned == len(record) and target.stands_but_for(record), "given"
 
 
+def compare_check(function, table, data, lent):
+    target = Lent(ctypes.c_uint64, [7777777777777 * i for i in range(lent)])
+    returned = call(function, (table, data), target)
+    answer = ("refused", 2, 0) if lent < 3 and not bad_table(table) else logs.answer(table, data)
+    if answer[0] == "refused":
+        _, number, step = answer
+        return returned == -(256 * number + step) and target.stands_but_for(), f"R{number}"
+    return returned == 0 and target.stands_but_for(answer[1:]), "accepted"
+
+
 def main():
     count, seed = (int(x) for x in (sys.argv[1:] + ["10000", "1"][len(sys.argv) - 1:])[:2])
     library, chance, differences = load(), random.Random(seed), 0
     for name, inputs, compare in (
             ("value", form_inputs(chance), lambda *x: compare_value(library.kalzunbi_value, *x)),
-            ("reduce", expression_inputs(chance), lambda *x: compare_reduce(library, chance, *x))):
+            ("reduce", expression_inputs(chance), lambda *x: compare_reduce(library, chance, *x)),
+            ("check", log_inputs(chance), lambda *x: compare_check(library.kalzunbi_check, *x))):
         answers = collections.Counter()
         for _ in range(count):
             case = next(inputs)
@@ -159,7 +179,7 @@ def main():
                 differences += 1
                 print(name, *(x.hex() if isinstance(x, bytes) else x for x in case), "expected", answer)
         print(f"{name}: {count} cases, " + ", ".join(f"{n} {a}" for a, n in sorted(answers.items(), key=lambda x: (len(x[0]), x[0]))))
-    print(f"{2 * count} cases, {differences} differences")
+    print(f"{3 * count} cases, {differences} differences")
     sys.exit(differences > 0)
 
 
