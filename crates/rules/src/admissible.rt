@@ -1,0 +1,97 @@
+// A step alone at a form: its shape (11), its letters in byte order (5, 6), then the step itself (6, 8, 9, 10). Admissible where nothing is refused.
+ghost use mathlib.Core.Path.{_≡_};
+ghost use Prim.Native.Nat.{_≤_};
+ghost use lib.ListN.{take};
+ghost use Rattle.specification.specs.Letters.{vector, testLetters};
+ghost use Rattle.specification.specs.Rules.{isRule, testStepLetters, stepAt};
+ghost use Rattle.terms.specs.Abstraction.{formOf, Counted};
+ghost use Rattle.terms.specs.Valid.{FormValid};
+ghost use Rattle.records.specs.Tested.{testOf};
+ghost use Rattle.gathering.specs.Closing.{WorkedAs};
+ghost use Rattle.rules.specs.Steps.{stepOf, admissible};
+use crate::steps::Step;
+use crate::steps::rule_letters;
+use crate::steps::take_step;
+use gathering::Closed;
+use records::table::test_letter;
+use records::table::test_term;
+use terms::shape::in_shape;
+use terms::types::Form;
+
+// Whether a number is that of a rule.
+pub fn is_rule(rule: u8) -> bool
+    ensures { λ r. ⌜ r ≡ isRule rule ⌝ }
+{
+    match rule {
+        1..=5 => true,
+        _ => false,
+    }
+}
+
+// The first n of a rule's letters: 5 for one that the table has not, 6 for one that is no vector.
+fn test_rule_letters(table: &[u8], letters: [u8; 6], n: usize) -> u8
+    requires { ⌜ n ≤ 6 ⌝ }
+    ensures { λ r. ⌜ testOf r ≡ testLetters (now (table .entry)) vector (take n letters) ⌝ }
+{
+    let mut i: usize = 0;
+    while i < n {
+        let r = test_letter(table, 1, letters[i]);
+        if r != 0 {
+            return r;
+        }
+        i += 1;
+    }
+    0
+}
+
+// The letters of a step in byte order: the rule's, then M's.
+pub fn test_step_letters(table: &[u8], s: Step) -> u8
+    requires { ⌜ Counted (s .m) ⌝ }
+    ensures { λ r. ⌜ testOf r ≡ testStepLetters (now (table .entry)) (stepOf s) ⌝ }
+{
+    let letters = s.letters;
+    let n = rule_letters(s.rule);
+    let r = test_rule_letters(table, letters, n);
+    if r != 0 {
+        return r;
+    }
+    let m = s.m;
+    test_term(table, m)
+}
+
+// A step alone, with a form as the current one.
+pub fn step_at(table: &[u8], f: Form, s: Step) -> Closed
+    requires { ⌜ FormValid f × Counted (s .m) ⌝ }
+    ensures { λ r. ⌜ WorkedAs (stepAt (now (table .entry)) (formOf f) (stepOf s)) r ⌝ }
+{
+    let m = s.m;
+    if !is_rule(s.rule) {
+        return Closed {
+            refusal: 11,
+            form: f,
+        };
+    }
+    if !in_shape(m) {
+        return Closed {
+            refusal: 11,
+            form: f,
+        };
+    }
+    let r = test_step_letters(table, s);
+    if r != 0 {
+        return Closed {
+            refusal: r,
+            form: f,
+        };
+    }
+    take_step(f, s)
+}
+
+// Whether a step is admissible at a form.
+pub fn is_admissible(table: &[u8], f: Form, s: Step) -> bool
+    requires { ⌜ FormValid f × Counted (s .m) ⌝ }
+    ensures { λ r. ⌜ r ≡ admissible (now (table .entry)) (formOf f) (stepOf s) ⌝ }
+{
+    let r = step_at(table, f, s);
+    r.refusal == 0
+}
