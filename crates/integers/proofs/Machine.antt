@@ -1,18 +1,19 @@
 -- Signed numbers of 64 bits as a need has them: a local holds bits, so an operand z is read back as `toZ w64 (ofZ w64 z)`.
 -- Assumes nothing.
-use mathlib.Core.Path.{_≡_, refl, sym, _∙_}
-use mathlib.Core.Bool.{true, false, true≢false}
+use mathlib.Core.Path.{_≡_, refl, ap, sym, _∙_}
+use mathlib.Core.Bool.{Bool, true, false, true≢false}
 use Prim.Native.Nat.{ℕ, zero, suc, _^_, _<_}
 use native.Mathlib.Omega.{arith}
 use lib.IntN.{ℤ, pos, negsuc, natAbs, negℤ, _-ℤ_, +ℤ-idl}
 use lib.Signed.{ltZ, leZ}
 use lib.Dec.{eqb, eqb·suc-zero, leb·suc-suc}
-use borrow.Author.Tests.{le-ltb, ltb-true, ne-eqb}
+use borrow.Author.Tests.{le-ltb, ltb-true, eq-eqb, ne-eqb, eqb-true, eqb-false}
 use mir.Syntax.{w64}
 use mir.Val.{SFits, toZ, ofZ}
 use mir.ValLaws.{toZ-ofZ}
 use Rattle.specification.specs.Terms.{isZero, coefWithin}
 use Rattle.specification.specs.Records.{isOne}
+use Rattle.specification.specs.Logs.{sameCoef}
 use Rattle.algebra.specs.Integers.{sfits-diff}
 use Rattle.integers.specs.Arithmetic.{isNegative}
 
@@ -64,6 +65,18 @@ bits-of-one (pos zero) f = refl
 bits-of-one (pos (suc zero)) f = refl
 bits-of-one (pos (suc (suc n))) f = ne-eqb (suc (suc n)) 1 (λ e. omega arith)
 bits-of-one (negsuc n) f = ne-eqb (ofZ w64 (negsuc n)) 1 (λ e. omega arith)
+
+-- equal bits are those of equal numbers
+pub bits-of-equal : (y z : ℤ) → SFits w64 y → SFits w64 z → eqb (ofZ w64 y) (ofZ w64 z) ≡ sameCoef y z
+unfolding sameCoef
+bits-of-equal (pos m) (pos n) f g = refl
+bits-of-equal (pos m) (negsuc n) f g = ne-eqb (ofZ w64 (pos m)) (ofZ w64 (negsuc n)) (λ e. omega (arith, f .sfits, g .sfits))
+bits-of-equal (negsuc m) (pos n) f g = ne-eqb (ofZ w64 (negsuc m)) (ofZ w64 (pos n)) (λ e. omega (arith, f .sfits, g .sfits))
+bits-of-equal (negsuc m) (negsuc n) f g = go (eqb m n) refl
+  where
+    go : (b : Bool) → eqb m n ≡ b → eqb (ofZ w64 (negsuc m)) (ofZ w64 (negsuc n)) ≡ b
+    go true e = eq-eqb (ofZ w64 (negsuc m)) (ofZ w64 (negsuc n)) (ap (λ (k : ℕ). ofZ w64 (negsuc k)) (eqb-true m n e))
+    go false e = ne-eqb (ofZ w64 (negsuc m)) (ofZ w64 (negsuc n)) (λ p. eqb-false m n e (omega (arith, f .sfits, g .sfits)))
 
 -- a number read back is below 0 where it has the sign
 pub below-zero : {z : ℤ} → SFits w64 z → ltZ (back z) (pos 0) ≡ isNegative z

@@ -6,6 +6,7 @@ ghost use lib.Signed.{ltZ};
 ghost use lib.ListN.{length};
 ghost use Rattle.specification.specs.Records.{fromBits32, toBits32, fourBytes, fourBytesAt, isOne};
 ghost use Rattle.specification.specs.Terms.{isZero, coefWithin};
+ghost use Rattle.specification.specs.Logs.{sameCoef};
 ghost use Rattle.integers.specs.Arithmetic.{isNegative, Divided};
 ghost use Rattle.integers.specs.Over.{over};
 
@@ -61,6 +62,13 @@ pub fn is_one(a: i64) -> bool
     ensures { λ r. ⌜ r ≡ isOne a ⌝ }
 {
     a == 1
+}
+
+// Whether two numbers are equal.
+pub fn equal(a: i64, b: i64) -> bool
+    ensures { λ r. ⌜ r ≡ sameCoef a b ⌝ }
+{
+    a == b
 }
 
 // Whether a number is below 0.

@@ -1,0 +1,168 @@
+-- Steps tested and taken one after the other, and forms compared term by term. Assumes nothing.
+use mathlib.Core.Path.{_≡_, refl, ap, sym, subst, _∙_}
+use mathlib.Core.Bool.{Bool, true, false, _&&_}
+use mathlib.Core.List.{List, [], _∷_, map}
+use Prim.Native.Nat.{ℕ, suc, _+_, _<_, _≤_, Ordering}
+use native.Mathlib.Omega.{arith}
+use borrow.Author.Tests.{eq-eqb, ne-eqb}
+use lib.Dec.{eqb, isEq}
+use lib.ListN.{length, getD, take, drop, length-map}
+use lib.Seq.{length-take-le}
+use Rattle.specification.specs.Results.{Result, Test, refused, given, if_then_else_}
+use Rattle.specification.specs.Terms.{compareTerms}
+use Rattle.specification.specs.Terms as S
+use Rattle.specification.specs.Rules.{testStepLetters, takeStep}
+use Rattle.specification.specs.Rules as R
+use Rattle.specification.specs.Logs.{Log, refusedAt, atStep, stepsLetters, replay, sameCoef, sameTerms, sameForm}
+use Rattle.specification.specs.Logs as L
+use Rattle.theory.specs.Tests.{and-false}
+use Rattle.terms.specs.declared.types.Term.{Term}
+use Rattle.terms.specs.declared.types.Form.{Form}
+use Rattle.terms.specs.declared.order.Order.{Order}
+use Rattle.terms.specs.Abstraction.{termOf, formOf, orderingOf, Counted}
+use Rattle.terms.proofs.Arrays.{noTerm, rest-at, nothing-left}
+use Rattle.gathering.specs.declared.Closed.{Closed}
+use Rattle.gathering.specs.Closing.{WorkedAs}
+use Rattle.gathering.proofs.Closing.{worked-given, worked-refused}
+use Rattle.records.specs.Tested.{testOf}
+use Rattle.records.proofs.LetterTests.{test-passed, test-refused}
+use Rattle.rules.specs.declared.steps.Step.{Step}
+use Rattle.rules.specs.Steps.{stepOf}
+use Rattle.checker.specs.Answers.{foundOf, sameTerm}
+use Rattle.checker.proofs.StepRecords.{noStep}
+
+-- ════ refusals found
+
+-- a refusal
+pub found : (n k : ℕ) (rest : L.Checked) → (n ≡ 0 → ⊥) → refusedAt n k ≡ foundOf n k rest
+unfolding foundOf
+found n k rest h = rw (ne-eqb n 0 h)
+
+-- the first n steps from a place on
+abbrev pub stepsFrom : (q : List Step) (n i : ℕ) → List R.Step
+stepsFrom q n i = map stepOf (drop i (take n q))
+
+module _ (q : List Step) (n i : ℕ) (h : n ≤ length q) where
+  -- the one there
+  abbrev here : R.Step
+  here = stepOf (getD q i noStep)
+
+  one-left : i < n → stepsFrom q n i ≡ here ∷ stepsFrom q n (i + 1)
+  one-left g = ap (map stepOf) (rest-at q n i noStep h g)
+
+  none-left : n ≤ i → stepsFrom q n i ≡ []
+  none-left g = ap (map stepOf) (nothing-left q n i h g)
+
+  -- ════ letters
+
+  module _ (table : List ℕ) (k r : ℕ) (e : testOf r ≡ testStepLetters table here) where
+    -- the letters of the step at a place are refused
+    pub step-stops : i < n → (r ≡ 0 → ⊥) → (rest : L.Checked) → stepsLetters table k (stepsFrom q n i) rest ≡ foundOf r k rest
+    unfolding stepsLetters
+    step-stops g z rest =
+        ap (λ (l : List R.Step). stepsLetters table k l rest) (one-left g)
+        ∙ ap (λ (t : Test). atStep k t (λ _. stepsLetters table (k + 1) (stepsFrom q n (i + 1)) rest)) (sym e ∙ test-refused r z)
+        ∙ found r k rest z
+
+    -- or they pass
+    pub step-passes : i < n → r ≡ 0 → (rest : L.Checked) → stepsLetters table k (stepsFrom q n i) rest ≡ stepsLetters table (k + 1) (stepsFrom q n (i + 1)) rest
+    unfolding stepsLetters
+    step-passes g z rest =
+        ap (λ (l : List R.Step). stepsLetters table k l rest) (one-left g)
+        ∙ ap (λ (t : Test). atStep k t (λ _. stepsLetters table (k + 1) (stepsFrom q n (i + 1)) rest)) (sym e ∙ test-passed r z)
+
+  -- all passed
+  pub steps-pass : n ≤ i → (table : List ℕ) (k : ℕ) (rest : L.Checked) → stepsLetters table k (stepsFrom q n i) rest ≡ rest
+  unfolding stepsLetters
+  steps-pass g table k rest = ap (λ (l : List R.Step). stepsLetters table k l rest) (none-left g)
+
+  -- ════ the replay
+
+  module _ (current : Form) (c : Closed) (w : WorkedAs (takeStep (formOf current) here) c) (k : ℕ) (log : Log) where
+    -- the step at a place is refused
+    pub step-fails : i < n → (c .refusal ≡ 0 → ⊥) → replay log k (formOf current) (stepsFrom q n i) ≡ refusedAt (c .refusal) k
+    unfolding replay
+    step-fails g z =
+        ap (replay log k (formOf current)) (one-left g)
+        ∙ ap (λ (x : Result S.Form). atStep k x (λ f. replay log (k + 1) f (stepsFrom q n (i + 1)))) (worked-refused (takeStep (formOf current) here) c w z)
+
+    -- or it reaches a form
+    pub step-reaches : i < n → c .refusal ≡ 0 → replay log k (formOf current) (stepsFrom q n i) ≡ replay log (k + 1) (formOf (c .form)) (stepsFrom q n (i + 1))
+    unfolding replay
+    step-reaches g z =
+        ap (replay log k (formOf current)) (one-left g)
+        ∙ ap (λ (x : Result S.Form). atStep k x (λ f. replay log (k + 1) f (stepsFrom q n (i + 1)))) (worked-given (takeStep (formOf current) here) c w z)
+
+  -- all steps are taken
+  pub all-taken : n ≤ i → (log : Log) (k : ℕ) (f : S.Form) → replay log k f (stepsFrom q n i) ≡ replay log k f []
+  all-taken g log k f = ap (replay log k f) (none-left g)
+
+-- ════ one form
+
+-- terms are the same where coefficient and order say so
+pub term-same : (t u : Term) (b : Bool) (o : Order) → b ≡ sameCoef (t .coef) (u .coef) → b ≡ true → orderingOf o ≡ compareTerms (termOf t) (termOf u) → isEq (orderingOf o) ≡ sameTerm (termOf t) (termOf u)
+unfolding sameTerm termOf
+term-same t u b o e z p = λ i. (sym z ∙ e) i && isEq (p i)
+
+-- or not the same
+pub coef-other : (t u : Term) (b : Bool) → b ≡ sameCoef (t .coef) (u .coef) → b ≡ false → false ≡ sameTerm (termOf t) (termOf u)
+unfolding sameTerm termOf
+coef-other t u b e z = ap (λ (x : Bool). x && isEq (compareTerms (termOf t) (termOf u))) (sym z ∙ e)
+
+-- lists of unlike lengths
+lengths-differ : (ts us : List S.Term) → (length ts ≡ length us → ⊥) → sameTerms ts us ≡ false
+unfolding sameTerms
+lengths-differ [] [] h = absurd (h refl)
+lengths-differ [] (u ∷ us) h = refl
+lengths-differ (t ∷ ts) [] h = refl
+lengths-differ (t ∷ ts) (u ∷ us) h =
+    ap (λ (b : Bool). (sameCoef (t .coef) (u .coef) && isEq (compareTerms t u)) && b) (lengths-differ ts us (λ e. h (ap suc e)))
+    ∙ and-false (sameCoef (t .coef) (u .coef) && isEq (compareTerms t u))
+
+-- the terms from a place on
+abbrev pub termsFrom : (ts : List Term) (n i : ℕ) → List S.Term
+termsFrom ts n i = map termOf (drop i (take n ts))
+
+module _ (f g : Form) where
+  -- another kind
+  pub kind-other : (f .kind ≡ g .kind → ⊥) → false ≡ sameForm (formOf f) (formOf g)
+  unfolding sameForm formOf
+  kind-other h = rw (ne-eqb (f .kind) (g .kind) h)
+
+  module _ (k : f .kind ≡ g .kind) where
+    by-terms : sameForm (formOf f) (formOf g) ≡ sameTerms (map termOf (take (f .count) (f .terms))) (map termOf (take (g .count) (g .terms)))
+    unfolding sameForm formOf
+    by-terms = rw (eq-eqb (f .kind) (g .kind) k)
+
+    -- another count
+    pub count-other : f .count ≤ length (f .terms) → g .count ≤ length (g .terms) → (f .count ≡ g .count → ⊥) → false ≡ sameForm (formOf f) (formOf g)
+    count-other hf hg h =
+        sym (by-terms ∙ lengths-differ (map termOf (take (f .count) (f .terms))) (map termOf (take (g .count) (g .terms)))
+        (λ e. h (sym (long (f .count) (f .terms) hf) ∙ e ∙ long (g .count) (g .terms) hg)))
+      where
+        long : (n : ℕ) (ts : List Term) → n ≤ length ts → length (map termOf (take n ts)) ≡ n
+        long n ts h = length-map (take n ts) termOf ∙ length-take-le n ts h
+
+    module _ (c : f .count ≡ g .count) where
+      -- the comparison begins at the first terms
+      pub same-from-first : sameForm (formOf f) (formOf g) ≡ sameTerms (termsFrom (f .terms) (f .count) 0) (termsFrom (g .terms) (f .count) 0)
+      same-from-first = by-terms ∙ ap (λ (n : ℕ). sameTerms (map termOf (take (f .count) (f .terms))) (map termOf (take n (g .terms)))) (sym c)
+
+module _ (ts us : List Term) (n i : ℕ) (ht : n ≤ length ts) (hu : n ≤ length us) where
+  one-pair : i < n → sameTerms (termsFrom ts n i) (termsFrom us n i) ≡ (sameTerm (termOf (getD ts i noTerm)) (termOf (getD us i noTerm)) && sameTerms (termsFrom ts n (i + 1)) (termsFrom us n (i + 1)))
+  unfolding sameTerms sameTerm
+  one-pair g = λ j. sameTerms (map termOf (rest-at ts n i noTerm ht g j)) (map termOf (rest-at us n i noTerm hu g j))
+
+  -- a pair of terms differs
+  pub pair-differs : i < n → (b : Bool) → b ≡ sameTerm (termOf (getD ts i noTerm)) (termOf (getD us i noTerm)) → b ≡ false → sameTerms (termsFrom ts n i) (termsFrom us n i) ≡ false
+  pair-differs g b e z = one-pair g ∙ ap (λ (x : Bool). x && sameTerms (termsFrom ts n (i + 1)) (termsFrom us n (i + 1))) (sym e ∙ z)
+
+  -- or the others decide
+  pub pair-same : i < n → (b : Bool) → b ≡ sameTerm (termOf (getD ts i noTerm)) (termOf (getD us i noTerm)) → b ≡ true
+      → sameTerms (termsFrom ts n i) (termsFrom us n i) ≡ sameTerms (termsFrom ts n (i + 1)) (termsFrom us n (i + 1))
+  pair-same g b e z = one-pair g ∙ ap (λ (x : Bool). x && sameTerms (termsFrom ts n (i + 1)) (termsFrom us n (i + 1))) (sym e ∙ z)
+
+  -- no pair differs
+  pub all-same : n ≤ i → sameTerms (termsFrom ts n i) (termsFrom us n i) ≡ true
+  unfolding sameTerms
+  all-same g = λ j. sameTerms (map termOf (nothing-left ts n i ht g j)) (map termOf (nothing-left us n i hu g j))

@@ -1,0 +1,72 @@
+use Rattle.checker.proofs.StepRecords.{noStep}
+use Rattle.checker.proofs.Replaying.{stepsFrom, step-stops, step-passes, steps-pass}
+use Rattle.checker.specs.Answers.{foundOf}
+use Rattle.checker.specs.Reading.{stepsOf}
+use Rattle.rules.specs.Steps.{StepValid}
+use Rattle.terms.proofs.Arrays.{all-at}
+use Rattle.specification.specs.Logs.{Checked, stepsLetters}
+use denote.Ref.{now}
+use lib.ListN.{length, length-map}
+use borrow.Author.Tests.{not-true, not-false}
+use native.Mathlib.Omega.{arith}
+use Prim.Native.Nat.{ℕ, _+_, _-_, _≤_}
+use mathlib.Core.Path.{_≡_, refl, ap, sym, subst, _∙_}
+use Rattle.checker.proofs.steps.test_steps.Statement.{statement}
+use Rattle.checker.proofs.steps.test_steps.Tie as tie
+
+abbrev Inv-loop : tie.InvT-loop
+Inv-loop table q n i₀ i = (i ≤ n) × (n ≡ q .count) × ((rest : Checked) → stepsLetters table 1 (stepsOf q) rest ≡ stepsLetters table (i + 1) (stepsFrom (q .steps) n i) rest)
+
+abbrev μ-loop : tie.MeasureT-loop
+μ-loop table q n i₀ i = n - i
+
+places : (c : tie.Start Inv-loop μ-loop) → length (c .args .t2 .steps) ≡ 64
+places c = sym (length-map (c .args .t2 .steps) _) ∙ c .good .1 .0 .1 .1 .1 .1 .1 .0 .1 .0 .1
+
+room : (c : tie.Start Inv-loop μ-loop) → c .args .t2 .count ≤ length (c .args .t2 .steps)
+room c = omega (arith, places c, c .pre .0)
+
+loop-holds : tie.Need-loop-holds Inv-loop μ-loop
+unfolding stepsOf
+loop-holds c = (omega arith, refl, λ rest. refl)
+
+mul-t : tie.Need-mul-t Inv-loop μ-loop
+mul-t c = omega (arith, c .before .before .before .pre .0)
+
+element-copy-out-t : tie.Need-element-copy-out-t Inv-loop μ-loop
+element-copy-out-t c = omega (arith, c .before .before .before .pre .0)
+
+test-step-letters-requires : tie.Need-test-step-letters-requires Inv-loop μ-loop
+test-step-letters-requires c κs = all-at StepValid (c .before .before .before .before .args .t2 .steps) (c .before .before .before .before .args .t2 .count) (c .before .before .loop .i) noStep (room (c .before .before .before .before)) (c .before .loop-test .taken) (c .before .before .before .before .pre .1) .m .counted
+
+add-i : tie.Need-add-i Inv-loop μ-loop
+add-i c = omega (arith, c .before .before .before .before .before .pre .0)
+
+returns : tie.Need-returns Inv-loop μ-loop
+returns c = record { is = λ rest. c .before .before .before .before .loop .inv .2 rest ∙ step-stops (c .before .before .before .before .before .before .args .t2 .steps) (c .before .before .before .before .before .before .args .t2 .count) (c .before .before .before .before .loop .i) (room (c .before .before .before .before .before .before)) (now (c .before .before .before .before .before .before .args .table)) (c .before .before .before .before .loop .i + 1) _ (c .before .test-step-letters .ensures) (c .before .before .before .loop-test .taken) (c .if1 .taken) rest }
+
+loop-less : tie.Need-loop-less Inv-loop μ-loop
+loop-less c = omega arith
+
+loop-again : tie.Need-loop-again Inv-loop μ-loop
+loop-again c = (omega arith, c .before .before .before .before .loop .inv .1, λ rest. c .before .before .before .before .loop .inv .2 rest ∙ step-passes (c .before .before .before .before .before .before .args .t2 .steps) (c .before .before .before .before .before .before .args .t2 .count) (c .before .before .before .before .loop .i) (room (c .before .before .before .before .before .before)) (now (c .before .before .before .before .before .before .args .table)) (c .before .before .before .before .loop .i + 1) _ (c .before .test-step-letters .ensures) (c .before .before .before .loop-test .taken) (c .if1 .left) rest)
+
+returns-2 : tie.Need-returns-2 Inv-loop μ-loop
+unfolding foundOf
+returns-2 c = record { is = λ rest. c .before .loop .inv .2 rest ∙ steps-pass (c .before .before .before .args .t2 .steps) (c .before .before .before .args .t2 .count) (c .before .loop .i) (room (c .before .before .before)) (c .loop-test .left) (now (c .before .before .before .args .table)) (c .before .loop .i + 1) rest }
+
+pub test-steps-spec : {M : Type 1} → statement M
+test-steps-spec =
+    tie.close
+    (tie.spec
+    Inv-loop
+    μ-loop
+    loop-holds
+    mul-t
+    element-copy-out-t
+    test-step-letters-requires
+    add-i
+    returns
+    loop-less
+    loop-again
+    returns-2)

@@ -1,0 +1,99 @@
+// The checker: for any table and any log exactly the answer of document 01's replay.
+ghost use mathlib.Core.Path.{_≡_};
+ghost use lib.ListN.{take, drop};
+ghost use Rattle.specification.specs.Logs.{checkCall};
+ghost use Rattle.checker.specs.Answers.{checkedOf};
+use crate::replay::replay;
+use crate::replay::same_form;
+use crate::steps::read_steps;
+use crate::steps::test_steps;
+use records::table::check_table;
+use records::table::test_terms;
+use records::take::read_form_at;
+
+pub mod replay;
+pub mod steps;
+
+// The checker's answer: accepted, with where the first form ends, where the last begins and the number of steps; or refused with number and step.
+pub enum Checked {
+    Accepted(usize, usize, usize),
+    Refused(u8, usize),
+}
+
+// The answer for a table and a log.
+pub fn check(table: &[u8], log: &[u8]) -> Checked
+    ensures { λ r. ⌜ checkedOf r ≡ checkCall (now (table .entry)) (now (log .entry)) ⌝ }
+{
+    let bad = check_table(table);
+    if bad != 0 {
+        return Checked::Refused(bad, 0);
+    }
+    let first = read_form_at(log, 0);
+    let a = first.next;
+    if !first.ok {
+        return Checked::Refused(11, 0);
+    }
+    if a >= log.len() {
+        return Checked::Refused(11, 0);
+    }
+    let n = log[a] as usize;
+    if n > 64 {
+        return Checked::Refused(11, 0);
+    }
+    let steps = read_steps(log, a + 1, n);
+    let b = steps.next;
+    if !steps.ok {
+        return Checked::Refused(11, 0);
+    }
+    let last = read_form_at(log, b);
+    if !last.ok {
+        return Checked::Refused(11, 0);
+    }
+    if last.next != log.len() {
+        return Checked::Refused(11, 0);
+    }
+    let f = first.form;
+    let at_first = test_terms(table, f);
+    if at_first != 0 {
+        return Checked::Refused(at_first, 0);
+    }
+    let found = test_steps(table, steps);
+    if found.number != 0 {
+        return Checked::Refused(found.number, found.step);
+    }
+    let g = last.form;
+    let at_last = test_terms(table, g);
+    if at_last != 0 {
+        return Checked::Refused(at_last, n + 1);
+    }
+    let reached = replay(f, steps);
+    if reached.number != 0 {
+        return Checked::Refused(reached.number, reached.step);
+    }
+    let h = reached.form;
+    if !same_form(g, h) {
+        return Checked::Refused(13, n + 1);
+    }
+    Checked::Accepted(a, b, n)
+}
+
+// The first form of an accepted log as a part of it, by where it ends; the whole log where that is past its end.
+pub fn first_form(log: &[u8], end: usize) -> &[u8]
+    ensures { λ r. ⌜ now r ≡ take end (now (log .entry)) ⌝ }
+{
+    if end > log.len() {
+        return &log[..];
+    }
+    &log[..end]
+}
+
+// The last form of an accepted log as a part of it, by where it begins; nothing where that is past its end.
+pub fn last_form(log: &[u8], start: usize) -> &[u8]
+    ensures { λ r. ⌜ now r ≡ drop start (now (log .entry)) ⌝ }
+{
+    let n = log.len();
+    if start > n {
+        return &log[n..];
+    }
+    &log[start..]
+}
