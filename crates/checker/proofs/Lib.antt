@@ -3,3 +3,4 @@ pub mod StepRecords
 pub mod Replaying
 pub mod CheckedLogs
 pub mod LogParts
+pub mod AcceptedLogs

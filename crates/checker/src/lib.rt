@@ -17,7 +17,7 @@ pub mod steps;
 // The checker's answer: accepted, with where the first form ends, where the last begins and the number of steps; or refused with number and step.
 pub enum Checked {
     Accepted(usize, usize, usize),
-    Refused(u8, usize),
+    Refused(u8, u8),
 }
 
 // The answer for a table and a log.
@@ -40,6 +40,7 @@ pub fn check(table: &[u8], log: &[u8]) -> Checked
     if n > 64 {
         return Checked::Refused(11, 0);
     }
+    let behind = (n + 1) as u8;
     let steps = read_steps(log, a + 1, n);
     let b = steps.next;
     if !steps.ok {
@@ -64,7 +65,7 @@ pub fn check(table: &[u8], log: &[u8]) -> Checked
     let g = last.form;
     let at_last = test_terms(table, g);
     if at_last != 0 {
-        return Checked::Refused(at_last, n + 1);
+        return Checked::Refused(at_last, behind);
     }
     let reached = replay(f, steps);
     if reached.number != 0 {
@@ -72,7 +73,7 @@ pub fn check(table: &[u8], log: &[u8]) -> Checked
     }
     let h = reached.form;
     if !same_form(g, h) {
-        return Checked::Refused(13, n + 1);
+        return Checked::Refused(13, behind);
     }
     Checked::Accepted(a, b, n)
 }

@@ -19,7 +19,7 @@ use terms::types::Term;
 // The form reached, or a refusal and its step.
 pub struct Replayed {
     pub number: u8,
-    pub step: usize,
+    pub step: u8,
     pub form: Form,
 }
 
@@ -37,9 +37,10 @@ pub fn replay(f: Form, q: Steps) -> Replayed
         let reached = c.form;
         i += 1;
         if c.refusal != 0 {
+            let k = i as u8;
             return Replayed {
                 number: c.refusal,
-                step: i,
+                step: k,
                 form: reached,
             };
         }

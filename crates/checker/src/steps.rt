@@ -37,7 +37,7 @@ pub struct Steps {
 // A refusal and its step, or 0.
 pub struct Found {
     pub number: u8,
-    pub step: usize,
+    pub step: u8,
 }
 
 // A step that counts for nothing.
@@ -161,7 +161,8 @@ pub fn test_steps(table: &[u8], q: Steps) -> Found
         let r = test_step_letters(table, t);
         i += 1;
         if r != 0 {
-            return Found { number: r, step: i };
+            let k = i as u8;
+            return Found { number: r, step: k };
         }
     }
     Found { number: 0, step: 0 }

@@ -1,19 +1,24 @@
 -- What the calls for C return and leave, from the tests that they make. Assumes nothing.
-use mathlib.Core.Path.{_≡_, sym, _∙_}
+use mathlib.Core.Path.{_≡_, refl, ap, sym, _∙_}
 use mathlib.Core.List.{List, [], _∷_}
 use Prim.Native.Nat.{ℕ, _≤_, _<_, _^_}
 use native.Mathlib.Omega.{arith}
+use lib.Dec.{leb}
 use lib.IntN.{ℤ, pos, natAbs, negℤ}
 use lib.ListN.{length, set}
 use borrow.Author.Tests.{le-leb, lt-leb}
 use mir.Syntax.{w64}
 use mir.Val.{toZ}
 use mir.ValLaws.{toZ-pos}
-use Rattle.specification.specs.Results.{Result, refused, given}
+use Rattle.specification.specs.Results.{Result, refused, given, require}
 use Rattle.specification.specs.Letters.{testTable}
 use Rattle.specification.specs.Values.{Vec}
 use Rattle.specification.specs.Reduction.{reduceCall}
 use Rattle.specification.specs.Evaluation.{valueCall}
+use Rattle.specification.specs.Logs.{Checked, refusedAt, atStep, checkCall}
+use Rattle.checker.specs.declared.Checked as checked
+use Rattle.checker.specs.declared.Checked.the-variants as variants
+use Rattle.checker.specs.Answers.{checkedOf}
 use Rattle.records.specs.Tested.{testOf}
 use Rattle.evaluation.specs.declared.vectors.Vector.{Vector}
 use Rattle.evaluation.specs.declared.Valued.{Valued}
@@ -25,17 +30,16 @@ use Rattle.reduction.specs.declared.Reduced.the-variants.{Written, Refused}
 use Rattle.reduction.specs.Answers.{reducedOf}
 use Rattle.records.proofs.LetterTests.{test-passed, test-refused}
 use Rattle.reduction.proofs.KeptValue.{reduce-keeps-value}
-use Rattle.exports.specs.Returns.{returned, handed, threeInto, answerVec, valueTested, valueReturned, reduceReturned}
+use Rattle.exports.specs.Returns.{returned, handed, threeInto, answerVec, valueTested, valueReturned, reduceReturned, returnedAt, placesInto, answerLog, checkReturned}
 
 -- ════ one number
 
 -- a small number, cast, can be made negative
-pub cast-small : {n : ℕ} → n < 256 → natAbs (toZ w64 n) < 2 ^ 63
+pub cast-small : {n : ℕ} → n < 65536 → natAbs (toZ w64 n) < 2 ^ 63
 cast-small {n} h = rw (toZ-pos w64 n (omega arith)) (omega arith)
 
--- and its negative is what a refusal returns
-pub cast-negative : {n : ℕ} {r : ℤ} → n < 256 → r ≡ negℤ (toZ w64 n) → r ≡ returned (refused n)
-unfolding returned
+-- and its negative is minus the number
+pub cast-negative : {n : ℕ} {r : ℤ} → n < 65536 → r ≡ negℤ (toZ w64 n) → r ≡ negℤ (pos n)
 cast-negative {n} h e = e ∙ rw (toZ-pos w64 n (omega arith))
 
 -- a length, cast, is what is returned
@@ -125,3 +129,47 @@ module _ (table expr out after : List ℕ) (a : Reduced) (contract : (reducedOf 
     pub reduce-returned : (r : ℤ) → r ≡ returned (given n) → (r, after) ≡ reduceReturned table expr out
     unfolding reducedOf
     reduce-returned r p = answered (given n) r (rw g) p
+
+-- ════ the checker's call
+
+-- three stores put the three places in front
+pub place-stores : (l : List ℕ) (a b n : ℕ) → 3 ≤ length l → set (set (set l 0 a) 1 b) 2 n ≡ placesInto a b n l
+unfolding placesInto
+place-stores [] a b n h = absurd (omega arith)
+place-stores (x ∷ []) a b n h = absurd (omega arith)
+place-stores (x ∷ y ∷ []) a b n h = absurd (omega arith)
+place-stores (x ∷ y ∷ z ∷ l) a b n h = refl
+
+module _ (table log places : List ℕ) where
+  -- what is tested before the log
+  abbrev answer : Checked
+  answer = atStep 0 (testTable table) λ _. atStep 0 (require (leb 3 (length places)) 2) λ _. checkCall table log
+
+  -- a refusal leaves the memory
+  refusal-returned : (n k : ℕ) (r : ℤ) → r ≡ returnedAt n k → answer ≡ refusedAt n k → (r, places) ≡ checkReturned table log places
+  unfolding checkReturned answerLog
+  refusal-returned n k r p q = rw (p, q)
+
+  module _ (n : ℕ) (e : testOf n ≡ testTable table) where
+    -- 1 comes first
+    pub table-refused : (n ≡ 0 → ⊥) → (r : ℤ) → r ≡ returnedAt n 0 → (r, places) ≡ checkReturned table log places
+    table-refused h r p = refusal-returned n 0 r p (rw (← e, test-refused n h))
+
+    module _ (z : n ≡ 0) where
+      -- then 2
+      pub places-short : length places < 3 → (r : ℤ) → r ≡ returnedAt 2 0 → (r, places) ≡ checkReturned table log places
+      places-short h r p = refusal-returned 2 0 r p (rw (← e, test-passed n z, lt-leb 3 (length places) h))
+
+      module _ (h : 3 ≤ length places) (c : checked.Checked) (called : checkedOf c ≡ checkCall table log) where
+        by-check : answer ≡ checkedOf c
+        by-check = rw (← e, test-passed n z, le-leb 3 (length places) h) (sym called)
+
+        -- then the log is refused
+        pub log-refused : (m k : ℕ) → c ≡ variants.Refused m k → (r : ℤ) → r ≡ returnedAt m k → (r, places) ≡ checkReturned table log places
+        unfolding checkedOf
+        log-refused m k q r p = refusal-returned m k r p (by-check ∙ ap checkedOf q)
+
+        -- or accepted
+        pub log-accepted : (a b k : ℕ) → c ≡ variants.Accepted a b k → (after : List ℕ) → after ≡ placesInto a b k places → (pos 0, after) ≡ checkReturned table log places
+        unfolding checkReturned answerLog checkedOf
+        log-accepted a b k q after p = rw (by-check ∙ ap checkedOf q, p)

@@ -1,6 +1,6 @@
 -- The calls as C has them: one signed number, and all memory lent, afterwards. Assumes nothing.
 use mathlib.Core.List.{List, _∷_}
-use Prim.Native.Nat.{ℕ}
+use Prim.Native.Nat.{ℕ, _+_, _*_}
 use lib.IntN.{ℤ, pos, negℤ}
 use lib.Dec.{leb}
 use lib.ListN.{length, drop}
@@ -9,6 +9,7 @@ use Rattle.specification.specs.Letters.{testTable}
 use Rattle.specification.specs.Values.{Vec}
 use Rattle.specification.specs.Reduction.{reduceCall}
 use Rattle.specification.specs.Evaluation.{valueCall}
+use Rattle.specification.specs.Logs.{Checked, refusedAt, accepted, atStep, checkCall}
 
 -- what is given, or minus the number of the refusal
 unfoldable pub returned : Result ℕ → ℤ
@@ -42,3 +43,23 @@ valueReturned table form s values = handed (answerVec (valueTested table form s 
 -- the reduction call
 unfoldable pub reduceReturned : (table expr out : List ℕ) → ℤ × List ℕ
 reduceReturned table expr out = handed (reduceCall table expr out)
+
+-- ════ the checker
+
+-- minus (number · 256 + step)
+unfoldable pub returnedAt : (number step : ℕ) → ℤ
+returnedAt n k = negℤ (pos (n * 256 + k))
+
+-- where the first form ends, where the last begins and the steps in front of the memory lent: further numbers stand
+unfoldable pub placesInto : (a b n : ℕ) (memory : List ℕ) → List ℕ
+placesInto a b n memory = a ∷ b ∷ n ∷ drop 3 memory
+
+-- 0 and the three numbers written, or the number and its step, and the memory stands
+unfoldable pub answerLog : Checked → (memory : List ℕ) → ℤ × List ℕ
+answerLog (refusedAt n k) memory = (returnedAt n k, memory)
+answerLog (accepted a b n) memory = (pos 0, placesInto a b n memory)
+
+-- the checker's call with memory for its three numbers: 1, then 2, then contents
+unfoldable pub checkReturned : (table log places : List ℕ) → ℤ × List ℕ
+checkReturned table log places =
+    answerLog (atStep 0 (testTable table) λ _. atStep 0 (require (leb 3 (length places)) 2) λ _. checkCall table log) places

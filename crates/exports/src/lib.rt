@@ -3,8 +3,10 @@ ghost use mathlib.Core.Path.{_≡_};
 ghost use Prim.Native.Nat.{_≤_};
 ghost use lib.ListN.{length};
 ghost use Rattle.specification.specs.Results.{given, refused};
-ghost use Rattle.exports.specs.Returns.{returned, threeInto, valueReturned, reduceReturned};
+ghost use Rattle.exports.specs.Returns.{returned, returnedAt, threeInto, placesInto, valueReturned, reduceReturned, checkReturned};
 ghost use Rattle.evaluation.specs.Vectors.{vecOf};
+use checker::Checked;
+use checker::check;
 use evaluation::Valued;
 use evaluation::value;
 use evaluation::vectors::Vector;
@@ -77,5 +79,44 @@ pub extern "C" fn kalzunbi_reduce(table: &[u8], expression: &[u8], out: &mut [u8
     match r {
         Reduced::Written(n) => written(n),
         Reduced::Refused(m) => refusal(m),
+    }
+}
+
+// A refusal of a log: minus the number times 256 and the step.
+fn refusal_at(n: u8, k: u8) -> i64
+    ensures { λ r. ⌜ r ≡ returnedAt n k ⌝ }
+{
+    neg((n as usize * 256 + k as usize) as i64)
+}
+
+// Three places in front of the memory lent.
+fn put_places(places: &mut [u64], a: usize, b: usize, n: usize)
+    requires { ⌜ 3 ≤ length (now places) ⌝ }
+    ensures { λ r. ⌜ now (places .exit) ≡ placesInto a b n (now (places .entry)) ⌝ }
+{
+    places[0] = a as u64;
+    places[1] = b as u64;
+    places[2] = n as u64;
+}
+
+// The answer for a log: 0 where it is accepted, with where the first form ends, where the last begins and the steps in the first three of the numbers lent; or minus (number · 256 + step).
+#[no_mangle]
+pub extern "C" fn kalzunbi_check(table: &[u8], log: &[u8], places: &mut [u64]) -> i64
+    ensures { λ r. ⌜ (r, now (places .exit)) ≡ checkReturned (now (table .entry)) (now (log .entry)) (now (places .entry)) ⌝ }
+{
+    let n = check_table(table);
+    if n != 0 {
+        return refusal_at(n, 0);
+    }
+    if places.len() < 3 {
+        return refusal_at(2, 0);
+    }
+    let r = check(table, log);
+    match r {
+        Checked::Accepted(a, b, k) => {
+            put_places(places, a, b, k);
+            0
+        }
+        Checked::Refused(m, k) => refusal_at(m, k),
     }
 }

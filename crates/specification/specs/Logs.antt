@@ -102,3 +102,8 @@ checkCall table s =
     stepsLetters table 1 (log .steps)
     (atStep (length (log .steps) + 1) (testTerms table (log .last .terms)) λ _.
     replay log 1 (log .first) (log .steps))
+
+-- "A log is within the limits when its replay gives no number, or 13"
+unfoldable pub withinLimits : Checked → Bool
+withinLimits (refusedAt n k) = eqb n 13
+withinLimits (accepted a b n) = true

@@ -43,6 +43,12 @@ returns-4 : tie.Need-returns-4
 unfolding checkedOf
 returns-4 c = shape-bad (now (c .before .before .before .before .before .before .before .before .before .before .args .table)) (now (c .before .before .before .before .before .before .before .before .before .before .args .log)) _ (c .before .before .before .before .before .before .before .check-table .ensures) (c .before .before .before .before .before .before .if1 .left) (count-large (now (c .before .before .before .before .before .before .before .before .before .before .args .log)) _ (c .before .before .before .before .before .read-form-at .ensures) (not-false _ (c .before .before .before .if2 .left)) (c .before .before .if3 .left) (c .if4 .taken))
 
+add-behind : tie.Need-add-behind
+add-behind c = omega (arith, c .if4 .left)
+
+cast-behind : tie.Need-cast-behind
+cast-behind c = omega (arith, c .if4 .left)
+
 add-read-steps : tie.Need-add-read-steps
 add-read-steps c = search needs
 
@@ -81,9 +87,6 @@ returns-9 c = step-letters (now (c .before .before .before .before .before .befo
 test-terms-requires-2 : tie.Need-test-terms-requires-2
 test-terms-requires-2 c κs = (c .before .before .before .before .before .before .before .before .before .before .before .read-form-at2 .ensures .readable)
 
-add-t21 : tie.Need-add-t21
-add-t21 c = omega (arith, c .before .before .before .before .before .before .before .before .before .before .before .before .before .before .before .before .before .if4 .left)
-
 returns-10 : tie.Need-returns-10
 unfolding checkedOf
 returns-10 c = last-letters (now (c .before .before .before .before .before .before .before .before .before .before .before .before .before .before .before .before .before .before .before .before .before .before .before .before .before .before .before .args .table)) (now (c .before .before .before .before .before .before .before .before .before .before .before .before .before .before .before .before .before .before .before .before .before .before .before .before .before .before .before .args .log)) _ (c .before .before .before .before .before .before .before .before .before .before .before .before .before .before .before .before .before .before .before .before .before .before .before .before .check-table .ensures) (c .before .before .before .before .before .before .before .before .before .before .before .before .before .before .before .before .before .before .before .before .before .before .before .if1 .left) _ _ _ _ _ (log-given (now (c .before .before .before .before .before .before .before .before .before .before .before .before .before .before .before .before .before .before .before .before .before .before .before .before .before .before .before .args .log)) _ (c .before .before .before .before .before .before .before .before .before .before .before .before .before .before .before .before .before .before .before .before .before .before .read-form-at .ensures) (not-false _ (c .before .before .before .before .before .before .before .before .before .before .before .before .before .before .before .before .before .before .before .before .if2 .left)) (c .before .before .before .before .before .before .before .before .before .before .before .before .before .before .before .before .before .before .before .if3 .left) (c .before .before .before .before .before .before .before .before .before .before .before .before .before .before .before .before .before .if4 .left) _ (c .before .before .before .before .before .before .before .before .before .before .before .before .before .before .before .before .read-steps .ensures) (not-false _ (c .before .before .before .before .before .before .before .before .before .before .before .before .before .before .if5 .left)) _ (c .before .before .before .before .before .before .before .before .before .before .before .before .before .read-form-at2 .ensures) (not-false _ (c .before .before .before .before .before .before .before .before .before .before .before .if6 .left)) (c .before .before .before .before .before .before .before .before .before .if7 .left)) _ (c .before .before .before .before .before .before .before .test-terms .ensures) (c .before .before .before .before .before .before .if8 .left) _ (c .before .before .before .before .before .test-steps .ensures) (c .before .before .before .if9 .left) _ (steps-long _ (omega (arith, c .before .before .before .before .before .before .before .before .before .before .before .before .before .before .before .before .read-steps .ensures .few, steps-places (c .before .before .before .before .before .before .before .before .before .before .before .before .before .before .before .before))) ∙ (c .before .before .before .before .before .before .before .before .before .before .before .before .before .before .before .before .read-steps .ensures .count (not-false _ (c .before .before .before .before .before .before .before .before .before .before .before .before .before .before .if5 .left)))) _ (c .before .test-terms2 .ensures) (c .if10 .taken)
@@ -97,9 +100,6 @@ returns-11 c = step-taken (now (c .before .before .before .before .before .befor
 
 same-form-requires : tie.Need-same-form-requires
 same-form-requires c κs = (form-valid (now (c .before .before .before .before .before .before .before .before .before .before .before .before .before .before .before .before .before .before .before .before .before .before .before .before .before .before .before .before .before .before .before .args .log)) _ _ (bytes-all (now (c .before .before .before .before .before .before .before .before .before .before .before .before .before .before .before .before .before .before .before .before .before .before .before .before .before .before .before .before .before .before .before .args .log)) (λ (k : ℕ). c .before .before .before .before .before .before .before .before .before .before .before .before .before .before .before .before .before .before .before .before .before .before .before .before .before .before .before .before .before .shared-slice-known2 .given k .fits)) (c .before .before .before .before .before .before .before .before .before .before .before .before .before .before .before .before .before .read-form-at2 .ensures) (not-false _ (c .before .before .before .before .before .before .before .before .before .before .before .before .before .before .before .if6 .left)), (c .before .before .before .replay .ensures .valid) (c .before .if11 .left))
-
-add-t23 : tie.Need-add-t23
-add-t23 c = omega (arith, c .before .before .before .before .before .before .before .before .before .before .before .before .before .before .before .before .before .before .before .before .before .before .before .if4 .left)
 
 returns-12 : tie.Need-returns-12
 unfolding checkedOf
@@ -121,6 +121,8 @@ check-spec =
     shared-slice-read-n
     cast-n
     returns-4
+    add-behind
+    cast-behind
     add-read-steps
     read-steps-requires
     returns-5
@@ -132,11 +134,9 @@ check-spec =
     test-steps-requires
     returns-9
     test-terms-requires-2
-    add-t21
     returns-10
     replay-requires
     returns-11
     same-form-requires
-    add-t23
     returns-12
     returns-13)

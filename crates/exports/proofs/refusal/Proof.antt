@@ -3,6 +3,7 @@ use mathlib.Core.Path.{_∙_}
 use native.Mathlib.Omega.{arith}
 use borrow.Author.Needs.{needs}
 use Rattle.integers.proofs.Machine.{back-is}
+use Rattle.exports.specs.Returns.{returned}
 use Rattle.exports.proofs.Returning.{cast-small, cast-negative}
 use Rattle.exports.proofs.refusal.Statement.{statement}
 use Rattle.exports.proofs.refusal.Tie as tie
@@ -14,6 +15,7 @@ neg-requires : tie.Need-neg-requires
 neg-requires c κs = cast-small {n = c .args .n} (omega arith)
 
 returns : tie.Need-returns
+unfolding returned
 returns c = back-is (record { sfits = c .neg .ok }) ∙ cast-negative {n = c .before .args .n} (omega arith) (c .neg .ensures)
 
 pub refusal-spec : {M : Type 1} → statement M

@@ -45,6 +45,9 @@ take-step-requires c κs = (c .before .before .loop .inv .2, all-at StepValid (c
 add-i : tie.Need-add-i Inv-loop μ-loop
 add-i c = omega (arith, c .before .before .before .before .before .pre .1)
 
+cast-k : tie.Need-cast-k Inv-loop μ-loop
+cast-k c = omega (arith, c .before .before .before .before .before .before .before .pre .1, c .before .before .before .before .before .loop-test .taken)
+
 returns : tie.Need-returns Inv-loop μ-loop
 returns c = record { is = λ log. c .before .before .before .before .before .before .loop .inv .3 log ∙ step-fails (c .before .before .before .before .before .before .before .args .t2 .steps) (c .before .before .before .before .before .before .before .args .t2 .count) (c .before .before .before .before .before .before .loop .i) (room (c .before .before .before .before .before .before .before)) (c .before .before .before .before .before .before .loop .current) _ (c .before .before .before .take-step .ensures) (c .before .before .before .before .before .before .loop .i + 1) log (c .before .before .before .before .before .loop-test .taken) (c .if1 .taken) ∙ found _ _ _ (c .if1 .taken); valid = λ z. absurd (c .if1 .taken z) }
 
@@ -69,6 +72,7 @@ replay-spec =
     element-copy-out-s
     take-step-requires
     add-i
+    cast-k
     returns
     loop-less
     loop-again

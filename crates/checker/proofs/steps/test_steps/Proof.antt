@@ -42,6 +42,9 @@ test-step-letters-requires c κs = all-at StepValid (c .before .before .before .
 add-i : tie.Need-add-i Inv-loop μ-loop
 add-i c = omega (arith, c .before .before .before .before .before .pre .0)
 
+cast-k : tie.Need-cast-k Inv-loop μ-loop
+cast-k c = omega (arith, c .before .before .before .before .before .before .pre .0, c .before .before .before .loop-test .taken)
+
 returns : tie.Need-returns Inv-loop μ-loop
 returns c = record { is = λ rest. c .before .before .before .before .loop .inv .2 rest ∙ step-stops (c .before .before .before .before .before .before .args .t2 .steps) (c .before .before .before .before .before .before .args .t2 .count) (c .before .before .before .before .loop .i) (room (c .before .before .before .before .before .before)) (now (c .before .before .before .before .before .before .args .table)) (c .before .before .before .before .loop .i + 1) _ (c .before .test-step-letters .ensures) (c .before .before .before .loop-test .taken) (c .if1 .taken) rest }
 
@@ -66,6 +69,7 @@ test-steps-spec =
     element-copy-out-t
     test-step-letters-requires
     add-i
+    cast-k
     returns
     loop-less
     loop-again
