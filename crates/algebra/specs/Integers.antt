@@ -156,6 +156,15 @@ factors-nonzero x y h = (λ e. h (rw (e, I.zero-*ℤ)), λ e. h (rw (e, I.*ℤ-z
 pub product-nonzero : (x y : ℤ) → NonZero x → NonZero y → NonZero (x *ℤ y)
 product-nonzero x y h g e = elim (no-zero-div x y e) [ inl p ↦ h p | inr q ↦ g q ]
 
+-- a number of size 1 is not 0
+pub unit-nonzero : (x : ℤ) → natAbs x ≡ 1 → NonZero x
+unit-nonzero x h e = N.suc-ne-zero 0 (sym h ∙ ap natAbs e)
+
+-- and its square is 1
+pub unit-square : (x : ℤ) → natAbs x ≡ 1 → x *ℤ x ≡ pos 1
+unit-square (pos n) h = ap (λ (k : ℕ). pos (k * k)) h
+unit-square (negsuc n) h = ap (λ (k : ℕ). pos (k * k)) h
+
 -- equal products with one factor equal, and not 0, have the other equal
 pub *ℤ-cancel : (k x y : ℤ) → NonZero k → k *ℤ x ≡ k *ℤ y → x ≡ y
 *ℤ-cancel k x y h e = elim (no-zero-div k (x -ℤ y) (simp (*ℤ-+ℤ, *ℤ-neg, e, I.+ℤ-invr))) [ inl p ↦ absurd (h p) | inr q ↦ sub-zero→eq x y q ]

@@ -1,8 +1,13 @@
 -- What holds of every element of a list: joined, mapped, tested. Assumes nothing.
+use mathlib.Core.Path.{_≡_, subst}
+use mathlib.Core.Logic.{_⊎_, inl, inr}
 use mathlib.Core.Bool.{Bool}
 use mathlib.Core.List.{List, [], _∷_, _++_, map, flatMap}
+use Prim.Native.Nat.{ℕ, zero, suc, _<_}
+use native.Mathlib.Nat as N
+use native.Mathlib.Omega.{arith}
 use lib.Dec.{T}
-use Rattle.specification.specs.Lists.{all}
+use Rattle.specification.specs.Lists.{all, each}
 use Rattle.theory.specs.Tests.{and-both, and-split}
 
 -- every element has the property
@@ -41,6 +46,16 @@ module _ {A : Type 0} where
   unfolding all
   T-all f [] h = tt
   T-all f (x ∷ xs) h = and-both (f x) (all f xs) (h .0) (T-all f xs (h .1))
+
+-- a computed test at 0, 1, .., n − 1, at one of them
+pub each-T : (f : ℕ → Bool) (n : ℕ) → T (each n f) → (i : ℕ) → i < n → T (f i)
+unfolding each
+each-T f zero t i h = absurd (N.not-suc-le-zero h)
+each-T f (suc n) t i h = let w = and-split (each n f) (f n) t in go (w .1) (each-T f n (w .0) i) (N.eq-or-lt-of-le h)
+  where
+    go : T (f n) → (i < n → T (f i)) → (suc i ≡ suc n) ⊎ (suc i < suc n) → T (f i)
+    go t rest (inl e) = let q : n ≡ i = omega arith in subst (λ (k : ℕ). T (f k)) q t
+    go t rest (inr l) = rest (omega arith)
 
 pub all-map : {A B : Type 0} (P : A → Type 0) (Q : B → Type 0) (f : A → B) → ((x : A) → P x → Q (f x)) → (xs : List A) → All P xs → All Q (map f xs)
 all-map P Q f g [] h = tt

@@ -3,6 +3,7 @@ pub mod Tests
 pub mod Elements
 pub mod Order
 pub mod Sorting
+pub mod Reordering
 pub mod Signs
 pub mod Gathering
 pub mod Shape
@@ -11,4 +12,5 @@ pub mod Reduction
 pub mod Rules
 pub mod Records
 pub mod Replay
+pub mod Shortening
 pub mod Lines

@@ -72,3 +72,13 @@ module _ (φ : Monomial → ℤ) where
   unfolding weigh
   weigh-tidied [] h = refl
   weigh-tidied (t ∷ ts) h = λ i. h .0 i +ℤ weigh-tidied ts (h .1) i
+
+-- a term with its coefficient times e
+abbrev pub scaled : ℤ → Term → Term
+scaled e t = withCoef (e *ℤ t .coef) t
+
+-- all coefficients times e: the sum times e
+pub weigh-scaled : (φ : Monomial → ℤ) (e : ℤ) (ts : List Term) → weigh φ (map (scaled e) ts) ≡ e *ℤ weigh φ ts
+unfolding weigh
+weigh-scaled φ e [] = sym (I.*ℤ-zero e)
+weigh-scaled φ e (t ∷ ts) = (λ i. R.*ℤ-assoc e (t .coef) (φ (monomial t)) i +ℤ weigh-scaled φ e ts i) ∙ sym (R.*ℤ-+ℤ e (weight φ t) (weigh φ ts))

@@ -38,7 +38,8 @@ like Ordering·lt h = absurd h
 like Ordering·eq h = refl
 like Ordering·gt h = absurd h
 
-sameTerms-eq : (ts us : List Term) → T (sameTerms ts us) → ts ≡ us
+-- terms that the replay finds the same are equal
+pub sameTerms-eq : (ts us : List Term) → T (sameTerms ts us) → ts ≡ us
 unfolding sameTerms
 sameTerms-eq [] [] h = refl
 sameTerms-eq [] (u ∷ us) h = absurd h

@@ -30,11 +30,11 @@ use Rattle.theory.specs.Values.Terms.{append-value, negated-values}
 -- ════ letters put for the letters 0 to 5
 
 -- the letters 0 to 5, as many as a rule has at most
-abbrev positions : List ℕ
+abbrev pub positions : List ℕ
 positions = 0 ∷ 1 ∷ 2 ∷ 3 ∷ 4 ∷ 5 ∷ []
 
 -- a term with other letters
-abbrev relabel : (ℕ → ℕ) → Term → Term
+abbrev pub relabel : (ℕ → ℕ) → Term → Term
 relabel f t = record { coef = t .coef; factors = map (map f) (t .factors); part = map f (t .part) }
 
 -- both sides with other letters
