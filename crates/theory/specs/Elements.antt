@@ -7,6 +7,7 @@ use Prim.Native.Nat.{ℕ, zero, suc, _<_}
 use native.Mathlib.Nat as N
 use native.Mathlib.Omega.{arith}
 use lib.Dec.{T}
+use lib.ListN.{length, getD}
 use Rattle.specification.specs.Lists.{all, each}
 use Rattle.theory.specs.Tests.{and-both, and-split}
 
@@ -34,6 +35,12 @@ module _ {A : Type 0} where
   pub both-all : (P Q : A → Type 0) (xs : List A) → All P xs → All Q xs → All (λ x. P x × Q x) xs
   both-all P Q [] h k = tt
   both-all P Q (x ∷ xs) h k = ((h .0, k .0), both-all P Q xs (h .1) (k .1))
+
+  -- at one place
+  pub all-at : (P : A → Type 0) (xs : List A) (i : ℕ) (d : A) → All P xs → i < length xs → P (getD xs i d)
+  all-at P [] i d h l = absurd (N.not-suc-le-zero l)
+  all-at P (x ∷ xs) zero d h l = h .0
+  all-at P (x ∷ xs) (suc i) d h l = all-at P xs i d (h .1) (omega arith)
 
   -- a computed test of every element, as a property
   pub all-T : (f : A → Bool) (xs : List A) → T (all f xs) → All (λ x. T (f x)) xs

@@ -3,3 +3,5 @@ pub mod Masks
 pub mod Relabelled
 pub mod Candidates
 pub mod Symmetries
+pub mod Saved
+pub mod Completeness

@@ -43,7 +43,8 @@ in-order-map : (fs : List (List ℕ)) → All FactorInOrder fs → map (sorted o
 in-order-map [] a = refl
 in-order-map (f ∷ fs) a = λ i. O.sort-asc nat-laws f (a .0 .ascend) i ∷ in-order-map fs (a .1) i
 
-in-order-factors : (fs : List (List ℕ)) → All FactorInOrder fs → O.Asc letters-laws fs → sorted compareLetters (map (sorted order) fs) ≡ fs
+-- factors in this order stay
+pub in-order-factors : (fs : List (List ℕ)) → All FactorInOrder fs → O.Asc letters-laws fs → sorted compareLetters (map (sorted order) fs) ≡ fs
 in-order-factors fs a o = ap (sorted compareLetters) (in-order-map fs a) ∙ O.sort-asc letters-laws fs o
 
 -- a term in the order of forms is tidy

@@ -1,7 +1,7 @@
 -- Sums over terms, each its coefficient times a weight of its monomial: inserting adds, gathering keeps the sum over the tidied terms.
 -- The coefficient of a monomial is such a sum, and so is each component of a value. Assumes nothing.
 use mathlib.Core.Path.{_≡_, refl, sym, _∙_, ap}
-use mathlib.Core.List.{List, [], _∷_, map}
+use mathlib.Core.List.{List, [], _∷_, _++_, map}
 use Prim.Native.Nat.{zero, suc, Ordering}
 use lib.IntN.{ℤ, pos, negsuc, _+ℤ_, _*ℤ_}
 use lib.IntN as I
@@ -72,6 +72,12 @@ module _ (φ : Monomial → ℤ) where
   unfolding weigh
   weigh-tidied [] h = refl
   weigh-tidied (t ∷ ts) h = λ i. h .0 i +ℤ weigh-tidied ts (h .1) i
+
+-- terms behind terms: the sums added
+pub weigh-append : (φ : Monomial → ℤ) (ts us : List Term) → weigh φ (ts ++ us) ≡ weigh φ ts +ℤ weigh φ us
+unfolding weigh
+weigh-append φ [] us = sym (I.+ℤ-idl (weigh φ us))
+weigh-append φ (t ∷ ts) us = ap (λ (z : ℤ). weight φ t +ℤ z) (weigh-append φ ts us) ∙ sym (I.+ℤ-assoc (weight φ t) (weigh φ ts) (weigh φ us))
 
 -- a term with its coefficient times e
 abbrev pub scaled : ℤ → Term → Term

@@ -16,7 +16,7 @@ use Rattle.specification.specs.Terms.{Term, Form, termKind, timesTerm, vectorLe
 use Rattle.specification.specs.Records.{testTerm}
 use Rattle.specification.specs.Rules.{Step, ruleLetters, ruleKind, isRule, stepKindsFit, stepTerms, takeStep, testStepLetters, stepInShape}
 use Rattle.specification.specs.Evaluation.{factorsValue, partValue, termValue, termsValue, value}
-use Rattle.theory.specs.Tests.{and-split, required, tested}
+use Rattle.theory.specs.Tests.{and-both, and-split, eqb-T, required, tested}
 use Rattle.theory.specs.Elements.{All, all-append, all-implies, all-map}
 use Rattle.theory.specs.Order.{monomial}
 use Rattle.theory.specs.Shape.Terms.{kindOfPart, no-part, Fits, TermShape, term-opens}
@@ -44,8 +44,15 @@ step-opens s h =
     let v = and-split (isRule (s .rule)) (eqb (length (s .letters)) (ruleLetters (s .rule))) (w .0) in
     record { rule = v .0; long = eqb→eq (length (s .letters)) (ruleLetters (s .rule)) (v .1); m = w .1 }
 
+-- and what makes it hold
+pub step-closes : (s : Step) → StepShape s → T (stepInShape s)
+unfolding stepInShape
+step-closes s h =
+    and-both (isRule (s .rule) && eqb (length (s .letters)) (ruleLetters (s .rule))) (termInShape (s .m))
+    (and-both (isRule (s .rule)) (eqb (length (s .letters)) (ruleLetters (s .rule))) (h .rule) (eqb-T (length (s .letters)) (ruleLetters (s .rule)) (h .long))) (h .m)
+
 -- a vector rule has M without a vector part and a vector form; a scalar rule has M of the form's kind
-data Agreeing (f : Form) (s : Step) : Type 0 where
+pub data Agreeing (f : Form) (s : Step) : Type 0 where
   vectorRule : ruleKind (s .rule) ≡ vector → s .m .part ≡ [] → f .kind ≡ vector → Agreeing f s
   scalarRule : ruleKind (s .rule) ≡ scalar → kindOfPart (s .m .part) ≡ f .kind → Agreeing f s
 
@@ -53,7 +60,8 @@ data Agreeing (f : Form) (s : Step) : Type 0 where
 abbrev kindBy : Bool → Bool → ℕ
 kindBy a b = if a then scalar else if b then scalar else vector
 
-agreeing : (f : Form) (s : Step) → T (stepKindsFit f s) → Agreeing f s
+-- what the test of a step's kinds says
+pub agreeing : (f : Form) (s : Step) → T (stepKindsFit f s) → Agreeing f s
 unfolding stepKindsFit termKind ruleKind
 agreeing f s h = go (eqb (s .rule) 3) (eqb (s .rule) 5) refl h
   where

@@ -3,9 +3,8 @@
 -- Assumes nothing.
 use mathlib.Core.Path.{_≡_, refl, sym, _∙_, ap, subst}
 use mathlib.Core.Bool.{Bool, true, false, _&&_}
-use mathlib.Core.List.{List, [], _∷_, _++_, map}
+use mathlib.Core.List.{List, [], _∷_, _++_, map, map-append}
 use Prim.Native.Nat.{ℕ, zero, suc, _<_}
-use native.Mathlib.Nat as N
 use native.Mathlib.Omega.{arith}
 use lib.Dec.{T, eqb, leb, ltb, leb→le, ltb→lt, eqb→eq}
 use lib.ListN.{length, getD, length-map}
@@ -19,7 +18,7 @@ use Rattle.specification.specs.Terms.{Term, timesTerm, negated}
 use Rattle.specification.specs.Rules.{Sides, rule1, rule2, rule3, rule4, bracket, rule5, sides, ruleLetters, ruleKind, isRule, Step, stepTerms}
 use Rattle.specification.specs.Evaluation.{factorValue, factorsValue, partValue, termValue, termsValue}
 use Rattle.theory.specs.Tests.{and-split}
-use Rattle.theory.specs.Elements.{All, all-map, all-T}
+use Rattle.theory.specs.Elements.{All, all-map, all-at, all-T}
 use Rattle.theory.specs.Order.{monomial}
 use Rattle.theory.specs.Shape.Bare.{Bare, all-bare, shapes}
 use Rattle.theory.specs.Shape.Letters.{Known, FactorKnown, MonomialKnown, AllKnown}
@@ -111,10 +110,6 @@ sides-balanced σ r h ls =
 unfoldable pub ruleTerms : (rule : ℕ) (letters : List ℕ) → List Term
 ruleTerms r ls = sides r ls .left ++ map negated (sides r ls .right)
 
-map-append : {A B : Type 0} (f : A → B) (k l : List A) → map f (k ++ l) ≡ map f k ++ map f l
-map-append f [] l = refl
-map-append f (x ∷ k) l = ap (λ j. f x ∷ j) (map-append f k l)
-
 negated-times : (m : Term) (l : List Term) → map negated (map (timesTerm m) l) ≡ map (timesTerm m) (map negated l)
 unfolding timesTerm
 negated-times m [] = refl
@@ -166,11 +161,6 @@ unfolding ruleTerms sides rule1 rule2 rule3 rule4 bracket rule5
 ruleTerms-relabelled =
     by-rule (λ (r : ℕ). (ls : List ℕ) → ruleTerms r ls ≡ map (relabel (λ i. getD ls i 0)) (ruleTerms r positions)) (λ ls. refl) (λ ls. refl) (λ ls. refl) (λ ls. refl) (λ ls. refl)
 
-all-at : (P : ℕ → Type 0) (ls : List ℕ) (i : ℕ) → All P ls → i < length ls → P (getD ls i 0)
-all-at P [] i h l = absurd (N.not-suc-le-zero l)
-all-at P (x ∷ ls) zero h l = h .0
-all-at P (x ∷ ls) (suc i) h l = all-at P ls i (h .1) (omega arith)
-
 module _ (table ls : List ℕ) (known : All (Known table vector) ls) where
   -- the letter at a position
   abbrev put : ℕ → ℕ
@@ -179,7 +169,7 @@ module _ (table ls : List ℕ) (known : All (Known table vector) ls) where
   below-known : (g : List ℕ) → T (below (length ls) g) → All (Known table vector) (map put g)
   unfolding below
   below-known g h =
-      all-map (λ (i : ℕ). T (ltb i (length ls))) (Known table vector) put (λ i t. all-at (Known table vector) ls i known (ltb→lt i (length ls) t)) g (all-T (λ i. ltb i (length ls)) g h)
+      all-map (λ (i : ℕ). T (ltb i (length ls))) (Known table vector) put (λ i t. all-at (Known table vector) ls i 0 known (ltb→lt i (length ls) t)) g (all-T (λ i. ltb i (length ls)) g h)
 
   -- more than one letter: a dot or a triple
   factor-known : (g : List ℕ) → T (ltb 1 (length g) && below (length ls) g) → FactorKnown table (map put g)

@@ -26,7 +26,8 @@ module _ (table : List ℕ) where
   letters-known kind [] e = tt
   letters-known kind (n ∷ ls) e = let w = tested (testLetter table kind n) (testLetters table kind ls) tt e in (w .0, letters-known kind ls (w .1))
 
-  known-letters : (kind : ℕ) (ls : List ℕ) → All (Known kind) ls → testLetters table kind ls ≡ given tt
+  -- and known letters pass
+  pub known-letters : (kind : ℕ) (ls : List ℕ) → All (Known kind) ls → testLetters table kind ls ≡ given tt
   unfolding testLetters
   known-letters kind [] h = refl
   known-letters kind (n ∷ ls) h = ap (λ t. t >> testLetters table kind ls) (h .0) ∙ known-letters kind ls (h .1)

@@ -1,5 +1,5 @@
 -- Masks: of two lists joined and sorted, some mask takes the one, sorted, and leaves the other in its ascending order. Assumes nothing.
-use mathlib.Core.Path.{_≡_, refl, _∙_, ap}
+use mathlib.Core.Path.{_≡_, refl}
 use mathlib.Core.Bool.{Bool, true, false}
 use mathlib.Core.List.{List, [], _∷_, _++_}
 use Prim.Native.Nat.{ℕ, _+_, _*_, _/_, _%_, _^_, _<_, Ordering}
@@ -37,21 +37,25 @@ module _ {A : Type 0} where
     pub taking : taken mask l ≡ s
     pub leaving : leftOver mask l ≡ c
 
+  masked-takes : (x : A) (l s c : List A) → Masked l s c → Masked (x ∷ l) (x ∷ s) c
+  unfolding taken leftOver
+  masked-takes x l s c n =
+      let bit : (2 * n .mask + 1) % 2 ≡ 1 = omega arith in
+      let half : (2 * n .mask + 1) / 2 ≡ n .mask = omega arith in
+      record { mask = 2 * n .mask + 1; small = omega (arith, n .small, N.two-pow-succ (length l)); taking = rw (bit, half, n .taking); leaving = rw (bit, half, n .leaving) }
+
+  masked-leaves : (x : A) (l s c : List A) → Masked l s c → Masked (x ∷ l) s (x ∷ c)
+  unfolding taken leftOver
+  masked-leaves x l s c n =
+      let bit : (2 * n .mask) % 2 ≡ 0 = omega arith in
+      let half : (2 * n .mask) / 2 ≡ n .mask = omega arith in
+      record { mask = 2 * n .mask; small = omega (arith, n .small, N.two-pow-succ (length l)); taking = rw (bit, half, n .taking); leaving = rw (bit, half, n .leaving) }
+
   masked : {l s c : List A} → Apart l s c → Masked l s c
   unfolding taken leftOver
   masked end = record { mask = 0; small = omega arith; taking = refl; leaving = refl }
-  masked (takes {x = x} {l = l} p) =
-      let n = masked p in
-      let k : ℕ = n .mask in
-      let bit : (2 * k + 1) % 2 ≡ 1 = omega arith in
-      let half : (2 * k + 1) / 2 ≡ k = omega arith in
-      record { mask = 2 * k + 1; small = omega (arith, n .small, N.two-pow-succ (length l)); taking = rw (bit, half, n .taking); leaving = rw (bit, half, n .leaving) }
-  masked (leaves {x = x} {l = l} p) =
-      let n = masked p in
-      let k : ℕ = n .mask in
-      let bit : (2 * k) % 2 ≡ 0 = omega arith in
-      let half : (2 * k) / 2 ≡ k = omega arith in
-      record { mask = 2 * k; small = omega (arith, n .small, N.two-pow-succ (length l)); taking = rw (bit, half, n .taking); leaving = rw (bit, half, n .leaving) }
+  masked (takes {x = x} {l = l} {s = s} {c = c} p) = masked-takes x l s c (masked p)
+  masked (leaves {x = x} {l = l} {s = s} {c = c} p) = masked-leaves x l s c (masked p)
 
   all-taken : (l : List A) → Apart l l []
   all-taken [] = end

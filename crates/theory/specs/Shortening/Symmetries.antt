@@ -7,14 +7,13 @@ use mathlib.Core.List.{List, [], _∷_, _++_, map}
 use Prim.Native.Nat.{ℕ, zero, suc, _+_, _*_, _-_, _<_, _≤_}
 use native.Mathlib.Nat as N
 use native.Mathlib.Omega.{arith}
-use lib.Dec.{T, eqb, leb, eqb→eq, le→leb}
+use lib.Dec.{T, eqb, eqb→eq, le→leb}
 use lib.ListN.{length, getD, take, drop, take-append-drop, length-append}
 use lib.Seq.{length-take-le}
 use lib.IntN.{ℤ, pos, negsuc, negℤ, natAbs, _*ℤ_}
 use lib.IntN as I
 use Rattle.algebra.specs.Integers as R
 use Rattle.algebra.specs.Integers.{NonZero}
-use Rattle.specification.specs.Results.{if_then_else_}
 use Rattle.specification.specs.Lists.{each, order, sorted}
 use Rattle.specification.specs.Terms.{Term, tidy, timesTerm, gather}
 use Rattle.specification.specs.Rules.{rule1, rule2, rule3, rule4, bracket, rule5, sides, ruleLetters, isRule}
