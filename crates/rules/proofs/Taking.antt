@@ -21,7 +21,7 @@ use Rattle.theory.specs.Shape.Terms.{kindOfPart, term-opens}
 use Rattle.theory.specs.Shape.Forms.{form-gathered}
 use Rattle.theory.specs.Gathering.Gathered.{gather-onto}
 use Rattle.theory.specs.Rules.Table.{ruleTerms, stepTerms-rule}
-use Rattle.theory.specs.Rules.Steps.{StepShape, step-fits, step-parts}
+use Rattle.theory.specs.Rules.Steps.{StepShape, Agreeing, agreeing, step-fits, step-parts}
 use Rattle.terms.specs.declared.types.Term.{Term}
 use Rattle.terms.specs.declared.types.Form.{Form}
 use Rattle.terms.specs.Numbers.{lettersOf}
@@ -179,8 +179,8 @@ module _ (s : Step) (v : StepValid s) (six : length (s .letters) ≡ 6) where
         few : vectorLetters (stepOf s .m) + ruleLetters (s .rule) ≤ 6
         few = leb-true _ _ (sym el ∙ hl)
 
-        agree : T (stepKindsFit (formOf f) (stepOf s))
-        agree = subst T (sym hk ∙ kinds) tt
+        agree : Agreeing (formOf f) (stepOf s)
+        agree = agreeing (formOf f) (stepOf s) (subst T (sym hk ∙ kinds) tt)
 
         -- a row times M
         pub row-fits : (i : ℕ) → i < rowCount (s .rule) → s .m .«factor_count» ≤ length (s .m .factors)

@@ -39,12 +39,12 @@ in-order-signs [] a = refl
 in-order-signs (f ∷ fs) a =
     λ i. if-T (eqb (length f) 3) (exchangeSign f) (pos 1) (λ (z : ℤ). z ≡ pos 1) (λ t. strict-sign f (a .0 .strict (eqb→eq (length f) 3 t))) refl i *ℤ in-order-signs fs (a .1) i
 
-in-order-map : (fs : List (List ℕ)) → All FactorInOrder fs → map (sorted order) fs ≡ fs
+-- letters in this order stay
+pub in-order-map : (fs : List (List ℕ)) → All FactorInOrder fs → map (sorted order) fs ≡ fs
 in-order-map [] a = refl
 in-order-map (f ∷ fs) a = λ i. O.sort-asc nat-laws f (a .0 .ascend) i ∷ in-order-map fs (a .1) i
 
--- factors in this order stay
-pub in-order-factors : (fs : List (List ℕ)) → All FactorInOrder fs → O.Asc letters-laws fs → sorted compareLetters (map (sorted order) fs) ≡ fs
+in-order-factors : (fs : List (List ℕ)) → All FactorInOrder fs → O.Asc letters-laws fs → sorted compareLetters (map (sorted order) fs) ≡ fs
 in-order-factors fs a o = ap (sorted compareLetters) (in-order-map fs a) ∙ O.sort-asc letters-laws fs o
 
 -- a term in the order of forms is tidy

@@ -12,9 +12,9 @@ use Rattle.algebra.specs.Integers as R
 use Rattle.specification.specs.Results.{given, if_then_else_}
 use Rattle.specification.specs.Values.{Vec, scalarValue, _+v_, _•_}
 use Rattle.specification.specs.Letters.{scalar, vector, testLetters}
-use Rattle.specification.specs.Terms.{Term, Form, termKind, timesTerm, vectorLetters, termInShape}
+use Rattle.specification.specs.Terms.{Term, Form, termKind, timesTerm, gather, within, vectorLetters, termInShape}
 use Rattle.specification.specs.Records.{testTerm}
-use Rattle.specification.specs.Rules.{Step, ruleLetters, ruleKind, isRule, stepKindsFit, stepTerms, takeStep, testStepLetters, stepInShape}
+use Rattle.specification.specs.Rules.{Step, ruleLetters, ruleKind, isRule, stepKindsFit, stepTerms, takeStep, testStepLetters, stepInShape, stepAt}
 use Rattle.specification.specs.Evaluation.{factorsValue, partValue, termValue, termsValue, value}
 use Rattle.theory.specs.Tests.{and-both, and-split, eqb-T, required, tested}
 use Rattle.theory.specs.Elements.{All, all-append, all-implies, all-map}
@@ -60,7 +60,7 @@ pub data Agreeing (f : Form) (s : Step) : Type 0 where
 abbrev kindBy : Bool → Bool → ℕ
 kindBy a b = if a then scalar else if b then scalar else vector
 
--- what the test of a step's kinds says
+-- what the test of the kinds says
 pub agreeing : (f : Form) (s : Step) → T (stepKindsFit f s) → Agreeing f s
 unfolding stepKindsFit termKind ruleKind
 agreeing f s h = go (eqb (s .rule) 3) (eqb (s .rule) 5) refl h
@@ -72,6 +72,34 @@ agreeing f s h = go (eqb (s .rule) 3) (eqb (s .rule) 5) refl h
     go false false e h =
         let w = and-split (eqb (kindOfPart (s .m .part)) scalar) (eqb (f .kind) vector) h in
         vectorRule e (no-part (s .m .part) (eqb→eq (kindOfPart (s .m .part)) scalar (w .0))) (eqb→eq (f .kind) vector (w .1))
+
+-- a step that is taken: the kinds agree (6), the letters are not too many (8), and what is gathered is within the limits (9, 10)
+pub record Taken (f : Form) (s : Step) (g : Form) : Type 0 where
+  pub agree : Agreeing f s
+  pub few : vectorLetters (s .m) + ruleLetters (s .rule) ≤ 6
+  pub gathers : within (f .kind) (gather (f .terms ++ stepTerms s)) ≡ given g
+
+-- what the tests of a step that is taken say
+pub step-taken : (f : Form) (s : Step) (g : Form) → takeStep f s ≡ given g → Taken f s g
+unfolding takeStep
+step-taken f s g e =
+    let w₁ = required (stepKindsFit f s) 6 _ g e in
+    let w₂ = required (leb (vectorLetters (s .m) + ruleLetters (s .rule)) 6) 8 _ g (w₁ .1) in
+    record { agree = agreeing f s (w₁ .0); few = leb→le (vectorLetters (s .m) + ruleLetters (s .rule)) 6 (w₂ .0); gathers = w₂ .1 }
+
+-- an admissible step: in shape (11), with letters of the table (5, 6), and taken
+pub record Admitted (table : List ℕ) (f : Form) (s : Step) (g : Form) : Type 0 where
+  pub shape : StepShape s
+  pub known : testStepLetters table s ≡ given tt
+  pub takes : takeStep f s ≡ given g
+
+-- what the tests of an admissible step say
+pub step-admitted : (table : List ℕ) (f : Form) (s : Step) (g : Form) → stepAt table f s ≡ given g → Admitted table f s g
+unfolding stepAt
+step-admitted table f s g e =
+    let w₁ = required (stepInShape s) 11 _ g e in
+    let w₂ = tested (testStepLetters table s) (takeStep f s) g (w₁ .1) in
+    record { shape = step-opens s (w₁ .0); known = w₂ .0; takes = w₂ .1 }
 
 -- ════ a term times terms without a vector part
 
@@ -163,13 +191,13 @@ module _ (f : Form) (s : Step) (agree : Agreeing f s) (shape : StepShape s) wher
 -- ════ the theorem
 
 -- the terms that a step gathers are of the form's kind and within the limits
-pub step-fits : (f : Form) (s : Step) → FormInShape f → StepShape s → T (stepKindsFit f s) → vectorLetters (s .m) + ruleLetters (s .rule) ≤ 6 → AllFit (f .kind) (f .terms ++ stepTerms s)
-step-fits f s shape o kinds few =
-    all-append (λ (t : Term). Fits (f .kind) (monomial t)) (f .terms) (stepTerms s) (form-fits f shape) (stepTerms-fit f s (agreeing f s kinds) o few)
+pub step-fits : (f : Form) (s : Step) → FormInShape f → StepShape s → Agreeing f s → vectorLetters (s .m) + ruleLetters (s .rule) ≤ 6 → AllFit (f .kind) (f .terms ++ stepTerms s)
+step-fits f s shape o a few =
+    all-append (λ (t : Term). Fits (f .kind) (monomial t)) (f .terms) (stepTerms s) (form-fits f shape) (stepTerms-fit f s a o few)
 
 -- M has no vector part, or the rule's terms have none
-pub step-parts : (f : Form) (s : Step) → StepShape s → T (stepKindsFit f s) → (s .m .part ≡ []) ⊎ All (λ (u : Term). u .part ≡ []) (ruleTerms (s .rule) (s .letters))
-step-parts f s o kinds = go (agreeing f s kinds)
+pub step-parts : (f : Form) (s : Step) → StepShape s → Agreeing f s → (s .m .part ≡ []) ⊎ All (λ (u : Term). u .part ≡ []) (ruleTerms (s .rule) (s .letters))
+step-parts f s o a = go a
   where
     go : Agreeing f s → (s .m .part ≡ []) ⊎ All (λ (u : Term). u .part ≡ []) (ruleTerms (s .rule) (s .letters))
     go (vectorRule r p k) = inl p
@@ -178,17 +206,15 @@ step-parts f s o kinds = go (agreeing f s kinds)
 -- P5: a step that is taken keeps the value, the kind and the shape, and brings in no letter that is not in the table
 pub step-keeps : (table : List ℕ) (f : Form) (s : Step) (g : Form) → FormInShape f → AllKnown table (f .terms)
     → T (stepInShape s) → testStepLetters table s ≡ given tt → takeStep f s ≡ given g → Denotes table g (f .kind) (λ σ. value σ f)
-unfolding takeStep value
+unfolding value
 step-keeps table f s g shape known inShape tests e =
-    let w₁ = required (stepKindsFit f s) 6 _ g e in
-    let w₂ = required (leb (vectorLetters (s .m) + ruleLetters (s .rule)) 6) 8 _ g (w₁ .1) in
-    let few = leb→le (vectorLetters (s .m) + ruleLetters (s .rule)) 6 (w₂ .0) in
-    let a : Agreeing f s = agreeing f s (w₁ .0) in
+    let t : Taken f s g = step-taken f s g e in
+    let a : Agreeing f s = t .agree in
     let o : StepShape s = step-opens s inShape in
     let d = within-denotes table (f .kind) (f .terms ++ stepTerms s) g (shape .kind)
-    (step-fits f s shape o (w₁ .0) few)
+    (step-fits f s shape o a (t .few))
     (all-append (λ (t : Term). MonomialKnown table (monomial t)) (f .terms) (stepTerms s) known (stepTerms-known f s a o table tests))
-    (w₂ .1) in
+    (t .gathers) in
     record {
       kindIs = d .kindIs;
       inShape = d .inShape;

@@ -1,28 +1,28 @@
 -- The candidates are enough: where none is an admissible step to fewer terms, no step of any rule, letters and term M is (P8). Assumes nothing.
 use mathlib.Core.Path.{_≡_, refl, sym, _∙_, ap, subst}
 use mathlib.Core.Bool.{Bool, _&&_}
-use mathlib.Core.List.{List, [], _∷_, _++_, map}
+use mathlib.Core.List.{List, _++_, map}
 use Prim.Native.Nat.{ℕ, _+_, _*_, _^_, _<_}
 use native.Mathlib.Nat as N
 use native.Mathlib.Omega.{arith}
-use lib.Dec.{T, eqb, leb, ltb, lt→ltb}
+use lib.Dec.{T, eqb, leb, ltb}
 use lib.ListN.{length}
 use lib.IntN.{ℤ, pos, natAbs, _*ℤ_}
 use Rattle.algebra.specs.Integers as R
 use Rattle.algebra.specs.Integers.{unit-nonzero}
 use Rattle.specification.specs.Results.{given, _>>_, require}
-use Rattle.specification.specs.Lists.{ascend, order, sorted}
+use Rattle.specification.specs.Lists.{ascend, order}
 use Rattle.specification.specs.Letters.{vector, testLetters}
 use Rattle.specification.specs.Terms.{Term, Form, termKind, tidy, withCoef, coefWithin, vectorLetters, within, termInShape, gather}
 use Rattle.specification.specs.Records.{testTerm}
 use Rattle.specification.specs.Rules.{rule1, rule2, rule3, rule4, bracket, rule5, sides, ruleLetters, isRule, Step, stepKindsFit, stepTerms, takeStep, testStepLetters, stepInShape, stepAt}
 use Rattle.specification.specs.Shortening.{Shortest}
-use Rattle.theory.specs.Tests.{and-both, eqb-T, required, passes, tested}
+use Rattle.theory.specs.Tests.{and-both, eqb-T, passes, tested}
 use Rattle.theory.specs.Elements.{All, all-at}
 use Rattle.theory.specs.Order.{monomial, nat-laws}
 use Rattle.theory.specs.Sorting as O
-use Rattle.theory.specs.Reordering.{reordered-length, reordered-all, reordered-turned, sorted-reordered}
-use Rattle.theory.specs.Signs.{Strict}
+use Rattle.theory.specs.Reordering.{reordered-length, reordered-all, reordered-turned}
+use Rattle.theory.specs.Signs.{strict-ascend}
 use Rattle.theory.specs.Gathering.Weights.{scaled}
 use Rattle.theory.specs.Gathering.Coefficients.{coeff, termAt}
 use Rattle.theory.specs.Gathering.Gathered.{gather-coefficient}
@@ -30,8 +30,8 @@ use Rattle.theory.specs.Shape.Terms.{TermShape, term-opens, term-closes}
 use Rattle.theory.specs.Shape.Forms.{FormInShape, form-gathered, within-given}
 use Rattle.theory.specs.Shape.Letters.{Known, letters-known, known-letters}
 use Rattle.theory.specs.Rules.Table.{by-rule, ruleTerms, stepTerms-rule}
-use Rattle.theory.specs.Rules.Steps.{StepShape, step-opens, step-closes, Agreeing, agreeing}
-use Rattle.theory.specs.Shortening.Masks.{Masked, MaskFor, mask-for}
+use Rattle.theory.specs.Rules.Steps.{step-closes, step-taken, Admitted, step-admitted}
+use Rattle.theory.specs.Shortening.Masks.{Masked, mask-between}
 use Rattle.theory.specs.Shortening.Candidates.{blockSize, inRuleOrder, blockIsFirst, pool, candidate, gain, isCandidate, NoCandidate}
 use Rattle.theory.specs.Shortening.Symmetries.{adds, Same, InBlocks, into-blocks, block-strict, others-strict}
 use Rattle.theory.specs.Shortening.Saved.{unit, after, after-same, Saved, saved, Divides, divided}
@@ -69,45 +69,17 @@ turned-shape e m h t =
       fits = o .fits;
     })
 
--- letters that ascend strictly pass the test
-strict-ascend : (l : List ℕ) → Strict l → T (ascend ltb l)
-unfolding ascend
-strict-ascend [] h = tt
-strict-ascend (x ∷ []) h = tt
-strict-ascend (x ∷ y ∷ l) h = and-both (ltb x y) (ascend ltb (y ∷ l)) (lt→ltb x y (h .0)) (strict-ascend (y ∷ l) (h .1))
-
 five-both : (a b c d e : Bool) → T a → T b → T c → T d → T e → T (a && b && c && d && e)
 five-both a b c d e ta tb tc td te = and-both (a && b && c && d) e (and-both (a && b && c) d (and-both (a && b) c (and-both a b ta tb) tc) td) te
 
--- what is known of an admissible step
-record Admitted (table : List ℕ) (f : Form) (s : Step) (g : Form) : Type 0 where
-  shape : StepShape s
-  known : testStepLetters table s ≡ given tt
-  taken : takeStep f s ≡ given g
-  agree : Agreeing f s
-  reaches : g .terms ≡ gather (f .terms ++ stepTerms s)
-
-admitted : (table : List ℕ) (f : Form) (s : Step) (g : Form) → stepAt table f s ≡ given g → Admitted table f s g
-unfolding stepAt takeStep
-admitted table f s g e =
-    let w₁ = required (stepInShape s) 11 _ g e in
-    let w₂ = tested (testStepLetters table s) (takeStep f s) g (w₁ .1) in
-    let w₃ = required (stepKindsFit f s) 6 _ g (w₂ .1) in
-    let w₄ = required (leb (vectorLetters (s .m) + ruleLetters (s .rule)) 6) 8 _ g (w₃ .1) in
-    record {
-      shape = step-opens s (w₁ .0);
-      known = w₂ .0;
-      taken = w₂ .1;
-      agree = agreeing f s (w₃ .0);
-      reaches = ap (λ (g : Form). g .terms) (within-given (f .kind) (gather (f .terms ++ stepTerms s)) g (w₄ .1) .is);
-    }
-
 module _ (table : List ℕ) (f : Form) (inShape : FormInShape f) (s : Step) (g : Form) (e : stepAt table f s ≡ given g) where
+  -- its rule
   abbrev r : ℕ
   r = s .rule
 
+  -- what its tests say
   a : Admitted table f s g
-  a = admitted table f s g e
+  a = step-admitted table f s g e
 
   -- the step's letters, the block first
   abbrev w : List ℕ
@@ -121,7 +93,7 @@ module _ (table : List ℕ) (f : Form) (inShape : FormInShape f) (s : Step) (g :
     abbrev other : Step
     other = record { rule = r; letters = inRuleOrder r v; m = scaled (q .sign) (s .m) }
 
-    other-after : after (f .terms) (form-gathered f inShape) other ≡ after (f .terms) (form-gathered f inShape) s
+    other-after : after (f .terms) other ≡ after (f .terms) s
     other-after = after-same (f .terms) (form-gathered f inShape) s w v (order-back r (a .shape .rule) (s .letters)) q
 
     other-long : length v ≡ ruleLetters r
@@ -145,40 +117,38 @@ module _ (table : List ℕ) (f : Form) (inShape : FormInShape f) (s : Step) (g :
     other-admitted =
         passes (stepInShape other) 11 _
         (step-closes other (record { rule = a .shape .rule; long = order-long r (a .shape .rule) v other-long; m = turned-shape (q .sign) (s .m) (q .unit) (a .shape .m) }))
-        ∙ ap (λ r. r >> takeStep f other) other-known ∙ other-taken ∙ a .taken
+        ∙ ap (λ r. r >> takeStep f other) other-known ∙ other-taken ∙ a .takes
 
   -- ════ the candidate
 
   module _ (fewer : length (g .terms) < length (f .terms)) where
+    -- the step's letters in ascending blocks
     abbrev b : InBlocks r w
     b = into-blocks r (a .shape .rule) w long
 
-    -- the step with its letters in blocks
+    -- as one list
     abbrev v : List ℕ
     v = b .block ++ b .others
 
-    abbrev s′ : Step
-    s′ = other v (b .alike)
+    shorter : length (after (f .terms) (other v (b .alike))) < length (f .terms)
+    shorter =
+        let reached = within-given (f .kind) (gather (f .terms ++ stepTerms s)) g (step-taken f s g (a .takes) .gathers) in
+        subst (λ (l : List Term). length l < length (f .terms)) (ap (λ (g : Form). g .terms) (reached .is) ∙ sym (other-after v (b .alike))) fewer
 
-    -- the term that it takes away
-    gone : Saved (f .terms) (form-gathered f inShape) s′ v
-    gone = saved (f .terms) (form-gathered f inShape) s′ v refl (subst (λ (l : List Term). length l < length (f .terms)) (a .reaches ∙ sym (other-after v (b .alike))) fewer)
+    gone : Saved (f .terms) (form-gathered f inShape) (other v (b .alike)) v
+    gone = saved (f .terms) (form-gathered f inShape) (other v (b .alike)) v refl shorter
 
+    -- the term that the step takes away
     abbrev t : Term
     t = termAt (f .terms) (gone .at)
 
     parts : Divides t (s .m) r v
-    parts = divided f s (a .agree) (term-opens (s .m) (a .shape .m) .inOrder) v t (a .shape .rule) (other-long v (b .alike)) (gone .alive)
+    parts = divided f s (step-taken f s g (a .takes) .agree) (term-opens (s .m) (a .shape .m) .inOrder) v t (a .shape .rule) (other-long v (b .alike)) (gone .alive)
 
-    -- the mask over the letters left
     picked : Masked (pool t (parts .mask) r) (b .block) (b .others)
     picked =
-        let k : MaskFor nat-laws (b .others) (b .block) = mask-for nat-laws (b .others) (b .block) in
-        let whole : sorted order (b .others ++ b .block) ≡ pool t (parts .mask) r = sorted-reordered nat-laws (reordered-turned (b .others) (b .block)) ∙ sym (parts .isPool) in
-        let rest : k .others ≡ b .others = sym (O.sort-asc nat-laws (k .others) (k .ascend)) ∙ sorted-reordered nat-laws (k .order) ∙ O.sort-asc nat-laws (b .others) (b .othersAscend) in
-        subst (λ (l : List ℕ). Masked l (b .block) (b .others)) whole
-        (subst (λ (l : List ℕ). Masked (sorted order (b .others ++ b .block)) l (b .others)) (O.sort-asc nat-laws (b .block) (b .blockAscends))
-        (subst (Masked (sorted order (b .others ++ b .block)) (sorted order (b .block))) rest (k .by)))
+        subst (λ (l : List ℕ). Masked l (b .block) (b .others)) (sym (parts .isPool))
+        (mask-between nat-laws v (b .others) (b .block) (reordered-turned (b .block) (b .others)) (b .blockAscends) (b .othersAscend))
 
     candidate-is : (c : ℤ) → candidate t (parts .mask) r (picked .mask) c ≡ record { rule = r; letters = inRuleOrder r v; m = withCoef c (s .m) }
     unfolding candidate

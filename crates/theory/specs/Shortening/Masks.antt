@@ -1,5 +1,5 @@
--- Masks: of two lists joined and sorted, some mask takes the one, sorted, and leaves the other in its ascending order. Assumes nothing.
-use mathlib.Core.Path.{_≡_, refl}
+-- Masks: of two lists joined and sorted, some mask takes the one, where it ascends, and leaves the other in ascending order. Assumes nothing.
+use mathlib.Core.Path.{_≡_, refl, sym, _∙_, subst}
 use mathlib.Core.Bool.{Bool, true, false}
 use mathlib.Core.List.{List, [], _∷_, _++_}
 use Prim.Native.Nat.{ℕ, _+_, _*_, _/_, _%_, _^_, _<_, Ordering}
@@ -11,7 +11,7 @@ use Rattle.specification.specs.Results.{if_then_else_}
 use Rattle.specification.specs.Lists.{isNotMore, putInto, sorted}
 use Rattle.theory.specs.Order.{Laws}
 use Rattle.theory.specs.Sorting as O
-use Rattle.theory.specs.Reordering.{Reordered, same, exchanged, behind, further}
+use Rattle.theory.specs.Reordering.{Reordered, same, exchanged, behind, further, sorted-reordered}
 
 module _ {A : Type 0} where
   -- the elements whose bit in the mask stands, the first with bit 0
@@ -101,14 +101,26 @@ module _ {A : Type 0} {cmp : A → A → Ordering} {Lt : A → A → Type 0} (L 
   others-ascend (takes p) a = others-ascend p (a .1)
   others-ascend (leaves {x = x} p) a = (others-from x p (a .0) (a .1), others-ascend p (a .1))
 
-  -- a mask over the joined and sorted lists that takes s, sorted, and leaves the others
-  pub record MaskFor (c s : List A) : Type 0 where
+  -- a mask over a list that takes s, and leaves what ascends and is c in another order
+  pub record MaskFor (l s c : List A) : Type 0 where
     pub others : List A
-    pub by : Masked (sorted cmp (c ++ s)) (sorted cmp s) others
+    pub by : Masked l s others
     pub order : Reordered others c
     pub ascend : O.Asc L others
 
-  pub mask-for : (c s : List A) → MaskFor c s
-  mask-for c s =
+  -- the sorted list of c and s, where s ascends
+  pub mask-for : (l c s : List A) → Reordered l (c ++ s) → O.Asc L s → MaskFor (sorted cmp l) s c
+  mask-for l c s r a =
       let w = apart-sorted cmp c s in
-      record { others = w .0; by = masked (w .1); order = w .2; ascend = others-ascend (w .1) (O.asc-sort L (c ++ s)) }
+      record {
+        others = w .0;
+        by = subst (λ (k : List A). Masked k s (w .0)) (sym (sorted-reordered L r)) (subst (λ (k : List A). Masked (sorted cmp (c ++ s)) k (w .0)) (O.sort-asc L s a) (masked (w .1)));
+        order = w .2;
+        ascend = others-ascend (w .1) (O.asc-sort L (c ++ s));
+      }
+
+  -- and where c ascends too
+  pub mask-between : (l c s : List A) → Reordered l (c ++ s) → O.Asc L s → O.Asc L c → Masked (sorted cmp l) s c
+  mask-between l c s r a b =
+      let k : MaskFor (sorted cmp l) s c = mask-for l c s r a in
+      subst (Masked (sorted cmp l) s) (sym (O.sort-asc L (k .others) (k .ascend)) ∙ sorted-reordered L (k .order) ∙ O.sort-asc L c b) (k .by)

@@ -20,7 +20,7 @@ use Rattle.theory.specs.Elements.{All, all-map, all-at, both-all}
 use Rattle.theory.specs.Order.{Monomial, monomial, letters-laws, nat-laws}
 use Rattle.theory.specs.Reordering.{Reordered, same, further, reordered-back, reordered-behind, reordered-before, reordered-turned, reordered-joined, reordered-map, reordered-sorted, sorted-reordered}
 use Rattle.theory.specs.Signs.{strict-sorted}
-use Rattle.theory.specs.Gathering.Tidy.{InOrder, in-order-factors}
+use Rattle.theory.specs.Gathering.Tidy.{InOrder, in-order-map}
 use Rattle.theory.specs.Gathering.Weights.{weigh, weigh-append, scaled}
 use Rattle.theory.specs.Gathering.Coefficients.{only, coeff, termAt, coeff-at, shorter-lacks, coeff-found}
 use Rattle.theory.specs.Gathering.Gathered.{Gathered, gather-asc, gather-gathered, gathered-known, gather-coefficient, map-tidied}
@@ -101,12 +101,12 @@ times-unit n m (u ∷ us) =
 abbrev pub Spells : Step → List ℕ → Type 0
 Spells s w = ruleTerms (s .rule) (s .letters) ≡ ruleTerms (s .rule) (inRuleOrder (s .rule) w)
 
-module _ (fs : List Term) (standing : Gathered fs) where
-  -- the terms that a step leads to
-  abbrev pub after : Step → List Term
-  after s = gather (fs ++ stepTerms s)
+-- the terms that a step leads to
+abbrev pub after : List Term → Step → List Term
+after fs s = gather (fs ++ stepTerms s)
 
-  after-coeff : (s : Step) (w : List ℕ) → Spells s w → (n : Monomial) → coeff n (after s) ≡ coeff n fs +ℤ s .m .coef *ℤ adds (s .rule) (unit (s .m)) n w
+module _ (fs : List Term) (standing : Gathered fs) where
+  after-coeff : (s : Step) (w : List ℕ) → Spells s w → (n : Monomial) → coeff n (after fs s) ≡ coeff n fs +ℤ s .m .coef *ℤ adds (s .rule) (unit (s .m)) n w
   after-coeff s w e n =
       gather-coefficient n (fs ++ stepTerms s) ∙ ap (coeff n) (map-append tidy fs (stepTerms s)) ∙ weigh-append (only n) (map tidy fs) (map tidy (stepTerms s))
       ∙ (λ i. coeff n (map-tidied fs (standing .tidied) i) +ℤ coeff n (map tidy ((stepTerms-rule s ∙ ap (map (timesTerm (s .m))) e) i)))
@@ -114,10 +114,10 @@ module _ (fs : List Term) (standing : Gathered fs) where
 
   -- a step with letters that the rule takes for the same, and M's sign turned with it, leads to the same terms
   pub after-same : (s : Step) (w v : List ℕ) → Spells s w → (q : Same (s .rule) w v)
-      → after (record { rule = s .rule; letters = inRuleOrder (s .rule) v; m = scaled (q .sign) (s .m) }) ≡ after s
+      → after fs (record { rule = s .rule; letters = inRuleOrder (s .rule) v; m = scaled (q .sign) (s .m) }) ≡ after fs s
   after-same s w v e q =
       let s′ : Step = record { rule = s .rule; letters = inRuleOrder (s .rule) v; m = scaled (q .sign) (s .m) } in
-      gathered-known (after s′) (after s) (gather-gathered (fs ++ stepTerms s′)) (gather-gathered (fs ++ stepTerms s))
+      gathered-known (after fs s′) (after fs s) (gather-gathered (fs ++ stepTerms s′)) (gather-gathered (fs ++ stepTerms s))
       (λ n. after-coeff s′ v refl n ∙ ap (λ (z : ℤ). coeff n fs +ℤ z) (squared n) ∙ sym (after-coeff s w e n))
     where
       squared : (n : Monomial) → (q .sign *ℤ s .m .coef) *ℤ adds (s .rule) (unit (s .m)) n v ≡ s .m .coef *ℤ adds (s .rule) (unit (s .m)) n w
@@ -135,9 +135,9 @@ module _ (fs : List Term) (standing : Gathered fs) where
     pub exact : s .m .coef *ℤ adds (s .rule) (unit (s .m)) (monomial (termAt fs at)) w ≡ negℤ (termAt fs at .coef)
     pub alive : NonZero (adds (s .rule) (unit (s .m)) (monomial (termAt fs at)) w)
 
-  pub saved : (s : Step) (w : List ℕ) → Spells s w → length (after s) < length fs → Saved s w
+  pub saved : (s : Step) (w : List ℕ) → Spells s w → length (after fs s) < length fs → Saved s w
   saved s w e fewer =
-      let l = shorter-lacks fs (after s) (standing .ascending) (gather-asc (fs ++ stepTerms s)) fewer in
+      let l = shorter-lacks fs (after fs s) (standing .ascending) (gather-asc (fs ++ stepTerms s)) fewer in
       let t : Term = termAt fs (l .at) in
       let a : ℤ = adds (s .rule) (unit (s .m)) (monomial t) w in
       let gone : s .m .coef *ℤ a ≡ negℤ (t .coef) =
@@ -181,14 +181,12 @@ module _ (f : Form) (s : Step) (agree : Agreeing f s) (inOrder : InOrder (monomi
       → Divides t (s .m) (s .rule) w
   unfolding tidy timesTerm multiplier pool
   divided-by u b q =
-      let each : List (List ℕ) → List (List ℕ) = map (sorted order) in
-      let k : MaskFor letters-laws (each (u .factors)) (each (s .m .factors)) = mask-for letters-laws (each (u .factors)) (each (s .m .factors)) in
-      let whole : sorted compareLetters (each (u .factors) ++ each (s .m .factors)) ≡ t .factors =
-      sorted-reordered letters-laws (reordered-turned (each (u .factors)) (each (s .m .factors)))
-      ∙ sym (ap (λ (n : Monomial). n .1) q ∙ ap (sorted compareLetters) (map-append (sorted order) (s .m .factors) (u .factors))) in
-      let own : sorted compareLetters (each (s .m .factors)) ≡ s .m .factors = in-order-factors (s .m .factors) (inOrder .each) (inOrder .order) in
-      let by : Masked (t .factors) (s .m .factors) (k .others) =
-      subst (λ (l : List (List ℕ)). Masked l (s .m .factors) (k .others)) whole (subst (λ (l : List (List ℕ)). Masked (sorted compareLetters (each (u .factors) ++ each (s .m .factors))) l (k .others)) own (k .by)) in
+      let own : List (List ℕ) = s .m .factors in
+      let other : List (List ℕ) = map (sorted order) (u .factors) in
+      let apart : map (sorted order) (own ++ u .factors) ≡ own ++ other = map-append (sorted order) own (u .factors) ∙ ap (λ (l : List (List ℕ)). l ++ other) (in-order-map own (inOrder .each)) in
+      let k : MaskFor letters-laws (sorted compareLetters (map (sorted order) (own ++ u .factors))) own other =
+      mask-for letters-laws (map (sorted order) (own ++ u .factors)) other own (subst (λ (l : List (List ℕ)). Reordered l (other ++ own)) (sym apart) (reordered-turned own other)) (inOrder .order) in
+      let by : Masked (t .factors) own (k .others) = subst (λ (l : List (List ℕ)). Masked l own (k .others)) (sym (ap (λ (n : Monomial). n .1) q)) (k .by) in
       let p = parts-divided f s agree (ruleLetters (s .rule)) t u (b .1) (strict-sorted (s .m .part) (inOrder .part)) (ap (λ (n : Monomial). n .0) q) in
       record {
         mask = by .mask;
