@@ -25,7 +25,7 @@ blockSize r = if eqb r 2 then 4 else if eqb r 3 then 4 else 3
 unfoldable pub inRuleOrder : (rule : ℕ) (letters : List ℕ) → List ℕ
 inRuleOrder r w = if eqb r 3 then getD w 0 0 ∷ getD w 1 0 ∷ getD w 2 0 ∷ getD w 4 0 ∷ getD w 3 0 ∷ [] else w
 
--- exchanging the two triples of rule 5 makes no difference: the block has the first letter
+-- in rule 5, whose triples may be exchanged, the block has the first letter
 unfoldable pub blockIsFirst : (rule : ℕ) (block others : List ℕ) → Bool
 blockIsFirst r x y = if eqb r 5 then leb (getD x 0 0) (getD y 0 0) else true
 
@@ -47,7 +47,7 @@ candidate t k r j c = record { rule = r; letters = inRuleOrder r (taken j (pool 
 unfoldable pub gain : (t : Term) (mask rule pick : ℕ) → ℤ
 gain t k r j = coeff (monomial t) (gather (stepTerms (candidate t k r j (pos 1))))
 
--- as many letters as the rule has, a whole block, and all in the one order that is tried
+-- as many letters as the rule has, a whole block, the block and the others strictly ascending, and in rule 5 the block first
 unfoldable pub isCandidate : (t : Term) (mask rule pick : ℕ) → Bool
 isCandidate t k r j =
     let w = pool t k r in
