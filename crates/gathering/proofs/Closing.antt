@@ -10,6 +10,8 @@ use Rattle.specification.specs.Results.{Result, given, refused}
 use Rattle.specification.specs.Lists.{all}
 use Rattle.specification.specs.Terms.{termWithin, within, insert, gather, gatherInto}
 use Rattle.theory.specs.Elements.{All, all-implies}
+use Rattle.theory.specs.Gathering.Coefficients.{Ascending}
+use Rattle.theory.specs.Gathering.Gathered.{insert-asc}
 use Rattle.theory.specs.Shape.Forms.{AllFit, within-given, within-in-shape}
 use Rattle.terms.specs.declared.types.Term.{Term}
 use Rattle.terms.specs.declared.types.Form.{Form}
@@ -38,6 +40,7 @@ brought-from s r t v h c =
         fewer = omega (arith, v .fewer, c .count, c .brought);
         few = omega (arith, c .brought);
         standing = subst (λ (n : ℕ). All (Standing (n + 1)) (held r)) (sym (c .brought)) (c .standing);
+        ascending = subst Ascending (sym (c .is)) (insert-asc (termOf t) (sumOf s) (v .ascending));
       };
       brought = ap (λ (n : ℕ). n + 1) (c .brought);
     }

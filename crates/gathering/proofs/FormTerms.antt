@@ -11,6 +11,8 @@ use Rattle.specification.specs.Lists.{all}
 use Rattle.specification.specs.Terms.{coefWithin, termInShape}
 use Rattle.specification.specs.Terms as S
 use Rattle.theory.specs.Elements.{All, all-T}
+use Rattle.theory.specs.Gathering.Coefficients.{Ascending}
+use Rattle.theory.specs.Shape.Forms.{form-gathered}
 use Rattle.theory.specs.Shape.Terms.{term-opens}
 use Rattle.terms.specs.declared.types.Term.{Term}
 use Rattle.terms.specs.declared.types.Form.{Form}
@@ -41,6 +43,7 @@ held-form f r v n b e =
         fewer = omega (arith, n, b);
         few = omega (arith, b, v .few);
         standing = subst (All (Standing (r .brought))) (sym s) (subst (λ (m : ℕ). All (Standing m) (take (f .count) (f .terms))) (sym b) (go (f .count) (v .counted) (all-T termInShape (map termOf (take (f .count) (f .terms))) (v .inShape .terms))));
+        ascending = subst Ascending (sym (ap (map termOf) s)) (form-gathered (formOf f) (v .inShape) .ascending);
       };
       brought = b;
     }

@@ -1,23 +1,19 @@
--- What the functions do to a sum: a term kept or not, a like term added, a turn of the loop that finds the place. Assumes nothing.
+-- What the functions do to a sum: a term kept or not, a like term added, the coefficients tested, terms copied. Assumes nothing.
 use mathlib.Core.Path.{_≡_, refl, ap, sym, subst, _∙_}
 use mathlib.Core.Bool.{Bool, true, false, _&&_}
 use mathlib.Core.List.{List, [], _∷_, _++_, map}
-use Prim.Native.Nat.{ℕ, zero, suc, _+_, _≤_, _<_, Ordering}
+use Prim.Native.Nat.{ℕ, zero, suc, _+_, _≤_, _<_}
 use native.Mathlib.Numerals.{add-one}
 use native.Mathlib.Omega.{arith}
 use lib.IntN.{ℤ, natAbs, _+ℤ_}
 use lib.ListN.{length, take, drop, getD, set, take-append-drop, length-append, length-drop, drop-of-length-le, length-map}
-use lib.Seq.{drop-cons, take-suc, take-set-lt, set-split, length-take-le, append-snoc, getD-take, take-add, take-suc-set}
-use mir.Syntax.{w64}
-use mir.Val.{SFits}
-use Rattle.algebra.specs.Integers.{natAbs-+ℤ, sfits-natAbs}
-use Rattle.specification.specs.Lists.{byOrder, all}
-use Rattle.specification.specs.Terms.{isZero, keep, insert, withCoef, compareTerms, coefWithin, termWithin}
+use lib.Seq.{drop-cons, take-suc, take-set-lt, set-split, length-take-le, getD-take, take-suc-set}
+use Rattle.algebra.specs.Integers.{natAbs-+ℤ}
+use Rattle.specification.specs.Lists.{all}
+use Rattle.specification.specs.Terms.{isZero, keep, withCoef, coefWithin, termWithin}
 use Rattle.theory.specs.Elements.{All, all-append, all-implies}
 use Rattle.terms.specs.declared.types.Term.{Term}
-use Rattle.terms.specs.declared.order.Order.{Order}
-use Rattle.terms.specs.declared.order.Order.the-variants.{Less, Equal, Greater}
-use Rattle.terms.specs.Abstraction.{termOf, orderingOf, Counted}
+use Rattle.terms.specs.Abstraction.{termOf, Counted}
 use Rattle.gathering.specs.declared.Sum.{Sum}
 use Rattle.gathering.specs.Sums.{held, sumOf, addedTo, Standing, SumValid, Held, Changed}
 use Rattle.specification.specs.Terms as S
@@ -105,10 +101,6 @@ stands-at s i d v h k =
 pub standing-small : (b : ℕ) (t : Term) → b ≤ 96 → Standing b t → natAbs (t .coef) ≤ 206158430112
 standing-small b t h s = omega (arith, s .light)
 
--- so it is read back as it was stored
-pub standing-fits : (b : ℕ) (t : Term) → b ≤ 96 → Standing b t → SFits w64 (t .coef)
-standing-fits b t h s = sfits-natAbs (t .coef) (omega (arith, standing-small b t h s))
-
 -- one more brought in
 more : (b : ℕ) (t : Term) → Standing b t → Standing (b + 1) t
 more b t s = record { counted = s .counted; light = omega (arith, s .light) }
@@ -169,7 +161,8 @@ kept-some s r i t b v k c l e p h =
 
 -- ════ a like term added
 
-added-at : (t u : S.Term) (us : List S.Term) → addedTo t (u ∷ us) ≡ keep (withCoef (t .coef +ℤ u .coef) u) us
+-- a term added to the first of some
+pub added-at : (t u : S.Term) (us : List S.Term) → addedTo t (u ∷ us) ≡ keep (withCoef (t .coef +ℤ u .coef) u) us
 unfolding addedTo
 added-at t u us = refl
 
@@ -234,51 +227,6 @@ module _ (s : Sum) (i : ℕ) (t d : Term) (z : ℤ) (b : Bool) (v : SumValid s) 
             (all-append (Standing (s .brought + 1)) (take i (held s)) (u ∷ drop (i + 1) (held s)) (all-take (Standing (s .brought + 1)) i (held s) (still s v))
             (grown l, all-drop (Standing (s .brought + 1)) (i + 1) (held s) (still s v)));
       }
-
--- ════ the loop that finds the place
-
-orders : (o p : Order) (t u : S.Term) → orderingOf o ≡ compareTerms t u → o ≡ p → compareTerms t u ≡ orderingOf p
-orders o p t u q e = sym q ∙ ap orderingOf e
-
-insert-first : (t u : S.Term) (us : List S.Term) → insert t (u ∷ us) ≡ byOrder (compareTerms t u) (keep t (u ∷ us)) (keep (withCoef (t .coef +ℤ u .coef) u) us) (u ∷ insert t us)
-unfolding insert
-insert-first t u us = refl
-
--- at the place i: the term x, and what the comparison found
-module _ (t : S.Term) (l : List S.Term) (i : ℕ) (x : S.Term) (w : drop i l ≡ x ∷ drop (i + 1) l) (inv : insert t l ≡ take i l ++ insert t (drop i l))
-    (o : Order) (q : orderingOf o ≡ compareTerms t x) where
-  found : (p : Order) → o ≡ p
-      → insert t l ≡ take i l ++ byOrder (orderingOf p) (keep t (x ∷ drop (i + 1) l)) (keep (withCoef (t .coef +ℤ x .coef) x) (drop (i + 1) l)) (x ∷ insert t (drop (i + 1) l))
-  found p e =
-      inv ∙ ap (λ (k : List S.Term). take i l ++ k) (ap (insert t) w ∙ insert-first t x (drop (i + 1) l)
-      ∙ ap (λ (z : Ordering). byOrder z (keep t (x ∷ drop (i + 1) l)) (keep (withCoef (t .coef +ℤ x .coef) x) (drop (i + 1) l)) (x ∷ insert t (drop (i + 1) l))) (orders o p t x q e))
-
-  -- before a greater one the term is kept
-  pub at-less : o ≡ Less → insert t l ≡ take i l ++ keep t (drop i l)
-  unfolding orderingOf
-  at-less e = found Less e ∙ ap (λ (k : List S.Term). take i l ++ keep t k) (sym w)
-
-  -- to a like one it is added
-  pub at-equal : o ≡ Equal → insert t l ≡ take i l ++ addedTo t (drop i l)
-  unfolding orderingOf
-  at-equal e = found Equal e ∙ ap (λ (k : List S.Term). take i l ++ k) (sym (ap (addedTo t) w ∙ added-at t x (drop (i + 1) l)))
-
-  next : take (i + 1) l ≡ take i l ++ (x ∷ [])
-  next = taken-more l i x (drop (i + 1) l) w
-    where
-      taken-more : (l : List S.Term) (i : ℕ) (x : S.Term) (r : List S.Term) → drop i l ≡ x ∷ r → take (i + 1) l ≡ take i l ++ (x ∷ [])
-      taken-more l i x r e = take-add i 1 l ∙ ap (λ (k : List S.Term). take i l ++ take 1 k) e
-
-  -- behind a lesser one the search goes on
-  pub at-greater : o ≡ Greater → insert t l ≡ take (i + 1) l ++ insert t (drop (i + 1) l)
-  unfolding orderingOf
-  at-greater e =
-      found Greater e ∙ sym (append-snoc (take i l) x (insert t (drop (i + 1) l))) ∙ ap (λ (k : List S.Term). k ++ insert t (drop (i + 1) l)) (sym next)
-
--- no term is left to compare with
-pub at-end : (t : S.Term) (l : List S.Term) (n : ℕ) → length l ≤ n → insert t l ≡ take n l ++ insert t (drop n l) → insert t l ≡ take n l ++ keep t (drop n l)
-unfolding insert
-at-end t l n h inv = inv ∙ rw (drop-of-length-le l h)
 
 -- ════ the tests of closing
 

@@ -9,6 +9,7 @@ use Rattle.specification.specs.Lists.{byOrder}
 use Rattle.specification.specs.Terms.{compareTerms, insert, keep, withCoef, gatherInto}
 use Rattle.specification.specs.Terms as S
 use Rattle.theory.specs.Elements.{All}
+use Rattle.theory.specs.Gathering.Coefficients.{Ascending}
 use Rattle.terms.specs.declared.types.Term.{Term}
 use Rattle.terms.specs.declared.types.Form.{Form}
 use Rattle.terms.specs.Abstraction.{termOf, formOf, Counted}
@@ -32,6 +33,7 @@ pub record SumValid (s : Sum) : Type 0 where
   pub fewer : s .count ≤ s .brought
   pub few : s .brought ≤ 96
   pub standing : All (Standing (s .brought)) (held s)
+  pub ascending : Ascending (sumOf s)
 
 -- a sum that now holds these terms
 pub record Held (s : Sum) (ts : List Term) (r : Sum) : Type 0 where

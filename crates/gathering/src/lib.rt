@@ -34,23 +34,6 @@ pub struct Closed {
     pub form: Form,
 }
 
-// The sum without the term at a place, those behind it moved down.
-fn remove_at(s: Sum, i: usize) -> Sum
-    requires { ⌜ (i < s .count) × (s .count ≤ 96) ⌝ }
-    ensures { λ r. ⌜ Held s (take i (held s) ++ drop (i + 1) (held s)) r ⌝ }
-{
-    let mut g = s;
-    let n = g.count;
-    let mut j = i;
-    while j + 1 < n {
-        let u = g.terms[j + 1];
-        g.terms[j] = u;
-        j += 1;
-    }
-    g.count = n - 1;
-    g
-}
-
 // The sum of no terms.
 pub fn empty_sum() -> Sum
     ensures { λ r. ⌜ Empty r ⌝ }
@@ -89,22 +72,6 @@ pub fn holding(f: Form) -> Sum
     s
 }
 
-// A like term added to the one at a place; a sum of 0 takes it out.
-fn add_at(s: Sum, i: usize, t: Term) -> Sum
-    requires { ⌜ SumValid s × (s .brought < 96) × (i < s .count) × Counted t × (natAbs (t .coef) ≤ 2147483647) ⌝ }
-    ensures { λ r. ⌜ Changed s (take i (sumOf s) ++ addedTo (termOf t) (drop i (sumOf s))) r ⌝ }
-{
-    let mut u = s.terms[i];
-    let sum = add(t.coef, u.coef);
-    if is_zero(sum) {
-        return remove_at(s, i);
-    }
-    u.coef = sum;
-    let mut g = s;
-    g.terms[i] = u;
-    g
-}
-
 // Whether a term comes behind another.
 fn comes_behind(t: Term, u: Term) -> bool
     requires { ⌜ Counted t × Counted u ⌝ }
@@ -132,8 +99,8 @@ fn are_like(t: Term, u: Term) -> bool
 }
 
 // So many terms with their letters and factors in any order brought into a sum, one after the other.
-pub fn bring_all(s: Sum, ts: [Term; 96], n: usize) -> Sum
-    requires { ⌜ SumValid s × (s .brought + n ≤ 96) × All Bringable (take n ts) ⌝ }
+pub fn bring_all(s: Sum, ts: [Term; 16], n: usize) -> Sum
+    requires { ⌜ SumValid s × (s .brought + n ≤ 96) × (n ≤ 16) × All Bringable (take n ts) ⌝ }
     ensures { λ r. ⌜ AllBrought s (take n ts) n r ⌝ }
 {
     let mut g = s;
@@ -144,20 +111,34 @@ pub fn bring_all(s: Sum, ts: [Term; 96], n: usize) -> Sum
         k += 1;
         let b = g.brought + 1;
         let m = g.count;
-        let mut i: usize = 0;
-        let mut e = m;
-        while i < e {
+        let mut low: usize = 0;
+        let mut high = m;
+        while low < high {
+            let i = (low + high) / 2;
             let u = g.terms[i];
             if comes_behind(t, u) {
-                i += 1;
+                low = i + 1;
             } else {
-                e = i;
+                high = i;
             }
         }
-        if i < m {
-            let u = g.terms[i];
+        if low < m {
+            let mut u = g.terms[low];
             if are_like(t, u) {
-                g = add_at(g, i, t);
+                let sum = add(t.coef, u.coef);
+                if is_zero(sum) {
+                    let mut j = low;
+                    while j + 1 < m {
+                        let v = g.terms[j + 1];
+                        g.terms[j] = v;
+                        j += 1;
+                    }
+                    g.count = m - 1;
+                    g.brought = b;
+                    continue;
+                }
+                u.coef = sum;
+                g.terms[low] = u;
                 g.brought = b;
                 continue;
             }
@@ -167,12 +148,12 @@ pub fn bring_all(s: Sum, ts: [Term; 96], n: usize) -> Sum
             continue;
         }
         let mut j = m;
-        while j > i {
+        while j > low {
             let u = g.terms[j - 1];
             g.terms[j] = u;
             j -= 1;
         }
-        g.terms[i] = t;
+        g.terms[low] = t;
         g.count = m + 1;
         g.brought = b;
     }

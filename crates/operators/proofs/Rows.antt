@@ -17,6 +17,7 @@ use Rattle.specification.specs.Terms as S
 use Rattle.specification.specs.Reduction.{pairTerms, pairsOf, pairLettersFit, pairCoefFits}
 use Rattle.theory.specs.Elements.{All, all-T, all-append}
 use Rattle.theory.specs.Order.{monomial}
+use Rattle.theory.specs.Gathering.Gathered.{into-join}
 use Rattle.theory.specs.Shape.Terms.{Fits, no-part}
 use Rattle.theory.specs.Shape.Forms.{form-fits}
 use Rattle.terms.specs.declared.types.Term.{Term}
@@ -25,7 +26,7 @@ use Rattle.terms.specs.Abstraction.{partOf, termOf, formOf}
 use Rattle.terms.specs.Valid.{FormValid}
 use Rattle.terms.proofs.Arrays.{noTerm}
 use Rattle.gathering.specs.declared.Sum.{Sum}
-use Rattle.gathering.specs.Sums.{Bringable, Empty, AllBrought}
+use Rattle.gathering.specs.Sums.{sumOf, SumValid, Bringable, Empty, AllBrought}
 use Rattle.operators.specs.declared.parts.Few.{Few}
 use Rattle.operators.specs.declared.parts.Operation.{Operation}
 use Rattle.operators.specs.declared.parts.Operation.the-variants.{Times, Dot, Wedge}
@@ -181,16 +182,14 @@ module _ (op : Operation) (f g : Form) (vf : FormValid f) (vg : FormValid g) (hf
   }
 
   -- and its terms stand behind those before
-  pub pair-listed : (l : List Term) (few : Few) → map termOf l ≡ upTo op (formOf f .terms) (formOf g .terms) k
-      → PairMade op (getD (f .terms) (k / g .count) noTerm) (getD (g .terms) (k % g .count) noTerm) few
-      → map termOf (l ++ take (few .count) (few .first ∷ few .second ∷ [])) ≡ upTo op (formOf f .terms) (formOf g .terms) (k + 1)
-  unfolding left right listOf
-  pair-listed l few e b =
-      map-append termOf l (take (few .count) (few .first ∷ few .second ∷ []))
-      ∙ (λ i. e i ++ (b .is ∙ ap (pairTerms (partsOf op)) (sym the-pair)) i)
-      ∙ sym (next-pair op (formOf f .terms) (formOf g .terms) k inside)
+  pub pair-listed : (few : Few) → PairMade op (getD (f .terms) (k / g .count) noTerm) (getD (g .terms) (k % g .count) noTerm) few
+      → upTo op (formOf f .terms) (formOf g .terms) (k + 1) ≡ upTo op (formOf f .terms) (formOf g .terms) k ++ listOf few
+  unfolding left right
+  pair-listed few b =
+      next-pair op (formOf f .terms) (formOf g .terms) k inside
+      ∙ ap (λ (l : List S.Term). upTo op (formOf f .terms) (formOf g .terms) k ++ l) (ap (pairTerms (partsOf op)) the-pair ∙ sym (b .is))
 
--- ════ the terms of pairs in a list
+-- ════ the terms of pairs, in a sum and in a list
 
 -- two terms stored behind others, of which so many count
 two-stored : {A : Type 0} (l : List A) (c z : ℕ) (x y : A) → z ≤ 2 → c + 1 < length l → take (c + z) (set (set l c x) (c + 1) y) ≡ take c l ++ take z (x ∷ y ∷ [])
@@ -214,41 +213,56 @@ few-bringable few h a b = go (few .count) h
     go (suc (suc zero)) g = (a, (b, tt))
     go (suc (suc (suc n))) g = absurd (omega arith)
 
--- the terms of the first k pairs in a list of 96
-pub record Listed (op : Operation) (f g : Form) (k : ℕ) (ts : List Term) (count : ℕ) : Type 0 where
-  pub few : count ≤ 2 * k
-  pub places : length ts ≡ 96
+-- the terms of the first k pairs: some gathered in a sum, the others in a list of 16
+pub record Listed (op : Operation) (f g : Form) (k : ℕ) (s : Sum) (ts : List Term) (count : ℕ) : Type 0 where
+  pub valid : SumValid s
+  pub few : s .brought + count ≤ 2 * k
+  pub room : count ≤ 16
+  pub places : length ts ≡ 16
   pub bringable : All Bringable (take count ts)
-  pub is : map termOf (take count ts) ≡ upTo op (formOf f .terms) (formOf g .terms) k
+  pub is : gatherInto (sumOf s) (map termOf (take count ts)) ≡ gather (upTo op (formOf f .terms) (formOf g .terms) k)
 
 -- none yet
-pub listed-none : (op : Operation) (f g : Form) (ts : List Term) → length ts ≡ 96 → Listed op f g 0 ts 0
-unfolding flatMap
-listed-none op f g ts h = record { few = omega arith; places = h; bringable = tt; is = refl }
+pub listed-none : (op : Operation) (f g : Form) (s : Sum) (ts : List Term) → length ts ≡ 16 → Empty s → Listed op f g 0 s ts 0
+unfolding flatMap gatherInto gather
+listed-none op f g s ts h z = record { valid = z .valid; few = omega (arith, z .brought); room = omega arith; places = h; bringable = tt; is = z .is }
 
 -- one pair more
 pub listed-more : (op : Operation) (f g : Form) (vf : FormValid f) (vg : FormValid g) (hf : f .count ≤ length (f .terms)) (hg : g .count ≤ length (g .terms))
-    (k : ℕ) (h : k < f .count * g .count) (ts : List Term) (count : ℕ) (few : Few) → k < 48 → Listed op f g k ts count
+    (k : ℕ) (h : k < f .count * g .count) (s : Sum) (ts : List Term) (count : ℕ) (few : Few) → count ≤ 14 → Listed op f g k s ts count
     → PairMade op (getD (f .terms) (k / g .count) noTerm) (getD (g .terms) (k % g .count) noTerm) few
-    → Listed op f g (k + 1) (set (set ts count (few .first)) (count + 1) (few .second)) (count + few .count)
-listed-more op f g vf vg hf hg k h ts count few n w b =
+    → Listed op f g (k + 1) s (set (set ts count (few .first)) (count + 1) (few .second)) (count + few .count)
+unfolding listOf gather
+listed-more op f g vf vg hf hg k h s ts count few n w b =
     let e : take (count + few .count) (set (set ts count (few .first)) (count + 1) (few .second)) ≡ take count ts ++ take (few .count) (few .first ∷ few .second ∷ []) =
-    two-stored ts count (few .count) (few .first) (few .second) (b .few) (omega (arith, w .few, w .places)) in
+    two-stored ts count (few .count) (few .first) (few .second) (b .few) (omega (arith, w .places)) in
     record {
+      valid = w .valid;
       few = omega (arith, w .few, b .few);
+      room = omega (arith, b .few);
       places = simp length-set (w .places);
       bringable = rw e (all-append Bringable (take count ts) (take (few .count) (few .first ∷ few .second ∷ [])) (w .bringable) (few-bringable few (b .few) (b .first) (b .second)));
-      is = rw e (pair-listed op f g vf vg hf hg k h (take count ts) few (w .is) b);
+      is = ap (λ (l : List Term). gatherInto (sumOf s) (map termOf l)) e
+          ∙ ap (gatherInto (sumOf s)) (map-append termOf (take count ts) (take (few .count) (few .first ∷ few .second ∷ [])))
+          ∙ into-join (sumOf s) (map termOf (take count ts)) (listOf few)
+          ∙ ap (λ (d : List S.Term). gatherInto d (listOf few)) (w .is)
+          ∙ sym (into-join [] (upTo op (formOf f .terms) (formOf g .terms) k) (listOf few))
+          ∙ ap (gatherInto []) (sym (pair-listed op f g vf vg hf hg k h few b));
     }
 
--- all pairs, gathered
+-- the listed ones gathered too
+pub listed-brought : (op : Operation) (f g : Form) (k : ℕ) (s r : Sum) (ts : List Term) (count : ℕ) → Listed op f g k s ts count → AllBrought s (take count ts) count r → Listed op f g k r ts 0
+unfolding gatherInto
+listed-brought op f g k s r ts count w b =
+    record { valid = b .valid; few = omega (arith, w .few, b .brought); room = omega arith; places = w .places; bringable = tt; is = b .is ∙ w .is }
+
+-- all pairs
 pub listed-all : (op : Operation) (f g : Form) (s r : Sum) (k : ℕ) (ts : List Term) (count : ℕ) → f .count ≤ length (f .terms) → g .count ≤ length (g .terms) → f .count * g .count ≤ k
-    → Empty s → Listed op f g k ts count → AllBrought s (take count ts) count r → PairsBrought op f g r
-unfolding gather
-listed-all op f g s r k ts count hf hg h z w b =
+    → Listed op f g k s ts count → AllBrought s (take count ts) count r → PairsBrought op f g r
+listed-all op f g s r k ts count hf hg h w b =
     let n : length (pairsOf (formOf f .terms) (formOf g .terms)) ≤ k =
     subst (λ (n : ℕ). n ≤ k) (sym (pairs-length (formOf f .terms) (formOf g .terms) ∙ (λ i. form-length f hf i * form-length g hg i))) h in
     record {
-      is = b .is ∙ (λ i. gatherInto (z .is i) (w .is i)) ∙ ap (λ (l : List (S.Term × S.Term)). gatherInto [] (flatMap (pairTerms (partsOf op)) l)) (take-all k (pairsOf (formOf f .terms) (formOf g .terms)) n);
+      is = b .is ∙ w .is ∙ ap (λ (l : List (S.Term × S.Term)). gather (flatMap (pairTerms (partsOf op)) l)) (take-all k (pairsOf (formOf f .terms) (formOf g .terms)) n);
       valid = b .valid;
     }

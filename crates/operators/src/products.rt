@@ -69,18 +69,24 @@ fn pair_terms(op: Operation, t: Term, u: Term) -> Few
     }
 }
 
-// The terms of all pairs, gathered.
+// The terms of all pairs, gathered, up to 16 at a time.
 fn bring_pairs(op: Operation, f: Form, g: Form) -> Sum
     requires { ⌜ FormValid f × FormValid g × PairsFit op f g ⌝ }
     ensures { λ r. ⌜ PairsBrought op f g r ⌝ }
 {
     let m = g.count;
     let n = f.count * m;
-    let s = empty_sum();
-    let mut ts = s.terms;
+    let mut s = empty_sum();
+    let blank = s.terms[0];
+    let mut ts = [blank; 16];
     let mut count: usize = 0;
     let mut k: usize = 0;
     while k < n {
+        if count > 14 {
+            s = bring_all(s, ts, count);
+            count = 0;
+            continue;
+        }
         let t = f.terms[k / m];
         let u = g.terms[k % m];
         let few = pair_terms(op, t, u);
