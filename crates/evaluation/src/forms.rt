@@ -47,7 +47,7 @@ fn factors_value(s: &[u8], t: Term) -> i64
     requires { ⌜ (all sixOrLess (now s) ≡ true) × TermValid t ⌝ }
     ensures { λ r. ⌜ r ≡ factorsValue (assignment (now (s .entry))) (termOf t .factors) ⌝ }
 {
-    let mut i = t.factor_count;
+    let mut i = t.factor_count as usize;
     let mut v: i64 = 1;
     while i > 0 {
         i -= 1;

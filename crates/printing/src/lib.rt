@@ -100,7 +100,7 @@ fn print_factors(out: &mut [u8], at: usize, t: Term) -> usize
     requires { ⌜ TermPrintable t × (at + length (printFactors (termOf t)) ≤ length (now out)) ⌝ }
     ensures { λ r. ⌜ Written (now (out .entry)) (now (out .exit)) at r (printFactors (termOf t)) ⌝ }
 {
-    let n = t.factor_count;
+    let n = t.factor_count as usize;
     let mut next = at;
     let mut i: usize = 0;
     while i < n {

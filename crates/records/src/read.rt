@@ -33,7 +33,7 @@ pub struct Fields {
     pub ok: bool,
     pub next: usize,
     pub coef: i64,
-    pub count: usize,
+    pub count: u8,
 }
 
 // Whether n bytes stand at a position.
@@ -182,12 +182,13 @@ fn read_factors(
     if !factors_stand(s, at, most, size) {
         return refuse_fields(r);
     }
-    let n = s[at] as usize;
+    let more = s[at];
+    let n = more as usize;
     let count = r.count;
-    append_factors(s, at + 1, n, size, f, count);
+    append_factors(s, at + 1, n, size, f, count as usize);
     let mut q = r;
     q.next = at + 1 + n * size;
-    q.count = count + n;
+    q.count = count + more;
     q
 }
 

@@ -108,7 +108,7 @@ pub fn test_term(table: &[u8], t: Term) -> u8
     requires { ⌜ Counted t ⌝ }
     ensures { λ r. ⌜ testOf r ≡ testTerm (now (table .entry)) (termOf t) ⌝ }
 {
-    let n = t.factor_count;
+    let n = t.factor_count as usize;
     let p = t.part;
     let mut i: usize = 0;
     while i < n {

@@ -59,7 +59,7 @@ fn count_of_size(t: Term, size: usize) -> u8
     requires { ⌜ Counted t ⌝ }
     ensures { λ r. ⌜ r ≡ length (factorsOf size (termOf t)) ⌝ }
 {
-    let n = t.factor_count;
+    let n = t.factor_count as usize;
     let mut count: u8 = 0;
     let mut i: usize = 0;
     while i < n {
@@ -76,7 +76,7 @@ fn write_joined(out: &mut [u8], at: usize, t: Term, size: usize) -> usize
     requires { ⌜ Counted t × (at + length (joined (factorsOf size (termOf t))) ≤ length (now out)) ⌝ }
     ensures { λ r. ⌜ Written (now (out .entry)) (now (out .exit)) at r (joined (factorsOf size (termOf t))) ⌝ }
 {
-    let n = t.factor_count;
+    let n = t.factor_count as usize;
     let mut next = at;
     let mut i: usize = 0;
     while i < n {

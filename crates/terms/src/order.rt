@@ -30,12 +30,13 @@ fn part_number(p: Part) -> u32
 }
 
 // The first of n factors that differs decides.
-fn compare_factors(f: [u32; 7], g: [u32; 7], n: usize) -> Order
+fn compare_factors(f: [u32; 7], g: [u32; 7], n: u8) -> Order
     requires { ⌜ n ≤ 7 ⌝ }
     ensures { λ r. ⌜ orderingOf r ≡ firstDifference order (take n f) (take n g) ⌝ }
 {
+    let m = n as usize;
     let mut k: usize = 0;
-    while k < n {
+    while k < m {
         if f[k] < g[k] {
             return Order::Less;
         }

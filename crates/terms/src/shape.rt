@@ -40,13 +40,14 @@ fn factor_in_shape(k: u32) -> bool
 }
 
 // The letters of each of n factors are in order, and so are the factors.
-fn factors_in_shape(f: [u32; 7], n: usize) -> bool
+fn factors_in_shape(f: [u32; 7], n: u8) -> bool
     requires { ⌜ n ≤ 7 ⌝ }
     ensures { λ r. ⌜ r ≡ (all factorInShape (map lettersOf (take n f)) && ascend factorNotAfter (map lettersOf (take n f))) ⌝ }
 {
+    let m = n as usize;
     let mut last: u32 = 0;
     let mut i: usize = 0;
-    while i < n {
+    while i < m {
         let k = f[i];
         if k < last {
             return false;
@@ -81,14 +82,15 @@ fn scalar_count(k: u32) -> usize
 }
 
 // The letters that n factors use, repeats counted.
-pub fn letters_used(f: [u32; 7], n: usize) -> Used
+pub fn letters_used(f: [u32; 7], n: u8) -> Used
     requires { ⌜ n ≤ 7 ⌝ }
     ensures { λ r. ⌜ UsedBy (map lettersOf (take n f)) r ⌝ }
 {
+    let m = n as usize;
     let mut vectors: usize = 0;
     let mut scalars: usize = 0;
     let mut i: usize = 0;
-    while i < n {
+    while i < m {
         let k = f[i];
         vectors += vector_count(k);
         scalars += scalar_count(k);

@@ -12,7 +12,7 @@ pub enum Part {
 pub struct Term {
     pub coef: i64,
     pub factors: [u32; 7],
-    pub factor_count: usize,
+    pub factor_count: u8,
     pub part: Part,
 }
 

@@ -26,6 +26,9 @@ places c = search needs
 few : (c : tie.Start Inv-loop μ-loop) → c .args .t3 .«factor_count» ≤ length (c .args .t3 .factors)
 few c = omega (arith, places c, c .pre .0 .valid .counted .few)
 
+cast-n : tie.Need-cast-n Inv-loop μ-loop
+cast-n c = omega (arith, c .before .pre .0 .valid .counted .few)
+
 loop-holds : tie.Need-loop-holds Inv-loop μ-loop
 unfolding printFactors termOf
 loop-holds c = (omega arith, c .before .pre .1, begins _ _ _)
@@ -74,6 +77,7 @@ print-factors-spec =
     (tie.spec
     Inv-loop
     μ-loop
+    cast-n
     loop-holds
     mul-k
     element-copy-out-k

@@ -29,6 +29,9 @@ places c = search needs
 few : (c : tie.Start Inv-loop μ-loop) → c .args .t2 .«factor_count» ≤ length (c .args .t2 .factors)
 few c = omega (arith, places c, c .pre .1 .counted .few)
 
+cast-i : tie.Need-cast-i Inv-loop μ-loop
+cast-i c = omega (arith, c .before .pre .1 .counted .few)
+
 loop-holds : tie.Need-loop-holds Inv-loop μ-loop
 loop-holds c = let w = c .before in (le-refl _, no-factors _ _ _ (few w))
 
@@ -76,6 +79,7 @@ factors-value-spec =
     (tie.spec
     Inv-loop
     μ-loop
+    cast-i
     loop-holds
     sub-i
     mul-factor-value

@@ -40,14 +40,17 @@ returns-3 : tie.Need-returns-3
 unfolding fieldsOf
 returns-3 c = let w = c .before .before .before .before .before .before .before in (refuses _ _ _ (counted w) (not-false _ (c .before .before .before .before .if1 .left)) (factors-refused (now (w .args .s)) (w .args .r .next) (w .args .most) (w .args .size) _ _ (not-false _ (c .before .before .before .if2 .left)) (sym (c .before .before .factors-stand .ensures) ∙ not-true _ (c .before .if3 .taken))) _ (c .refuse-fields .ensures .is (now (w .args .f)), c .refuse-fields .ensures .stands (now (w .args .f))), w .pre .4)
 
-shared-slice-read-n : tie.Need-shared-slice-read-n
-shared-slice-read-n c = says c .0
+shared-slice-read-more : tie.Need-shared-slice-read-more
+shared-slice-read-more c = says c .0
 
 cast-n : tie.Need-cast-n
 cast-n c = omega (arith, c .shared-slice-known2 .given (c .before .before .before .before .before .before .before .args .r .next))
 
 add-append-factors : tie.Need-add-append-factors
 add-append-factors c = omega (arith, says c .0)
+
+cast-append-factors : tie.Need-cast-append-factors
+cast-append-factors c = search needs
 
 append-factors-requires : tie.Need-append-factors-requires
 append-factors-requires c κs = let w = says (c .before) in let q = c .before .before .before .before .before .before .before .before .pre in (q .0, omega (arith, w .2, q .1), q .2, q .3, w .3, q .4)
@@ -87,9 +90,10 @@ read-factors-spec =
     factors-stand-requires
     refuse-fields-requires
     returns-3
-    shared-slice-read-n
+    shared-slice-read-more
     cast-n
     add-append-factors
+    cast-append-factors
     append-factors-requires
     add-q
     mul-q

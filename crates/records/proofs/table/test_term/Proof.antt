@@ -27,44 +27,37 @@ places c = search needs
 room : (c : tie.Start Inv-loop μ-loop) → c .args .t2 .«factor_count» ≤ length (c .args .t2 .factors)
 room c = omega (arith, places c, c .pre .few)
 
--- src/table.rt:110:5
+cast-n : tie.Need-cast-n Inv-loop μ-loop
+cast-n c = omega (arith, c .before .pre .few)
+
 loop-holds : tie.Need-loop-holds Inv-loop μ-loop
 unfolding testTerm termOf
 loop-holds c = (omega arith, refl, c .before .pre .few, refl)
 
--- src/table.rt:111:36
 mul-test-factor : tie.Need-mul-test-factor Inv-loop μ-loop
 mul-test-factor c = omega arith
 
--- src/table.rt:111:36
 element-copy-out-test-factor : tie.Need-element-copy-out-test-factor Inv-loop μ-loop
 element-copy-out-test-factor c = omega (arith, places (c .before .before .before))
 
--- src/table.rt:111:13
 test-factor-requires : tie.Need-test-factor-requires Inv-loop μ-loop
 test-factor-requires c κs = all-at _ _ _ _ _ (room (c .before .before .before .before)) (c .before .loop-test .taken) (c .before .before .before .before .pre .small)
 
--- src/table.rt:113:13
 returns : tie.Need-returns Inv-loop μ-loop
 returns c = sym ((c .before .before .before .before .loop .inv .3) ∙ sym (factor-stops (now (c .before .before .before .before .before .before .args .table)) (c .before .before .before .before .before .before .args .t2 .factors) (c .before .before .before .before .before .before .args .t2 .«factor_count») (c .before .before .before .before .loop .i) _ _ (room (c .before .before .before .before .before .before)) (c .before .before .before .loop-test .taken) (c .before .test-factor .ensures) (c .if1 .taken)))
 
--- src/table.rt:115:9
 add-i : tie.Need-add-i Inv-loop μ-loop
 add-i c = omega arith
 
--- src/table.rt:110:5
 loop-less : tie.Need-loop-less Inv-loop μ-loop
 loop-less c = omega arith
 
--- src/table.rt:110:5
 loop-again : tie.Need-loop-again Inv-loop μ-loop
 loop-again c = let inv = (c .before .before .before .before .loop .inv) in (omega arith, inv .1, inv .2, inv .3 ∙ factor-passes (now (c .before .before .before .before .before .before .args .table)) (c .before .before .before .before .before .before .args .t2 .factors) (c .before .before .before .before .before .before .args .t2 .«factor_count») (c .before .before .before .before .loop .i) _ _ (room (c .before .before .before .before .before .before)) (c .before .before .before .loop-test .taken) (c .before .test-factor .ensures) (c .if1 .left))
 
--- src/table.rt:117:5
 test-part-requires : tie.Need-test-part-requires Inv-loop μ-loop
 test-part-requires c κs = tt
 
--- src/table.rt:103:1
 returns-2 : tie.Need-returns-2 Inv-loop μ-loop
 returns-2 c = c .test-part .ensures ∙ sym ((c .before .before .loop .inv .3) ∙ factors-end (now (c .before .before .before .before .args .table)) (c .before .before .before .before .args .t2 .factors) (c .before .before .before .before .args .t2 .«factor_count») (c .before .before .loop .i) 0 _ (room (c .before .before .before .before)) (c .before .loop-test .left))
 
@@ -74,6 +67,7 @@ test-term-spec =
     (tie.spec
     Inv-loop
     μ-loop
+    cast-n
     loop-holds
     mul-test-factor
     element-copy-out-test-factor

@@ -22,6 +22,9 @@ abbrev μ-loop : tie.MeasureT-loop
 places : (c : tie.Start Inv-loop μ-loop) → length (c .args .t1 .factors) ≡ 7
 places c = search needs
 
+cast-n : tie.Need-cast-n Inv-loop μ-loop
+cast-n c = omega (arith, c .pre .few)
+
 loop-holds : tie.Need-loop-holds Inv-loop μ-loop
 unfolding select
 loop-holds c = (omega arith, omega arith, refl)
@@ -65,6 +68,7 @@ count-of-size-spec =
     (tie.spec
     Inv-loop
     μ-loop
+    cast-n
     loop-holds
     mul-letter-count
     element-copy-out-letter-count

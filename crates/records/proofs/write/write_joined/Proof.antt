@@ -29,6 +29,9 @@ places c = search needs
 few : (c : tie.Start Inv-loop μ-loop) → c .args .t3 .«factor_count» ≤ length (c .args .t3 .factors)
 few c = omega (arith, places c, c .pre .0 .few)
 
+cast-n : tie.Need-cast-n Inv-loop μ-loop
+cast-n c = omega (arith, c .before .pre .0 .few)
+
 loop-holds : tie.Need-loop-holds Inv-loop μ-loop
 loop-holds c = (omega arith, refl, written-none _ _ _ (joined-none (c .before .args .size) (c .before .args .t3 .factors)))
 
@@ -91,6 +94,7 @@ write-joined-spec =
     (tie.spec
     Inv-loop
     μ-loop
+    cast-n
     loop-holds
     mul-k
     element-copy-out-k

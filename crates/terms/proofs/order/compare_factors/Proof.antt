@@ -10,10 +10,10 @@ use Rattle.terms.proofs.order.compare_factors.Statement.{statement}
 use Rattle.terms.proofs.order.compare_factors.Tie as tie
 
 abbrev Inv-loop : tie.InvT-loop
-Inv-loop n f g k₀ k = (k ≤ n) × (firstDifference order (take n f) (take n g) ≡ firstDifference order (drop k (take n f)) (drop k (take n g)))
+Inv-loop n f g m k₀ k = (k ≤ n) × (firstDifference order (take n f) (take n g) ≡ firstDifference order (drop k (take n f)) (drop k (take n g)))
 
 abbrev μ-loop : tie.MeasureT-loop
-μ-loop n f g k₀ k = n - k
+μ-loop n f g m k₀ k = n - k
 
 places-f : (c : tie.Start Inv-loop μ-loop) → length (c .args .t1) ≡ 7
 places-f c = search needs
@@ -27,65 +27,50 @@ len-f c = omega (arith, places-f c)
 len-g : (c : tie.Start Inv-loop μ-loop) → c .args .n ≤ length (c .args .t2)
 len-g c = omega (arith, places-g c)
 
--- src/order.rt:39:5
 loop-holds : tie.Need-loop-holds Inv-loop μ-loop
 loop-holds c = (omega arith, refl)
 
--- src/order.rt:40:12
 mul-if1 : tie.Need-mul-if1 Inv-loop μ-loop
 mul-if1 c = omega arith
 
--- src/order.rt:40:12
 array-read-if1 : tie.Need-array-read-if1 Inv-loop μ-loop
 array-read-if1 c = omega arith
 
--- src/order.rt:40:19
 mul-if1-2 : tie.Need-mul-if1-2 Inv-loop μ-loop
 mul-if1-2 c = omega arith
 
--- src/order.rt:40:19
 array-read-if1-2 : tie.Need-array-read-if1-2 Inv-loop μ-loop
 array-read-if1-2 c = omega arith
 
--- src/order.rt:41:13
 returns : tie.Need-returns Inv-loop μ-loop
 unfolding orderingOf
 returns c = let w = c .before .before in sym (w .loop .inv .1 ∙ first-less _ _ _ _ (len-f (w .before)) (len-g (w .before)) (c .before .loop-test .taken) (c .if1 .taken))
 
--- src/order.rt:43:12
 mul-if2 : tie.Need-mul-if2 Inv-loop μ-loop
 mul-if2 c = omega arith
 
--- src/order.rt:43:12
 array-read-if2 : tie.Need-array-read-if2 Inv-loop μ-loop
 array-read-if2 c = omega arith
 
--- src/order.rt:43:19
 mul-if2-2 : tie.Need-mul-if2-2 Inv-loop μ-loop
 mul-if2-2 c = omega arith
 
--- src/order.rt:43:19
 array-read-if2-2 : tie.Need-array-read-if2-2 Inv-loop μ-loop
 array-read-if2-2 c = omega arith
 
--- src/order.rt:44:13
 returns-2 : tie.Need-returns-2 Inv-loop μ-loop
 unfolding orderingOf
 returns-2 c = let w = c .before .before .before in sym (w .loop .inv .1 ∙ first-more _ _ _ _ (len-f (w .before)) (len-g (w .before)) (c .before .before .loop-test .taken) (c .if2 .taken))
 
--- src/order.rt:46:9
 add-k : tie.Need-add-k Inv-loop μ-loop
 add-k c = omega arith
 
--- src/order.rt:39:5
 loop-less : tie.Need-loop-less Inv-loop μ-loop
 loop-less c = omega arith
 
--- src/order.rt:39:5
 loop-again : tie.Need-loop-again Inv-loop μ-loop
 loop-again c = let w = c .before .before .before in (omega arith, w .loop .inv .1 ∙ first-later _ _ _ _ (len-f (w .before)) (len-g (w .before)) (c .before .before .loop-test .taken) (c .if2 .left) (c .before .if1 .left))
 
--- src/order.rt:34:1
 returns-3 : tie.Need-returns-3 Inv-loop μ-loop
 unfolding orderingOf
 returns-3 c = let w = c .before in sym (w .loop .inv .1 ∙ first-none _ _ _ _ (len-f (w .before)) (len-g (w .before)) (c .loop-test .left))

@@ -9,10 +9,10 @@ use Rattle.terms.proofs.shape.factors_in_shape.Statement.{statement}
 use Rattle.terms.proofs.shape.factors_in_shape.Tie as tie
 
 abbrev Inv-loop : tie.InvT-loop
-Inv-loop n f last₀ i₀ last i = (i ≤ n) × (n ≤ 7) × (shapeFrom 0 (take n f) ≡ shapeFrom last (drop i (take n f)))
+Inv-loop n f m last₀ i₀ last i = (i ≤ n) × (n ≤ 7) × (shapeFrom 0 (take n f) ≡ shapeFrom last (drop i (take n f)))
 
 abbrev μ-loop : tie.MeasureT-loop
-μ-loop n f last₀ i₀ last i = n - i
+μ-loop n f m last₀ i₀ last i = n - i
 
 places : (c : tie.Start Inv-loop μ-loop) → length (c .args .t1) ≡ 7
 places c = search needs
@@ -20,43 +20,33 @@ places c = search needs
 room : (c : tie.Start Inv-loop μ-loop) → c .args .n ≤ length (c .args .t1)
 room c = omega (arith, places c)
 
--- src/shape.rt:49:5
 loop-holds : tie.Need-loop-holds Inv-loop μ-loop
 loop-holds c = (omega arith, omega arith, refl)
 
--- src/shape.rt:50:17
 mul-k : tie.Need-mul-k Inv-loop μ-loop
 mul-k c = omega arith
 
--- src/shape.rt:50:17
 array-read-k : tie.Need-array-read-k Inv-loop μ-loop
 array-read-k c = omega arith
 
--- src/shape.rt:52:13
 returns : tie.Need-returns Inv-loop μ-loop
 returns c = let w = c .before .before in sym (shape-is _ ∙ w .loop .inv .2 ∙ shape-back _ _ _ _ (room (w .before)) (c .before .loop-test .taken) (c .if1 .taken))
 
--- src/shape.rt:54:13
 factor-in-shape-requires : tie.Need-factor-in-shape-requires Inv-loop μ-loop
 factor-in-shape-requires c κs = tt
 
--- src/shape.rt:55:13
 returns-2 : tie.Need-returns-2 Inv-loop μ-loop
 returns-2 c = let w = c .before .before .before .before in sym (shape-is _ ∙ w .loop .inv .2 ∙ shape-bad _ _ _ _ (room (w .before)) (c .before .before .before .loop-test .taken) (c .before .before .if1 .left) (sym (c .before .factor-in-shape .ensures) ∙ not-true (c .before .factor-in-shape .result) (c .if2 .taken)))
 
--- src/shape.rt:58:9
 add-i : tie.Need-add-i Inv-loop μ-loop
 add-i c = omega arith
 
--- src/shape.rt:49:5
 loop-less : tie.Need-loop-less Inv-loop μ-loop
 loop-less c = omega arith
 
--- src/shape.rt:49:5
 loop-again : tie.Need-loop-again Inv-loop μ-loop
 loop-again c = let w = c .before .before .before .before in (omega arith, w .loop .inv .1, w .loop .inv .2 ∙ shape-more _ _ _ _ (room (w .before)) (c .before .before .before .loop-test .taken) (c .before .before .if1 .left) (sym (c .before .factor-in-shape .ensures) ∙ not-false (c .before .factor-in-shape .result) (c .if2 .left)))
 
--- src/shape.rt:43:1
 returns-3 : tie.Need-returns-3 Inv-loop μ-loop
 returns-3 c = let w = c .before in sym (shape-is _ ∙ w .loop .inv .2 ∙ shape-end _ _ _ _ (room (w .before)) (c .loop-test .left))
 

@@ -11,10 +11,10 @@ use Rattle.terms.proofs.shape.letters_used.Statement.{statement}
 use Rattle.terms.proofs.shape.letters_used.Tie as tie
 
 abbrev Inv-loop : tie.InvT-loop
-Inv-loop n f vectors₀ scalars₀ i₀ vectors scalars i = (i ≤ n) × (n ≤ 7) × (vectorLettersOf (map lettersOf (take n f)) ≡ vectors + vectorLettersOf (map lettersOf (drop i (take n f)))) × (scalarLettersOf (map lettersOf (take n f)) ≡ scalars + scalarLettersOf (map lettersOf (drop i (take n f)))) × (vectors ≤ 3 * i) × (scalars ≤ i)
+Inv-loop n f m vectors₀ scalars₀ i₀ vectors scalars i = (i ≤ n) × (n ≤ 7) × (vectorLettersOf (map lettersOf (take n f)) ≡ vectors + vectorLettersOf (map lettersOf (drop i (take n f)))) × (scalarLettersOf (map lettersOf (take n f)) ≡ scalars + scalarLettersOf (map lettersOf (drop i (take n f)))) × (vectors ≤ 3 * i) × (scalars ≤ i)
 
 abbrev μ-loop : tie.MeasureT-loop
-μ-loop n f vectors₀ scalars₀ i₀ vectors scalars i = n - i
+μ-loop n f m vectors₀ scalars₀ i₀ vectors scalars i = n - i
 
 places : (c : tie.Start Inv-loop μ-loop) → length (c .args .t1) ≡ 7
 places c = search needs
@@ -22,47 +22,36 @@ places c = search needs
 room : (c : tie.Start Inv-loop μ-loop) → c .args .n ≤ length (c .args .t1)
 room c = omega (arith, places c)
 
--- src/shape.rt:91:5
 loop-holds : tie.Need-loop-holds Inv-loop μ-loop
 loop-holds c = (omega arith, omega arith, omega arith, omega arith, omega arith, omega arith)
 
--- src/shape.rt:92:17
 mul-k : tie.Need-mul-k Inv-loop μ-loop
 mul-k c = omega arith
 
--- src/shape.rt:92:17
 array-read-k : tie.Need-array-read-k Inv-loop μ-loop
 array-read-k c = omega arith
 
--- src/shape.rt:93:20
 vector-count-requires : tie.Need-vector-count-requires Inv-loop μ-loop
 vector-count-requires c κs = tt
 
--- src/shape.rt:93:9
 add-vectors : tie.Need-add-vectors Inv-loop μ-loop
 add-vectors c = omega arith
 
--- src/shape.rt:94:20
 scalar-count-requires : tie.Need-scalar-count-requires Inv-loop μ-loop
 scalar-count-requires c κs = tt
 
--- src/shape.rt:94:9
 add-scalars : tie.Need-add-scalars Inv-loop μ-loop
 add-scalars c = omega arith
 
--- src/shape.rt:95:9
 add-i : tie.Need-add-i Inv-loop μ-loop
 add-i c = omega arith
 
--- src/shape.rt:91:5
 loop-less : tie.Need-loop-less Inv-loop μ-loop
 loop-less c = omega arith
 
--- src/shape.rt:91:5
 loop-again : tie.Need-loop-again Inv-loop μ-loop
 loop-again c = let w = c .before .before .before in let v = c .before .vector-count .ensures in let s = c .scalar-count .ensures in let t = c .before .before .loop-test .taken in let inv = w .loop .inv in (omega arith, inv .1, vectors-more _ _ _ (room (w .before)) t _ _ _ (v .0) (inv .2), scalars-more _ _ _ (room (w .before)) t _ _ _ (s .0) (inv .3), omega (arith, v .1, inv .4), omega (arith, s .1, inv .5))
 
--- src/shape.rt:84:1
 returns : tie.Need-returns Inv-loop μ-loop
 returns c = let w = c .before in let inv = w .loop .inv in record { vectors = vectors-all _ _ _ (room (w .before)) (c .loop-test .left) _ _ (inv .2); scalars = scalars-all _ _ _ (room (w .before)) (c .loop-test .left) _ _ (inv .3); few = omega (arith, inv .0, inv .1, inv .4) }
 
