@@ -19,17 +19,49 @@ use Rattle.theory.specs.Tests.{and-false}
 use Rattle.terms.specs.declared.types.Term.{Term}
 use Rattle.terms.specs.declared.types.Form.{Form}
 use Rattle.terms.specs.declared.order.Order.{Order}
+use Rattle.theory.specs.Elements.{all-implies}
+use Rattle.theory.specs.Shape.Forms.{FormInShape}
 use Rattle.terms.specs.Abstraction.{termOf, formOf, orderingOf, Counted}
+use Rattle.terms.specs.Valid.{FormValid}
 use Rattle.terms.proofs.Arrays.{noTerm, rest-at, nothing-left}
-use Rattle.gathering.specs.declared.Closed.{Closed}
-use Rattle.gathering.specs.Closing.{WorkedAs}
-use Rattle.gathering.proofs.Closing.{worked-given, worked-refused}
+use Rattle.gathering.specs.declared.Sum.{Sum}
+use Rattle.gathering.specs.Sums.{held, sumOf, Standing, SumValid, Holding}
+use Rattle.gathering.specs.Closing.{LimitsTested}
+use Rattle.gathering.proofs.FormTerms.{settled}
 use Rattle.records.specs.Tested.{testOf}
 use Rattle.records.proofs.LetterTests.{test-passed, test-refused}
 use Rattle.rules.specs.declared.steps.Step.{Step}
 use Rattle.rules.specs.Steps.{stepOf}
 use Rattle.checker.specs.Answers.{foundOf, sameTerm}
 use Rattle.checker.proofs.StepRecords.{noStep}
+
+-- ════ the current form
+
+-- the form that a sum stands for
+abbrev pub formBy : (kind : ℕ) → Sum → S.Form
+formBy kind g = record { kind = kind; terms = sumOf g }
+
+-- a sum that stands for the current form
+pub record Current (kind : ℕ) (g : Sum) : Type 0 where
+  pub valid : SumValid g
+  pub brought : g .brought ≤ 48
+  pub inShape : FormInShape (formBy kind g)
+
+-- the first form
+pub current-first : (f : Form) (g : Sum) → FormValid f → Holding f g → (formBy (f .kind) g ≡ formOf f) × Current (f .kind) g
+unfolding formOf
+current-first f g v h =
+    let e : formBy (f .kind) g ≡ formOf f = ap (λ (ts : List S.Term). record { kind = f .kind; terms = ts }) (h .is) in
+    (e, record { valid = h .valid; brought = omega (arith, h .brought, v .few); inShape = subst FormInShape (sym e) (v .inShape) })
+
+-- the form that a step reached
+pub current-next : (kind : ℕ) (b : Sum) → SumValid b → LimitsTested b 0 → FormInShape (formBy kind b) → Current kind (record { brought = b .count; count = b .count; terms = b .terms })
+unfolding held sumOf
+current-next kind b v l s = record {
+  valid = settled b (l .few refl) (all-implies (Standing (b .brought)) Counted (λ t w. w .counted) (held b) (v .standing)) (s .terms) (v .ascending);
+  brought = l .few refl;
+  inShape = s;
+}
 
 -- ════ refusals found
 
@@ -78,20 +110,18 @@ module _ (q : List Step) (n i : ℕ) (h : n ≤ length q) where
 
   -- ════ the replay
 
-  module _ (current : Form) (c : Closed) (w : WorkedAs (takeStep (formOf current) here) c) (k : ℕ) (log : Log) where
+  module _ (current : S.Form) (k : ℕ) (log : Log) where
     -- the step at a place is refused
-    pub step-fails : i < n → (c .refusal ≡ 0 → ⊥) → replay log k (formOf current) (stepsFrom q n i) ≡ refusedAt (c .refusal) k
+    pub step-fails : (r : ℕ) (rest : L.Checked) → i < n → (r ≡ 0 → ⊥) → takeStep current here ≡ refused r → replay log k current (stepsFrom q n i) ≡ foundOf r k rest
     unfolding replay
-    step-fails g z =
-        ap (replay log k (formOf current)) (one-left g)
-        ∙ ap (λ (x : Result S.Form). atStep k x (λ f. replay log (k + 1) f (stepsFrom q n (i + 1)))) (worked-refused (takeStep (formOf current) here) c w z)
+    step-fails r rest g h e =
+        ap (replay log k current) (one-left g) ∙ ap (λ (x : Result S.Form). atStep k x (λ f. replay log (k + 1) f (stepsFrom q n (i + 1)))) e ∙ found r k rest h
 
     -- or it reaches a form
-    pub step-reaches : i < n → c .refusal ≡ 0 → replay log k (formOf current) (stepsFrom q n i) ≡ replay log (k + 1) (formOf (c .form)) (stepsFrom q n (i + 1))
+    pub step-reaches : (f : S.Form) → i < n → takeStep current here ≡ given f → replay log k current (stepsFrom q n i) ≡ replay log (k + 1) f (stepsFrom q n (i + 1))
     unfolding replay
-    step-reaches g z =
-        ap (replay log k (formOf current)) (one-left g)
-        ∙ ap (λ (x : Result S.Form). atStep k x (λ f. replay log (k + 1) f (stepsFrom q n (i + 1)))) (worked-given (takeStep (formOf current) here) c w z)
+    step-reaches f g e =
+        ap (replay log k current) (one-left g) ∙ ap (λ (x : Result S.Form). atStep k x (λ f. replay log (k + 1) f (stepsFrom q n (i + 1)))) e
 
   -- all steps are taken
   pub all-taken : n ≤ i → (log : Log) (k : ℕ) (f : S.Form) → replay log k f (stepsFrom q n i) ≡ replay log k f []

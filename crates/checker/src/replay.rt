@@ -9,8 +9,13 @@ ghost use Rattle.terms.specs.Valid.{FormValid};
 ghost use Rattle.rules.specs.Steps.{StepValid};
 ghost use Rattle.checker.specs.Answers.{sameTerm, ReplayedAs};
 use crate::steps::Steps;
+use gathering::bring_all;
+use gathering::close;
+use gathering::holding;
+use gathering::test_limits;
 use integers::equal;
-use rules::steps::take_step;
+use rules::steps::step_terms;
+use rules::steps::test_step;
 use terms::order::Order;
 use terms::order::compare;
 use terms::types::Form;
@@ -23,33 +28,47 @@ pub struct Replayed {
     pub form: Form,
 }
 
-// The steps taken in their order from a form.
+// The steps taken in their order from a form. The sum that stands for the current form is kept from step to step, so that each step costs its own terms alone.
 pub fn replay(f: Form, q: Steps) -> Replayed
     requires { ⌜ FormValid f × (q .count ≤ 64) × All StepValid (take (q .count) (q .steps)) ⌝ }
     ensures { λ r. ⌜ ReplayedAs f q r ⌝ }
 {
+    let kind = f.kind;
     let n = q.count;
-    let mut current = f;
+    let mut g = holding(f);
     let mut i: usize = 0;
     while i < n {
         let s = q.steps[i];
-        let c = take_step(current, s);
-        let reached = c.form;
         i += 1;
-        if c.refusal != 0 {
-            let k = i as u8;
+        let k = i as u8;
+        let t = test_step(kind, s);
+        if t != 0 {
             return Replayed {
-                number: c.refusal,
+                number: t,
                 step: k,
-                form: reached,
+                form: f,
             };
         }
-        current = reached;
+        let a = step_terms(s);
+        let ts = a.terms;
+        g = bring_all(g, ts, a.count);
+        let e = test_limits(g);
+        if e != 0 {
+            return Replayed {
+                number: e,
+                step: k,
+                form: f,
+            };
+        }
+        let count = g.count;
+        g.brought = count;
     }
+    let c = close(g, kind);
+    let reached = c.form;
     Replayed {
         number: 0,
         step: 0,
-        form: current,
+        form: reached,
     }
 }
 

@@ -6,13 +6,15 @@ use Prim.Native.Nat.{ℕ, _+_, _≤_, _<_}
 use native.Mathlib.Omega.{arith}
 use borrow.Author.Tests.{le-leb, lt-leb, eq-eqb, ne-eqb}
 use lib.ListN.{length}
-use Rattle.specification.specs.Results.{Result, given, refused}
+use lib.Dec.{eqb}
+use Rattle.specification.specs.Results.{Result, given, refused, if_then_else_}
 use Rattle.specification.specs.Lists.{all}
 use Rattle.specification.specs.Terms.{termWithin, within, insert, gather, gatherInto}
 use Rattle.theory.specs.Elements.{All, all-implies}
 use Rattle.theory.specs.Gathering.Coefficients.{Ascending}
 use Rattle.theory.specs.Gathering.Gathered.{insert-asc}
-use Rattle.theory.specs.Shape.Forms.{AllFit, within-given, within-in-shape}
+use Rattle.theory.specs.Tests.{given-same, refused≢given}
+use Rattle.theory.specs.Shape.Forms.{FormInShape, AllFit, within-given, within-in-shape, form-within}
 use Rattle.terms.specs.declared.types.Term.{Term}
 use Rattle.terms.specs.declared.types.Form.{Form}
 use Rattle.terms.specs.Abstraction.{termOf, formOf, Counted}
@@ -20,7 +22,7 @@ use Rattle.terms.specs.Valid.{FormValid}
 use Rattle.gathering.specs.declared.Sum.{Sum}
 use Rattle.gathering.specs.declared.Closed.{Closed}
 use Rattle.gathering.specs.Sums.{held, sumOf, Standing, SumValid, Changed, Brought}
-use Rattle.gathering.specs.Closing.{closedOf, Copied, ClosedAs, WorkedAs}
+use Rattle.gathering.specs.Closing.{closedOf, limitedOf, LimitsTested, Copied, ClosedAs, WorkedAs}
 use Rattle.gathering.proofs.Steps.{length-sum}
 use Rattle.specification.specs.Terms as S
 
@@ -59,31 +61,33 @@ within-both : (kind : ℕ) (ts : List S.Term) → all termWithin ts ≡ true →
 unfolding within
 within-both kind ts e h = rw (e, le-leb (length ts) 48 h)
 
--- a refusal, with a form of no terms
-abbrev none : (refusal kind : ℕ) → List Term → Closed
-none n kind ts = record { refusal = n; form = record { kind = kind; count = 0; terms = ts } }
-
 -- a coefficient beyond
-pub refused-9 : (s : Sum) (kind : ℕ) (ts : List Term) (b : Bool) → b ≡ all termWithin (sumOf s) → b ≡ false → ClosedAs s kind (none 9 kind ts)
-unfolding closedOf
-refused-9 s kind ts b e p = record { is = sym (within-9 kind (sumOf s) (sym e ∙ p)); few = omega arith; counted = tt }
+pub limits-9 : (s : Sum) (b : Bool) → b ≡ all termWithin (sumOf s) → b ≡ false → LimitsTested s 9
+unfolding limitedOf
+limits-9 s b e p = record { is = λ kind. within-9 kind (sumOf s) (sym e ∙ p); few = λ z. absurd (omega arith) }
 
 -- none beyond, but too many terms
-pub refused-10 : (s : Sum) (kind : ℕ) (ts : List Term) (b : Bool) → s .count ≤ length (s .terms) → b ≡ all termWithin (sumOf s) → b ≡ true → 48 < s .count
-    → ClosedAs s kind (none 10 kind ts)
-unfolding closedOf
-refused-10 s kind ts b k e p h =
-    record { is = sym (within-10 kind (sumOf s) (sym e ∙ p) (omega (arith, length-sum s k))); few = omega arith; counted = tt }
+pub limits-10 : (s : Sum) (b : Bool) → s .count ≤ length (s .terms) → b ≡ all termWithin (sumOf s) → b ≡ true → 48 < s .count → LimitsTested s 10
+unfolding limitedOf
+limits-10 s b k e p h = record { is = λ kind. within-10 kind (sumOf s) (sym e ∙ p) (omega (arith, length-sum s k)); few = λ z. absurd (omega arith) }
 
--- neither: the form with the terms of the sum
-pub given-form : (s : Sum) (kind : ℕ) (g : Form) (b : Bool) → SumValid s → s .count ≤ length (s .terms) → b ≡ all termWithin (sumOf s) → b ≡ true → s .count ≤ 48
-    → Copied s kind g → ClosedAs s kind (record { refusal = 0; form = g })
-unfolding closedOf formOf sumOf
-given-form s kind g b v k e p h c =
+-- neither
+pub limits-none : (s : Sum) (b : Bool) → s .count ≤ length (s .terms) → b ≡ all termWithin (sumOf s) → b ≡ true → s .count ≤ 48 → LimitsTested s 0
+unfolding limitedOf
+limits-none s b k e p h = record { is = λ kind. within-both kind (sumOf s) (sym e ∙ p) (omega (arith, length-sum s k)); few = λ z. h }
+
+-- refused: a form of no terms
+pub closed-refused : (s : Sum) (kind n : ℕ) (ts : List Term) → LimitsTested s n → (n ≡ 0 → ⊥) → ClosedAs s kind (record { refusal = n; form = record { kind = kind; count = 0; terms = ts } })
+unfolding closedOf limitedOf
+closed-refused s kind n ts w h = record { is = rw (ne-eqb n 0 h) (sym (w .is kind ∙ rw (ne-eqb n 0 h))); few = omega arith; counted = tt }
+
+-- the form with the terms of the sum
+pub given-form : (s : Sum) (kind n : ℕ) (g : Form) → SumValid s → LimitsTested s n → n ≡ 0 → Copied s kind g → ClosedAs s kind (record { refusal = 0; form = g })
+unfolding closedOf formOf sumOf limitedOf
+given-form s kind n g v w z c =
     record {
-      is = ap given (λ j. record { kind = c .kind j; terms = map termOf (c .terms j) })
-          ∙ sym (within-both kind (sumOf s) (sym e ∙ p) (omega (arith, length-sum s k)));
-      few = omega (arith, c .count);
+      is = ap given (λ j. record { kind = c .kind j; terms = map termOf (c .terms j) }) ∙ sym (w .is kind ∙ rw (eq-eqb n 0 z));
+      few = omega (arith, c .count, w .few z);
       counted = subst (All Counted) (sym (c .terms)) (all-implies (Standing (s .brought)) Counted (λ t w. w .counted) (held s) (v .standing));
     }
 
@@ -132,3 +136,19 @@ worked-given x r w e = sym (w .is) ∙ rw (eq-eqb (r .refusal) 0 e)
 pub worked-refused : (x : Result S.Form) (r : Closed) → WorkedAs x r → (r .refusal ≡ 0 → ⊥) → x ≡ refused (r .refusal)
 unfolding closedOf
 worked-refused x r w e = sym (w .is) ∙ rw (ne-eqb (r .refusal) 0 e)
+
+-- a closed sum that is a form
+pub closed-is : (r : Closed) (f : S.Form) → closedOf r ≡ given f → formOf (r .form) ≡ f
+unfolding closedOf
+closed-is r f = go (eqb (r .refusal) 0)
+  where
+    go : (b : Bool) → (if b then given (formOf (r .form)) else refused (r .refusal)) ≡ given f → formOf (r .form) ≡ f
+    go true e = given-same e
+    go false e = absurd (refused≢given e)
+
+-- the sum of a form's terms is closed to that form
+pub closed-form : (s : Sum) (kind : ℕ) (r : Closed) → FormInShape (record { kind = kind; terms = sumOf s }) → ClosedAs s kind r
+    → (formOf (r .form) ≡ record { kind = kind; terms = sumOf s }) × FormValid (r .form)
+closed-form s kind r v c =
+    let e = closed-is r (record { kind = kind; terms = sumOf s }) (c .is ∙ form-within (record { kind = kind; terms = sumOf s }) v) in
+    (e, record { few = c .few; counted = c .counted; inShape = subst FormInShape (sym e) v })

@@ -19,7 +19,7 @@ use Rattle.terms.specs.declared.types.Form.{Form}
 use Rattle.terms.specs.Abstraction.{termOf, formOf, Counted}
 use Rattle.terms.specs.Valid.{FormValid}
 use Rattle.gathering.specs.declared.Sum.{Sum}
-use Rattle.gathering.specs.Sums.{held, sumOf, Standing, Holding}
+use Rattle.gathering.specs.Sums.{held, sumOf, Standing, SumValid, Holding}
 
 -- a term in shape has a coefficient within the limit
 in-limit : (t : S.Term) → T (termInShape t) → natAbs (t .coef) ≤ 2147483647
@@ -32,6 +32,16 @@ unfolding termOf
 standing n [] h a b = tt
 standing n (t ∷ ts) h a b = (record { counted = a .0; light = omega (arith, in-limit (termOf t) (b .0)) }, standing n ts h (a .1) (b .1))
 
+-- so a sum of terms in shape may count as if no more than they were brought in
+pub settled : (s : Sum) → s .count ≤ 48 → All Counted (held s) → T (all termInShape (sumOf s)) → Ascending (sumOf s) → SumValid (record { brought = s .count; count = s .count; terms = s .terms })
+unfolding held sumOf
+settled s few counted shape ascending =
+    record { fewer = omega arith; few = omega arith; standing = go (s .count) counted (all-T termInShape (map termOf (take (s .count) (s .terms))) shape); ascending = ascending }
+  where
+    go : (n : ℕ) → All Counted (take n (s .terms)) → All (λ (t : S.Term). T (termInShape t)) (map termOf (take n (s .terms))) → All (Standing n) (take n (s .terms))
+    go zero a b = tt
+    go (suc n) a b = standing (suc n) (take (suc n) (s .terms)) (omega arith) a b
+
 -- what the loop copied
 pub held-form : (f : Form) (r : Sum) → FormValid f → r .count ≡ f .count → r .brought ≡ f .count → take (f .count) (r .terms) ≡ take (f .count) (f .terms) → Holding f r
 unfolding held sumOf formOf
@@ -39,15 +49,9 @@ held-form f r v n b e =
     let s : take (r .count) (r .terms) ≡ take (f .count) (f .terms) = ap (λ (m : ℕ). take m (r .terms)) n ∙ e in
     record {
       is = ap (map termOf) s;
-      valid = record {
-        fewer = omega (arith, n, b);
-        few = omega (arith, b, v .few);
-        standing = subst (All (Standing (r .brought))) (sym s) (subst (λ (m : ℕ). All (Standing m) (take (f .count) (f .terms))) (sym b) (go (f .count) (v .counted) (all-T termInShape (map termOf (take (f .count) (f .terms))) (v .inShape .terms))));
-        ascending = subst Ascending (sym (ap (map termOf) s)) (form-gathered (formOf f) (v .inShape) .ascending);
-      };
+      valid = subst (λ (m : ℕ). SumValid (record { brought = m; count = r .count; terms = r .terms })) (n ∙ sym b)
+          (settled r (omega (arith, n, v .few)) (subst (All Counted) (sym s) (v .counted)) (subst (λ (l : List S.Term). T (all termInShape l)) (sym (ap (map termOf) s)) (v .inShape .terms))
+          (subst Ascending (sym (ap (map termOf) s)) (form-gathered (formOf f) (v .inShape) .ascending)));
+      count = n;
       brought = b;
     }
-  where
-    go : (n : ℕ) → All Counted (take n (f .terms)) → All (λ (t : S.Term). T (termInShape t)) (map termOf (take n (f .terms))) → All (Standing n) (take n (f .terms))
-    go zero a b = tt
-    go (suc n) a b = standing (suc n) (take (suc n) (f .terms)) (omega arith) a b

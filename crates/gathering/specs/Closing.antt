@@ -1,5 +1,6 @@
 -- A closed sum: a form, or the number of a refusal; and what closing gives. Assumes nothing.
 use mathlib.Core.Path.{_≡_}
+use mathlib.Core.List.{List}
 use Prim.Native.Nat.{ℕ, _≤_}
 use lib.Dec.{eqb}
 use lib.ListN.{take}
@@ -17,6 +18,15 @@ use Rattle.gathering.specs.Sums.{held, sumOf}
 -- the form, or the refusal where its number is not 0
 unfoldable pub closedOf : Closed → Result S.Form
 closedOf r = if eqb (r .refusal) 0 then given (formOf (r .form)) else refused (r .refusal)
+
+-- a form of a kind with these terms, or the refusal of its limits where the number is not 0
+unfoldable pub limitedOf : (refusal kind : ℕ) → List S.Term → Result S.Form
+limitedOf n kind ts = if eqb n 0 then given (record { kind = kind; terms = ts }) else refused n
+
+-- the limits of a sum tested
+pub record LimitsTested (s : Sum) (r : ℕ) : Type 0 where
+  pub is : (kind : ℕ) → within kind (sumOf s) ≡ limitedOf r kind (sumOf s)
+  pub few : r ≡ 0 → s .count ≤ 48
 
 -- a form of a kind with the terms of a sum
 pub record Copied (s : Sum) (k : ℕ) (r : Form) : Type 0 where

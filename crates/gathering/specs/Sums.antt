@@ -51,6 +51,7 @@ pub record Empty (r : Sum) : Type 0 where
 pub record Holding (f : Form) (r : Sum) : Type 0 where
   pub is : sumOf r ≡ formOf f .terms
   pub valid : SumValid r
+  pub count : r .count ≡ f .count
   pub brought : r .brought ≡ f .count
 
 -- a term added to the first of a list

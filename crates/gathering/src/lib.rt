@@ -10,7 +10,7 @@ ghost use Rattle.theory.specs.Elements.{All};
 ghost use Rattle.terms.specs.Abstraction.{termOf, Counted};
 ghost use Rattle.terms.specs.Valid.{FormValid};
 ghost use Rattle.gathering.specs.Sums.{held, sumOf, addedTo, Empty, Holding, SumValid, Held, Changed, isBehind, isLike, Bringable, AllBrought};
-ghost use Rattle.gathering.specs.Closing.{ClosedAs};
+ghost use Rattle.gathering.specs.Closing.{LimitsTested, ClosedAs};
 use integers::add;
 use integers::is_zero;
 use integers::within;
@@ -177,7 +177,23 @@ fn all_within(s: Sum) -> bool
     true
 }
 
-// The form of a sum, refused with 9 where a coefficient is beyond ±2147483647, else with 10 where there are more than 48 terms.
+// 9 where a coefficient of a sum is beyond ±2147483647, else 10 where there are more than 48 terms, else 0.
+pub fn test_limits(s: Sum) -> u8
+    requires { ⌜ SumValid s ⌝ }
+    ensures { λ r. ⌜ LimitsTested s r ⌝ }
+{
+    let standing = s.count;
+    let fine = all_within(s);
+    if !fine {
+        return 9;
+    }
+    if standing > 48 {
+        return 10;
+    }
+    0
+}
+
+// The form of a sum, or the refusal of its limits.
 pub fn close(s: Sum, kind: u8) -> Closed
     requires { ⌜ SumValid s ⌝ }
     ensures { λ r. ⌜ ClosedAs s kind r ⌝ }
@@ -189,17 +205,11 @@ pub fn close(s: Sum, kind: u8) -> Closed
         count: 0,
         terms: ts,
     };
-    let fine = all_within(s);
+    let n = test_limits(s);
     let count = s.count;
-    if !fine {
+    if n != 0 {
         return Closed {
-            refusal: 9,
-            form: f,
-        };
-    }
-    if count > 48 {
-        return Closed {
-            refusal: 10,
+            refusal: n,
             form: f,
         };
     }

@@ -10,7 +10,7 @@ use lib.Dec.{T, eqb, leb, leb→le}
 use lib.IntN.{natAbs}
 use lib.ListN.{length, getD, take, set, length-set}
 use lib.Seq.{length-take-le}
-use Rattle.specification.specs.Results.{Result, refused, given, _>>_, require, if_then_else_}
+use Rattle.specification.specs.Results.{Result, Test, refused, given, _>>_, require, if_then_else_}
 use Rattle.specification.specs.Letters.{scalar, vector}
 use Rattle.specification.specs.Terms.{timesTerm, termKind, vectorLetters, scalarLetters, within, gather, gatherInto, coefWithin, termInShape}
 use Rattle.specification.specs.Terms as S
@@ -18,7 +18,8 @@ use Rattle.specification.specs.Rules.{ruleKind, ruleLetters, isRule, stepKindsF
 use Rattle.specification.specs.Rules as R
 use Rattle.theory.specs.Elements.{All, all-append}
 use Rattle.theory.specs.Shape.Terms.{kindOfPart, term-opens}
-use Rattle.theory.specs.Shape.Forms.{form-gathered}
+use Rattle.theory.specs.Tests.{required, refused≢given}
+use Rattle.theory.specs.Shape.Forms.{FormInShape, AllFit, form-gathered, within-given, within-in-shape}
 use Rattle.theory.specs.Gathering.Gathered.{gather-onto}
 use Rattle.theory.specs.Rules.Table.{ruleTerms, stepTerms-rule}
 use Rattle.theory.specs.Rules.Steps.{StepShape, Agreeing, agreeing, step-fits, step-parts}
@@ -33,12 +34,15 @@ use Rattle.terms.specs.Used.{UsedBy}
 use Rattle.terms.proofs.InShape.{factors-count, all-letters}
 use Rattle.gathering.specs.declared.Sum.{Sum}
 use Rattle.gathering.specs.declared.Closed.{Closed}
-use Rattle.gathering.specs.Sums.{sumOf, Bringable, AllBrought, Holding}
-use Rattle.gathering.specs.Closing.{ClosedAs, WorkedAs}
-use Rattle.gathering.proofs.Closing.{refuses, works-as, closes}
+use Rattle.gathering.specs.Sums.{sumOf, Bringable, AllBrought}
+use Rattle.gathering.specs.Closing.{limitedOf, LimitsTested, ClosedAs, WorkedAs}
+use Rattle.gathering.proofs.Closing.{works-as, closes}
+use Rattle.records.specs.Tested.{testOf}
+use Rattle.records.proofs.LetterTests.{test-passed, test-refused}
 use Rattle.rules.specs.declared.steps.Step.{Step}
 use Rattle.rules.specs.Table.{ruleRows, partAt, rowTerm, rowTerms, firstRow, rowCount, TimesRow}
-use Rattle.rules.specs.Steps.{stepOf, StepValid}
+use Rattle.rules.specs.declared.steps.StepTerms.{StepTerms}
+use Rattle.rules.specs.Steps.{stepOf, StepValid, stepTests, StepFits, StepAdds}
 use Rattle.rules.proofs.Tied.{tied, rows-inside, row-next, row-all, row-at}
 
 -- ════ the tests
@@ -58,11 +62,6 @@ module _ (kind a b : ℕ) (s : Step) (ea : a ≡ ruleKind (s .rule)) (eb : b ≡
 
   pub vector-kinds : a ≡ 1 → b ≡ 0 → eqb kind 1 ≡ stepKindsFit (record { kind = kind; terms = [] }) (stepOf s)
   vector-kinds h k = sym (kinds-are kind s ∙ rw (← ea, ← eb, eq-eqb a 1 h, eq-eqb b 0 k))
-
--- the kind is all that the test sees of the form
-same-kind : (f : Form) (s : Step) → stepKindsFit (record { kind = f .kind; terms = [] }) (stepOf s) ≡ stepKindsFit (formOf f) (stepOf s)
-unfolding stepKindsFit formOf
-same-kind f s = refl
 
 -- M's letters and the rule's
 pub letters-are : (s : Step) (u : Used) (p n : ℕ) → UsedBy (map lettersOf (take (s .m .«factor_count») (s .m .factors))) u → p ≡ length (partOf (s .m .part)) → n ≡ ruleLetters (s .rule)
@@ -116,6 +115,11 @@ in-limit : (t : S.Term) → T (termInShape t) → natAbs (t .coef) ≤ 214748364
 unfolding coefWithin
 in-limit t h = leb→le (natAbs (t .coef)) 2147483647 (term-opens t h .within)
 
+-- a test that passed
+passed : (b : Bool) (n : ℕ) → _≡_ {A = Test} (require b n) (given tt) → T b
+passed true n e = tt
+passed false n e = absurd (refused≢given e)
+
 -- ════ the products
 
 -- the rule's rows at the letters
@@ -124,13 +128,13 @@ rows s = rowTerms (s .letters) (firstRow (s .rule)) (rowCount (s .rule))
 
 -- the products of M with the first of them
 pub record Listed (s : Step) (i : ℕ) (ts : List Term) : Type 0 where
-  pub places : length ts ≡ 96
+  pub places : length ts ≡ 16
   pub is : map termOf (take i ts) ≡ map (timesTerm (termOf (s .m))) (take i (rows s))
   pub bringable : All Bringable (take i ts)
 
 module _ (s : Step) (v : StepValid s) (six : length (s .letters) ≡ 6) where
   -- none yet
-  pub listed-none : (ts : List Term) → length ts ≡ 96 → Listed s 0 ts
+  pub listed-none : (ts : List Term) → length ts ≡ 16 → Listed s 0 ts
   listed-none ts n = record { places = n; is = refl; bringable = tt }
 
   -- one more
@@ -158,53 +162,105 @@ module _ (s : Step) (v : StepValid s) (six : length (s .letters) ≡ 6) where
       ∙ ap (map (timesTerm (termOf (s .m)))) (row-all (s .letters) (firstRow (s .rule)) (rowCount (s .rule)) ∙ tied (s .rule) (v .rule) (s .letters) six)
       ∙ sym (stepTerms-rule (stepOf s))
 
-  -- ════ the step
+  -- what the tests say
+  module _ (w : StepFits s) where
+    passed-kinds : T (stepKindsFit (record { kind = w .kind; terms = [] }) (stepOf s)) × T (leb (vectorLetters (stepOf s .m) + ruleLetters (s .rule)) 6)
+    unfolding stepTests stepOf
+    passed-kinds =
+        let a = required (stepKindsFit (record { kind = w .kind; terms = [] }) (stepOf s)) 6 _ tt (w .passes) in
+        (a .0, passed (leb (vectorLetters (stepOf s .m) + ruleLetters (s .rule)) 6) 8 (a .1))
 
-  module _ (f : Form) (w : FormValid f) (k : Bool) (ek : k ≡ stepKindsFit (record { kind = f .kind; terms = [] }) (stepOf s)) where
-    kinds : k ≡ stepKindsFit (formOf f) (stepOf s)
-    kinds = ek ∙ same-kind f s
+    few-vectors : vectorLetters (stepOf s .m) + ruleLetters (s .rule) ≤ 6
+    few-vectors = leb→le (vectorLetters (stepOf s .m) + ruleLetters (s .rule)) 6 (passed-kinds .1)
 
-    -- the kinds do not agree
-    pub step-six : (r : Closed) → k ≡ false → r .refusal ≡ 6 → WorkedAs (takeStep (formOf f) (stepOf s)) r
-    unfolding takeStep
-    step-six r h e = refuses (takeStep (formOf f) (stepOf s)) r 6 e (λ z. omega arith) (rw (← kinds, h))
+    -- a row times M
+    pub row-fits : (i : ℕ) → i < rowCount (s .rule) → s .m .«factor_count» ≤ length (s .m .factors)
+        → (Counted (s .m) × (s .m .«factor_count» ≤ 4) × (natAbs (s .m .coef) ≤ 2147483647) × (firstRow (s .rule) + i < 23))
+        × ((partOf (s .m .part) ≡ []) ⊎ (partAt (s .letters) (getD ruleRows (firstRow (s .rule) + i) 0 % 64) ≡ []))
+    unfolding stepOf termOf rowTerm
+    row-fits i h n = (
+      (v .m .counted, few-factors s v n few-vectors, in-limit (termOf (s .m)) (v .m .inShape), omega (arith, rows-inside (s .rule) (v .rule) .0)),
+      ⊎-elim inl
+          (λ a. inr (row-at (λ (u : S.Term). u .part ≡ []) (s .letters) (firstRow (s .rule)) (rowCount (s .rule)) i h
+          (subst (All (λ (u : S.Term). u .part ≡ [])) (sym (tied (s .rule) (v .rule) (s .letters) six)) a)))
+          (step-parts (record { kind = w .kind; terms = [] }) (stepOf s) (step-shape s v six) (agreeing (record { kind = w .kind; terms = [] }) (stepOf s) (passed-kinds .0))),
+    )
 
-    module _ (l : Bool) (el : l ≡ leb (vectorLetters (stepOf s .m) + ruleLetters (s .rule)) 6) (hk : k ≡ true) where
-      -- too many letters
-      pub step-eight : (r : Closed) → l ≡ false → r .refusal ≡ 8 → WorkedAs (takeStep (formOf f) (stepOf s)) r
-      unfolding takeStep stepOf
-      step-eight r h e = refuses (takeStep (formOf f) (stepOf s)) r 8 e (λ z. omega arith) (rw (← kinds, hk, ← el, h))
+  -- the products with all rows
+  pub step-added : (i : ℕ) (ts : List Term) → i ≡ rowCount (s .rule) → Listed s i ts → StepAdds s (record { count = i; terms = ts })
+  step-added i ts e w = record { is = listed-all i ts e w; few = omega (arith, e, rows-inside (s .rule) (v .rule) .1); six = six; bringable = w .bringable }
 
-      module _ (hl : l ≡ true) where
-        few : vectorLetters (stepOf s .m) + ruleLetters (s .rule) ≤ 6
-        few = leb-true _ _ (sym el ∙ hl)
+-- ════ the tests of a step
 
-        agree : Agreeing (formOf f) (stepOf s)
-        agree = agreeing (formOf f) (stepOf s) (subst T (sym hk ∙ kinds) tt)
+module _ (kind : ℕ) (s : Step) (k : Bool) (ek : k ≡ stepKindsFit (record { kind = kind; terms = [] }) (stepOf s)) where
+  -- the kinds do not agree
+  pub test-six : k ≡ false → testOf 6 ≡ stepTests kind (stepOf s)
+  unfolding testOf stepTests
+  test-six h = rw (← ek, h)
 
-        -- a row times M
-        pub row-fits : (i : ℕ) → i < rowCount (s .rule) → s .m .«factor_count» ≤ length (s .m .factors)
-            → (Counted (s .m) × (s .m .«factor_count» ≤ 4) × (natAbs (s .m .coef) ≤ 2147483647) × (firstRow (s .rule) + i < 23))
-            × ((partOf (s .m .part) ≡ []) ⊎ (partAt (s .letters) (getD ruleRows (firstRow (s .rule) + i) 0 % 64) ≡ []))
-        unfolding stepOf termOf rowTerm
-        row-fits i h n = (
-          (v .m .counted, few-factors s v n few, in-limit (termOf (s .m)) (v .m .inShape), omega (arith, rows-inside (s .rule) (v .rule) .0)),
-          ⊎-elim inl
-              (λ a. inr (row-at (λ (u : S.Term). u .part ≡ []) (s .letters) (firstRow (s .rule)) (rowCount (s .rule)) i h
-              (subst (All (λ (u : S.Term). u .part ≡ [])) (sym (tied (s .rule) (v .rule) (s .letters) six)) a)))
-              (step-parts (formOf f) (stepOf s) (step-shape s v six) agree),
-        )
+  module _ (hk : k ≡ true) (l : Bool) (el : l ≡ leb (vectorLetters (stepOf s .m) + ruleLetters (s .rule)) 6) where
+    -- too many letters
+    pub test-eight : l ≡ false → testOf 8 ≡ stepTests kind (stepOf s)
+    unfolding testOf stepTests stepOf
+    test-eight h = rw (← ek, hk, ← el, h)
 
-        taken : within (f .kind) (gather (formOf f .terms ++ stepTerms (stepOf s))) ≡ takeStep (formOf f) (stepOf s)
-        unfolding takeStep stepOf formOf
-        taken = rw (← kinds, hk, ← el, hl)
+    pub test-none : l ≡ true → testOf 0 ≡ stepTests kind (stepOf s)
+    unfolding testOf stepTests stepOf
+    test-none h = rw (← ek, hk, ← el, h)
 
-        -- gathered and closed
-        pub step-closed : (r : Closed) (g b : Sum) (i : ℕ) (ts : List Term) → Holding f g → i ≡ rowCount (s .rule) → Listed s i ts → AllBrought g (take i ts) i b → ClosedAs b (f .kind) r
-            → WorkedAs (takeStep (formOf f) (stepOf s)) r
-        unfolding formOf stepOf
-        step-closed r g b i ts hg e wl ab c =
-            works-as (within (f .kind) (gather (formOf f .terms ++ stepTerms (stepOf s)))) (takeStep (formOf f) (stepOf s)) r taken
-            (closes b (f .kind) (formOf f .terms ++ stepTerms (stepOf s)) r (w .inShape .kind)
-            (ab .is ∙ (λ j. gatherInto (hg .is j) (listed-all i ts e wl j)) ∙ gather-onto (formOf f .terms) (stepTerms (stepOf s)) (form-gathered (formOf f) (w .inShape)))
-            (step-fits (formOf f) (stepOf s) (w .inShape) (step-shape s v six) agree few) c)
+-- ════ a step at a form
+
+module _ (f : S.Form) (s : Step) where
+  -- the tests come first
+  step-tested : takeStep f (stepOf s) ≡ (stepTests (f .kind) (stepOf s) >> within (f .kind) (gather (f .terms ++ stepTerms (stepOf s))))
+  unfolding takeStep stepTests stepKindsFit
+  step-tested = go (stepKindsFit f (stepOf s)) (leb (vectorLetters (stepOf s .m) + ruleLetters (stepOf s .rule)) 6)
+    where
+      go : (a b : Bool) → (require a 6 >> (require b 8 >> within (f .kind) (gather (f .terms ++ stepTerms (stepOf s))))) ≡ ((require a 6 >> require b 8) >> within (f .kind) (gather (f .terms ++ stepTerms (stepOf s))))
+      go true true = refl
+      go true false = refl
+      go false b = refl
+
+  module _ (n : ℕ) (t : testOf n ≡ stepTests (f .kind) (stepOf s)) where
+    -- refused
+    pub step-refused : (n ≡ 0 → ⊥) → takeStep f (stepOf s) ≡ refused n
+    step-refused h = step-tested ∙ ap (λ (x : Test). x >> within (f .kind) (gather (f .terms ++ stepTerms (stepOf s)))) (sym t ∙ test-refused n h)
+
+    module _ (z : n ≡ 0) where
+      abbrev pub step-fitting : StepFits s
+      step-fitting = record { kind = f .kind; passes = sym t ∙ test-passed n z }
+
+      -- what is gathered
+      gathers : takeStep f (stepOf s) ≡ within (f .kind) (gather (f .terms ++ stepTerms (stepOf s)))
+      gathers = step-tested ∙ ap (λ (x : Test). x >> within (f .kind) (gather (f .terms ++ stepTerms (stepOf s)))) (sym t ∙ test-passed n z)
+
+      module _ (v : StepValid s) (shape : FormInShape f) (g b : Sum) (is : sumOf g ≡ f .terms) (a : StepTerms) (wa : StepAdds s a) (ab : AllBrought g (take (a .count) (a .terms)) (a .count) b) where
+        fits : AllFit (f .kind) (f .terms ++ stepTerms (stepOf s))
+        unfolding stepKindsFit stepOf
+        fits = step-fits f (stepOf s) shape (step-shape s v (wa .six)) (agreeing f (stepOf s) (passed-kinds s v (wa .six) step-fitting .0)) (few-vectors s v (wa .six) step-fitting)
+
+        gathered : sumOf b ≡ gather (f .terms ++ stepTerms (stepOf s))
+        gathered = ab .is ∙ (λ j. gatherInto (is j) (wa .is j)) ∙ gather-onto (f .terms) (stepTerms (stepOf s)) (form-gathered f shape)
+
+        -- closed
+        pub step-closed : (r : Closed) → ClosedAs b (f .kind) r → WorkedAs (takeStep f (stepOf s)) r
+        step-closed r c =
+            works-as (within (f .kind) (gather (f .terms ++ stepTerms (stepOf s)))) (takeStep f (stepOf s)) r (sym gathers)
+            (closes b (f .kind) (f .terms ++ stepTerms (stepOf s)) r (shape .kind) gathered fits c)
+
+        module _ (e : ℕ) (le : LimitsTested b e) where
+          -- beyond the limits
+          pub sum-refused : (e ≡ 0 → ⊥) → takeStep f (stepOf s) ≡ refused e
+          unfolding limitedOf
+          sum-refused h = gathers ∙ ap (within (f .kind)) (sym gathered) ∙ le .is (f .kind) ∙ rw (ne-eqb e 0 h)
+
+          -- or the form reached
+          pub sum-reaches : e ≡ 0 → takeStep f (stepOf s) ≡ given (record { kind = f .kind; terms = sumOf b })
+          unfolding limitedOf
+          sum-reaches h = gathers ∙ ap (within (f .kind)) (sym gathered) ∙ le .is (f .kind) ∙ rw (eq-eqb e 0 h)
+
+          -- in shape
+          pub sum-in-shape : e ≡ 0 → FormInShape (record { kind = f .kind; terms = sumOf b })
+          sum-in-shape h =
+              within-in-shape (f .kind) (f .terms ++ stepTerms (stepOf s)) (record { kind = f .kind; terms = sumOf b }) (shape .kind) fits
+              (within-given (f .kind) (gather (f .terms ++ stepTerms (stepOf s))) (record { kind = f .kind; terms = sumOf b }) (sym gathers ∙ sum-reaches h))

@@ -1,16 +1,21 @@
 -- Steps as data. Assumes nothing.
 use mathlib.Core.Bool.{Bool, true, false}
-use mathlib.Core.List.{List}
-use Prim.Native.Nat.{ℕ}
-use lib.Dec.{T}
-use lib.ListN.{take}
-use Rattle.specification.specs.Results.{Result, refused, given}
+use mathlib.Core.Path.{_≡_}
+use mathlib.Core.List.{List, [], map}
+use Prim.Native.Nat.{ℕ, _+_, _≤_}
+use lib.Dec.{T, leb}
+use lib.ListN.{length, take}
+use Rattle.specification.specs.Results.{Result, Test, refused, given, _>>_, require}
 use Rattle.specification.specs.Terms as S
-use Rattle.specification.specs.Rules.{ruleLetters, isRule, stepAt}
+use Rattle.specification.specs.Terms.{vectorLetters}
+use Rattle.specification.specs.Rules.{ruleLetters, isRule, stepKindsFit, stepTerms, stepAt}
 use Rattle.specification.specs.Rules as R
 use Rattle.terms.specs.Abstraction.{termOf}
 use Rattle.terms.specs.Valid.{TermValid}
+use Rattle.theory.specs.Elements.{All}
+use Rattle.gathering.specs.Sums.{Bringable}
 use Rattle.rules.specs.declared.steps.Step.{Step}
+use Rattle.rules.specs.declared.steps.StepTerms.{StepTerms}
 
 -- a step, with as many letters as its rule has
 unfoldable pub stepOf : Step → R.Step
@@ -20,6 +25,24 @@ stepOf s = record { rule = s .rule; letters = take (ruleLetters (s .rule)) (s .l
 pub record StepValid (s : Step) : Type 0 where
   pub rule : T (isRule (s .rule))
   pub m : TermValid (s .m)
+
+-- "the kinds must agree", and 8 for M's and the rule's letters, at a form of a kind
+unfoldable pub stepTests : (kind : ℕ) (s : R.Step) → Test
+stepTests kind s = do
+  require (stepKindsFit (record { kind = kind; terms = [] }) s) 6
+  require (leb (vectorLetters (s .m) + ruleLetters (s .rule)) 6) 8
+
+-- a step that passes them at some kind of form
+pub record StepFits (s : Step) : Type 0 where
+  pub kind : ℕ
+  pub passes : stepTests kind (stepOf s) ≡ given tt
+
+-- what a step adds
+pub record StepAdds (s : Step) (r : StepTerms) : Type 0 where
+  pub is : map termOf (take (r .count) (r .terms)) ≡ stepTerms (stepOf s)
+  pub few : r .count ≤ 7
+  pub six : length (s .letters) ≡ 6
+  pub bringable : All Bringable (take (r .count) (r .terms))
 
 -- no refusal
 unfoldable pub isGiven : {A : Type 0} → Result A → Bool

@@ -10,7 +10,8 @@ ghost use Rattle.terms.specs.Valid.{FormValid};
 ghost use Rattle.gathering.specs.Closing.{WorkedAs};
 ghost use Rattle.rules.specs.Table.{rowCount};
 ghost use Rattle.theory.specs.Shape.Terms.{kindOfPart};
-ghost use Rattle.rules.specs.Steps.{stepOf, StepValid};
+ghost use Rattle.records.specs.Tested.{testOf};
+ghost use Rattle.rules.specs.Steps.{stepOf, StepValid, stepTests, StepFits, StepAdds};
 use crate::table::row_product;
 use gathering::Closed;
 use gathering::bring_all;
@@ -99,36 +100,63 @@ fn letters_fit(s: Step) -> bool
     u.vectors + part_letters(p) + rule_letters(s.rule) <= 6
 }
 
-// The form reached by a step; 6 where the kinds do not agree, 8 where M and the rule have too many letters, 9 and 10 of the gathered form.
-pub fn take_step(f: Form, s: Step) -> Closed
-    requires { ⌜ FormValid f × StepValid s ⌝ }
-    ensures { λ r. ⌜ WorkedAs (takeStep (formOf f) (stepOf s)) r ⌝ }
+// 6 where a step's kinds do not agree with those of a form of a kind, 8 where M and the rule have too many letters, else 0.
+pub fn test_step(kind: u8, s: Step) -> u8
+    requires { ⌜ StepValid s ⌝ }
+    ensures { λ r. ⌜ testOf r ≡ stepTests kind (stepOf s) ⌝ }
 {
-    let kind = f.kind;
     if !kinds_fit(kind, s) {
-        return Closed {
-            refusal: 6,
-            form: f,
-        };
+        return 6;
     }
     if !letters_fit(s) {
-        return Closed {
-            refusal: 8,
-            form: f,
-        };
+        return 8;
     }
+    0
+}
+
+// The terms that a step adds, their letters and factors in any order.
+pub struct StepTerms {
+    pub count: usize,
+    pub terms: [Term; 16],
+}
+
+// M times each row of the rule.
+pub fn step_terms(s: Step) -> StepTerms
+    requires { ⌜ StepValid s × StepFits s ⌝ }
+    ensures { λ r. ⌜ StepAdds s r ⌝ }
+{
     let m = s.m;
     let letters = s.letters;
     let rule = s.rule as usize;
     let first = 4 * (rule - 1);
     let n = row_count(s.rule);
-    let g = holding(f);
-    let mut ts = g.terms;
+    let mut ts = [m; 16];
     let mut i: usize = 0;
     while i < n {
         let t = row_product(m, letters, first + i);
         ts[i] = t;
         i += 1;
     }
-    close(bring_all(g, ts, n), kind)
+    StepTerms {
+        count: n,
+        terms: ts,
+    }
+}
+
+// The form reached by a step; 6, 8, then 9 and 10 of the gathered form.
+pub fn take_step(f: Form, s: Step) -> Closed
+    requires { ⌜ FormValid f × StepValid s ⌝ }
+    ensures { λ r. ⌜ WorkedAs (takeStep (formOf f) (stepOf s)) r ⌝ }
+{
+    let kind = f.kind;
+    let n = test_step(kind, s);
+    if n != 0 {
+        return Closed {
+            refusal: n,
+            form: f,
+        };
+    }
+    let a = step_terms(s);
+    let ts = a.terms;
+    close(bring_all(holding(f), ts, a.count), kind)
 }

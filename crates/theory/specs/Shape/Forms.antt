@@ -1,16 +1,16 @@
 -- A form in shape: what the tests of a form say. Its terms are gathered; and what is gathered from terms of one kind within the limits, and passes 9 and 10, is a form in shape.
 -- Assumes nothing.
-use mathlib.Core.Path.{_≡_, sym, subst}
+use mathlib.Core.Path.{_≡_, sym, _∙_, subst}
 use mathlib.Core.List.{List, [], _∷_}
 use Prim.Native.Nat.{ℕ, _≤_, Ordering}
-use lib.Dec.{T, leb, leb→le, eqb→eq}
+use lib.Dec.{T, leb, leb→le, le→leb, eqb→eq}
 use lib.ListN.{length}
 use Rattle.algebra.specs.Integers.{NonZero}
 use Rattle.specification.specs.Results.{given}
 use Rattle.specification.specs.Lists.{isLess, all, ascend}
 use Rattle.specification.specs.Terms.{Term, Form, termKind, tidy, gather, termWithin, within, termBefore, termInShape}
 use Rattle.specification.specs.Records.{partFits}
-use Rattle.theory.specs.Tests.{and-both, and-split, eqb-T, given-same, required}
+use Rattle.theory.specs.Tests.{and-both, and-split, eqb-T, given-same, required, passes}
 use Rattle.theory.specs.Elements.{All, all-implies, all-T, T-all, both-all}
 use Rattle.theory.specs.Order.{View, vlt, veq, vgt, Monomial, monomial, LtMonomial, monomial-laws, term-view}
 use Rattle.theory.specs.Gathering.Tidy.{InOrder, tidy-in-order}
@@ -91,6 +91,14 @@ within-given kind ts f e =
     let w₁ = required (all termWithin ts) 9 _ f e in
     let w₂ = required (leb (length ts) 48) 10 _ f (w₁ .1) in
     record { coefs = w₁ .0; short = leb→le (length ts) 48 (w₂ .0); is = given-same (sym (w₂ .1)) }
+
+-- a form in shape is within the limits
+pub form-within : (f : Form) → FormInShape f → within (f .kind) (f .terms) ≡ given f
+unfolding within termWithin
+form-within f s =
+    passes (all termWithin (f .terms)) 9 _
+    (T-all termWithin (f .terms) (all-implies (λ (t : Term). T (termInShape t)) (λ (t : Term). T (termWithin t)) (λ t h. term-opens t h .within) (f .terms) (all-T termInShape (f .terms) (s .terms))))
+    ∙ passes (leb (length (f .terms)) 48) 10 _ (le→leb (length (f .terms)) 48 (s .count))
 
 -- in the order of forms, of the kind, within the limits
 abbrev Whole : ℕ → Monomial → Type 0
