@@ -100,14 +100,14 @@ pub fn same_form(f: Form, g: Form) -> bool
     if n != g.count {
         return false;
     }
-    let mut i: usize = 0;
-    while i < n {
-        let t = f.terms[i];
-        let u = g.terms[i];
+    let mut j: usize = 0;
+    while j < n {
+        let t = f.terms[j];
+        let u = g.terms[j];
         if !same_term(t, u) {
             return false;
         }
-        i += 1;
+        j += 1;
     }
     true
 }

@@ -1,15 +1,16 @@
 -- The five rules as one table: the rows of a rule, in their order, are the terms of its left side and those of its right side negated. Assumes nothing.
 use mathlib.Core.Path.{_≡_}
-use mathlib.Core.List.{List, [], _∷_, _++_}
-use Prim.Native.Nat.{ℕ, zero, suc, _+_, _-_, _*_, _/_, _%_, _≤_}
+use mathlib.Core.List.{List, [], _∷_, _++_, map}
+use Prim.Native.Nat.{ℕ, zero, suc, _+_, _-_, _*_, _/_, _%_, _<_, _≤_}
 use lib.Dec.{eqb}
 use lib.IntN.{ℤ, pos, negsuc, natAbs}
-use lib.ListN.{getD}
+use lib.ListN.{length, getD, take}
 use Rattle.specification.specs.Results.{if_then_else_}
 use Rattle.specification.specs.Terms.{timesTerm}
 use Rattle.specification.specs.Terms as S
 use Rattle.terms.specs.declared.types.Term.{Term}
-use Rattle.terms.specs.Build.{behind}
+use Rattle.theory.specs.Elements.{All}
+use Rattle.terms.specs.Numbers.{lettersOf}
 use Rattle.terms.specs.Abstraction.{termOf, Counted}
 
 -- a row's octal digits: 1 for plus or 2 for minus, three letters for each of three factors, two letters for the vector part; a letter is its place, from 1, among the rule's letters
@@ -87,11 +88,12 @@ rowCount r = if eqb r 5 then 7 else 4
 
 -- ════ what the functions give
 
--- a term with at most one more factor
-pub record WithFactor (fs : List (List ℕ)) (t r : Term) : Type 0 where
-  pub is : termOf r ≡ behind fs (termOf t)
-  pub counted : Counted r
-  pub count : r .«factor_count» ≤ t .«factor_count» + 1
+-- at most one more factor behind n others
+pub record FactorPut (fs : List (List ℕ)) (n : ℕ) (before after : List ℕ) (r : ℕ) : Type 0 where
+  pub is : map lettersOf (take r after) ≡ map lettersOf (take n before) ++ fs
+  pub small : All (λ (k : ℕ). k < 16843008) (take n before) → All (λ (k : ℕ). k < 16843008) (take r after)
+  pub few : r ≤ n + 1
+  pub places : length after ≡ 7
 
 -- a term times a row
 pub record TimesRow (m : Term) (letters : List ℕ) (row : ℕ) (r : Term) : Type 0 where

@@ -11,10 +11,10 @@ use Rattle.checker.proofs.replay.same_form.Statement.{statement}
 use Rattle.checker.proofs.replay.same_form.Tie as tie
 
 abbrev Inv-loop : tie.InvT-loop
-Inv-loop f g n i₀ i = (i ≤ n) × (n ≡ f .count) × (sameForm (formOf f) (formOf g) ≡ sameTerms (termsFrom (f .terms) n i) (termsFrom (g .terms) n i))
+Inv-loop f g n j₀ j = (j ≤ n) × (n ≡ f .count) × (sameForm (formOf f) (formOf g) ≡ sameTerms (termsFrom (f .terms) n j) (termsFrom (g .terms) n j))
 
 abbrev μ-loop : tie.MeasureT-loop
-μ-loop f g n i₀ i = n - i
+μ-loop f g n j₀ j = n - j
 
 room-f : (c : tie.Start Inv-loop μ-loop) → c .args .t1 .count ≤ length (c .args .t1 .terms)
 room-f c = let e : length (c .args .t1 .terms) ≡ 48 = sym (length-map (c .args .t1 .terms) _) ∙ c .good .0 .1 .1 .1 .1 .0 .1 .0 .1 in omega (arith, e, c .pre .0 .few)
@@ -44,22 +44,22 @@ element-copy-out-u : tie.Need-element-copy-out-u Inv-loop μ-loop
 element-copy-out-u c = omega (arith, c .before .before .before .before .before .pre .0 .few)
 
 same-term-requires : tie.Need-same-term-requires Inv-loop μ-loop
-same-term-requires c κs = (all-at Counted _ _ _ noTerm (room-f (c .before .before .before .before .before .before)) (c .before .before .loop-test .taken) (c .before .before .before .before .before .before .pre .0 .counted), all-at Counted (c .before .before .before .before .before .before .args .t2 .terms) (c .before .before .before .before .before .before .args .t2 .count) (c .before .before .before .loop .i) noTerm (room-g (c .before .before .before .before .before .before)) (omega (arith, c .before .before .loop-test .taken, c .before .before .before .before .if2 .left)) (c .before .before .before .before .before .before .pre .1 .counted))
+same-term-requires c κs = (all-at Counted _ _ _ noTerm (room-f (c .before .before .before .before .before .before)) (c .before .before .loop-test .taken) (c .before .before .before .before .before .before .pre .0 .counted), all-at Counted (c .before .before .before .before .before .before .args .t2 .terms) (c .before .before .before .before .before .before .args .t2 .count) (c .before .before .before .loop .j) noTerm (room-g (c .before .before .before .before .before .before)) (omega (arith, c .before .before .loop-test .taken, c .before .before .before .before .if2 .left)) (c .before .before .before .before .before .before .pre .1 .counted))
 
 returns-3 : tie.Need-returns-3 Inv-loop μ-loop
-returns-3 c = sym (c .before .before .before .before .before .loop .inv .2 ∙ pair-differs (c .before .before .before .before .before .before .before .before .args .t1 .terms) (c .before .before .before .before .before .before .before .before .args .t2 .terms) (c .before .before .before .before .before .before .before .before .args .t1 .count) (c .before .before .before .before .before .loop .i) (room-f (c .before .before .before .before .before .before .before .before)) (omega (arith, room-g (c .before .before .before .before .before .before .before .before), c .before .before .before .before .before .before .if2 .left)) (c .before .before .before .before .loop-test .taken) _ (c .before .same-term .ensures) (not-true _ (c .if3 .taken)))
+returns-3 c = sym (c .before .before .before .before .before .loop .inv .2 ∙ pair-differs (c .before .before .before .before .before .before .before .before .args .t1 .terms) (c .before .before .before .before .before .before .before .before .args .t2 .terms) (c .before .before .before .before .before .before .before .before .args .t1 .count) (c .before .before .before .before .before .loop .j) (room-f (c .before .before .before .before .before .before .before .before)) (omega (arith, room-g (c .before .before .before .before .before .before .before .before), c .before .before .before .before .before .before .if2 .left)) (c .before .before .before .before .loop-test .taken) _ (c .before .same-term .ensures) (not-true _ (c .if3 .taken)))
 
-add-i : tie.Need-add-i Inv-loop μ-loop
-add-i c = omega (arith, c .before .before .before .before .before .before .before .before .pre .0 .few)
+add-j : tie.Need-add-j Inv-loop μ-loop
+add-j c = omega (arith, c .before .before .before .before .before .before .before .before .pre .0 .few)
 
 loop-less : tie.Need-loop-less Inv-loop μ-loop
 loop-less c = omega arith
 
 loop-again : tie.Need-loop-again Inv-loop μ-loop
-loop-again c = (omega arith, c .before .before .before .before .before .loop .inv .1, c .before .before .before .before .before .loop .inv .2 ∙ pair-same (c .before .before .before .before .before .before .before .before .args .t1 .terms) (c .before .before .before .before .before .before .before .before .args .t2 .terms) (c .before .before .before .before .before .before .before .before .args .t1 .count) (c .before .before .before .before .before .loop .i) (room-f (c .before .before .before .before .before .before .before .before)) (omega (arith, room-g (c .before .before .before .before .before .before .before .before), c .before .before .before .before .before .before .if2 .left)) (c .before .before .before .before .loop-test .taken) _ (c .before .same-term .ensures) (not-false _ (c .if3 .left)))
+loop-again c = (omega arith, c .before .before .before .before .before .loop .inv .1, c .before .before .before .before .before .loop .inv .2 ∙ pair-same (c .before .before .before .before .before .before .before .before .args .t1 .terms) (c .before .before .before .before .before .before .before .before .args .t2 .terms) (c .before .before .before .before .before .before .before .before .args .t1 .count) (c .before .before .before .before .before .loop .j) (room-f (c .before .before .before .before .before .before .before .before)) (omega (arith, room-g (c .before .before .before .before .before .before .before .before), c .before .before .before .before .before .before .if2 .left)) (c .before .before .before .before .loop-test .taken) _ (c .before .same-term .ensures) (not-false _ (c .if3 .left)))
 
 returns-4 : tie.Need-returns-4 Inv-loop μ-loop
-returns-4 c = sym (c .before .loop .inv .2 ∙ all-same (c .before .before .before .before .args .t1 .terms) (c .before .before .before .before .args .t2 .terms) (c .before .before .before .before .args .t1 .count) (c .before .loop .i) (room-f (c .before .before .before .before)) (omega (arith, room-g (c .before .before .before .before), c .before .before .if2 .left)) (c .loop-test .left))
+returns-4 c = sym (c .before .loop .inv .2 ∙ all-same (c .before .before .before .before .args .t1 .terms) (c .before .before .before .before .args .t2 .terms) (c .before .before .before .before .args .t1 .count) (c .before .loop .j) (room-f (c .before .before .before .before)) (omega (arith, room-g (c .before .before .before .before), c .before .before .if2 .left)) (c .loop-test .left))
 
 pub same-form-spec : {M : Type 1} → statement M
 same-form-spec =
@@ -76,7 +76,7 @@ same-form-spec =
     element-copy-out-u
     same-term-requires
     returns-3
-    add-i
+    add-j
     loop-less
     loop-again
     returns-4)
