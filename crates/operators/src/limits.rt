@@ -33,10 +33,9 @@ fn with_term(m: Most, t: Term) -> Most
     requires { ⌜ Counted t × (natAbs (t .coef) ≤ 2147483647) ⌝ }
     ensures { λ r. ⌜ MostWith (termOf t) m r ⌝ }
 {
-    let f = t.factors;
     let n = t.factor_count;
     let p = t.part;
-    let used = letters_used(f, n);
+    let used = letters_used(&t.factors, n);
     let c = size(t.coef) as usize;
     Most {
         vectors: larger(used.vectors + part_letters(p), m.vectors),

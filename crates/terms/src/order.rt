@@ -1,7 +1,7 @@
 // The order of terms: by vector part, then by the number of factors, then at the first factor that differs.
 ghost use mathlib.Core.Path.{_≡_};
 ghost use Prim.Native.Nat.{_≤_};
-ghost use lib.ListN.{take};
+ghost use lib.ListN.{length, take};
 ghost use Rattle.specification.specs.Lists.{order, firstDifference};
 ghost use Rattle.specification.specs.Terms.{compareTerms};
 ghost use Rattle.terms.specs.Numbers.{partLettersOf};
@@ -30,9 +30,9 @@ fn part_number(p: Part) -> u32
 }
 
 // The first of n factors that differs decides.
-fn compare_factors(f: [u32; 7], g: [u32; 7], n: u8) -> Order
-    requires { ⌜ n ≤ 7 ⌝ }
-    ensures { λ r. ⌜ orderingOf r ≡ firstDifference order (take n f) (take n g) ⌝ }
+fn compare_factors(f: &[u32; 7], g: &[u32; 7], n: u8) -> Order
+    requires { ⌜ (n ≤ 7) × (length (now f) ≡ 7) × (length (now g) ≡ 7) ⌝ }
+    ensures { λ r. ⌜ orderingOf r ≡ firstDifference order (take n (now (f .entry))) (take n (now (g .entry))) ⌝ }
 {
     let m = n as usize;
     let mut k: usize = 0;
@@ -71,7 +71,5 @@ pub fn compare(a: Term, b: Term) -> Order
     if m < n {
         return Order::Greater;
     }
-    let f = a.factors;
-    let g = b.factors;
-    compare_factors(f, g, n)
+    compare_factors(&a.factors, &b.factors, n)
 }

@@ -40,9 +40,9 @@ fn factor_in_shape(k: u32) -> bool
 }
 
 // The letters of each of n factors are in order, and so are the factors.
-fn factors_in_shape(f: [u32; 7], n: u8) -> bool
-    requires { ⌜ n ≤ 7 ⌝ }
-    ensures { λ r. ⌜ r ≡ (all factorInShape (map lettersOf (take n f)) && ascend factorNotAfter (map lettersOf (take n f))) ⌝ }
+fn factors_in_shape(f: &[u32; 7], n: u8) -> bool
+    requires { ⌜ (n ≤ 7) × (length (now f) ≡ 7) ⌝ }
+    ensures { λ r. ⌜ r ≡ (all factorInShape (map lettersOf (take n (now (f .entry)))) && ascend factorNotAfter (map lettersOf (take n (now (f .entry))))) ⌝ }
 {
     let m = n as usize;
     let mut last: u32 = 0;
@@ -82,9 +82,9 @@ fn scalar_count(k: u32) -> usize
 }
 
 // The letters that n factors use, repeats counted.
-pub fn letters_used(f: [u32; 7], n: u8) -> Used
-    requires { ⌜ n ≤ 7 ⌝ }
-    ensures { λ r. ⌜ UsedBy (map lettersOf (take n f)) r ⌝ }
+pub fn letters_used(f: &[u32; 7], n: u8) -> Used
+    requires { ⌜ (n ≤ 7) × (length (now f) ≡ 7) ⌝ }
+    ensures { λ r. ⌜ UsedBy (map lettersOf (take n (now (f .entry)))) r ⌝ }
 {
     let m = n as usize;
     let mut vectors: usize = 0;
@@ -129,10 +129,9 @@ fn letters_in_shape(t: Term) -> bool
     requires { ⌜ Counted t ⌝ }
     ensures { λ r. ⌜ r ≡ (leb (vectorLetters (termOf t)) 6 && leb (scalarLetters (termOf t)) 2) ⌝ }
 {
-    let f = t.factors;
     let n = t.factor_count;
     let p = t.part;
-    let u = letters_used(f, n);
+    let u = letters_used(&t.factors, n);
     if u.vectors + part_letters(p) > 6 {
         return false;
     }
@@ -145,7 +144,6 @@ pub fn in_shape(t: Term) -> bool
     ensures { λ r. ⌜ r ≡ termInShape (termOf t) ⌝ }
 {
     let c = t.coef;
-    let f = t.factors;
     let n = t.factor_count;
     let p = t.part;
     if is_zero(c) {
@@ -154,7 +152,7 @@ pub fn in_shape(t: Term) -> bool
     if !within(c) {
         return false;
     }
-    if !factors_in_shape(f, n) {
+    if !factors_in_shape(&t.factors, n) {
         return false;
     }
     if !part_in_shape(p) {

@@ -1,47 +1,38 @@
+use mathlib.Core.Path.{_≡_}
+use lib.ListN.{length}
 use Rattle.terms.proofs.InShape.{part-few}
 use native.Mathlib.Omega.{arith}
 use Rattle.operators.proofs.Largest.{size-asks, with-most}
 use borrow.Author.Needs.{needs}
 use Rattle.operators.proofs.limits.with_term.Statement.{statement}
 use Rattle.operators.proofs.limits.with_term.Tie as tie
-use Rattle.operators.proofs.limits.with_term.Reads as reads
-use Rattle.operators.proofs.limits.with_term.Lts as lts
-use Rattle.integers.proofs.size.Reads as size-reads
-use Rattle.operators.proofs.limits.larger.Reads as larger-reads
-use Rattle.terms.proofs.shape.letters_used.Reads as letters-used-reads
-use Rattle.terms.proofs.shape.part_letters.Reads as part-letters-reads
 
--- src/limits.rt:37:9
+places : (c : tie.Start) → length (c .args .t2 .factors) ≡ 7
+places c = search needs
+
 letters-used-requires : tie.Need-letters-used-requires
-letters-used-requires c κs = (c .before .pre .0 .few)
+letters-used-requires c κs = (c .before .before .pre .0 .few, places (c .before .before))
 
--- src/limits.rt:38:13
 size-requires : tie.Need-size-requires
-size-requires c κs = size-asks (c .before .before .before .args .t .coef) (c .before .before .before .pre .1)
+size-requires c κs = size-asks (c .before .before .before .before .args .t2 .coef) (c .before .before .before .before .pre .1)
 
--- src/limits.rt:40:40
 part-letters-requires : tie.Need-part-letters-requires
 part-letters-requires c κs = search needs
 
--- src/limits.rt:40:25
 add-larger : tie.Need-add-larger
-add-larger c = omega (arith, (c .before .before .before .before .letters-used .ensures .few), (c .before .part-letters .ensures), part-few (c .before .before .before .before .before .before .args .t .part))
+add-larger c = omega (arith, c .before .before .before .before .letters-used .ensures .few, c .before .part-letters .ensures, part-few (c .before .before .before .before .before .before .before .args .t2 .part))
 
--- src/limits.rt:40:18
 larger-requires : tie.Need-larger-requires
 larger-requires c κs = search needs
 
--- src/limits.rt:41:18
 larger-requires-2 : tie.Need-larger-requires-2
 larger-requires-2 c κs = search needs
 
--- src/limits.rt:42:15
 larger-requires-3 : tie.Need-larger-requires-3
 larger-requires-3 c κs = search needs
 
--- src/limits.rt:30:1
 returns : tie.Need-returns
-returns c = with-most _ _ _ _ _ _ (c .before .before .before .before .before .before .before .before .before .pre .1) (c .before .before .before .before .before .before .before .letters-used .ensures) (c .before .before .before .before .part-letters .ensures) (c .before .before .before .before .before .size .ensures) (c .before .before .larger .ensures) (c .before .larger2 .ensures) (c .larger3 .ensures)
+returns c = with-most _ _ _ _ _ _ (c .before .before .before .before .before .before .before .before .before .before .pre .1) (c .before .before .before .before .before .before .before .letters-used .ensures) (c .before .before .before .before .part-letters .ensures) (c .before .before .before .before .before .size .ensures) (c .before .before .larger .ensures) (c .before .larger2 .ensures) (c .larger3 .ensures)
 
 pub with-term-spec : {M : Type 1} → statement M
 with-term-spec =

@@ -8,53 +8,45 @@ use borrow.Author.Needs.{needs}
 use Rattle.terms.proofs.order.compare.Statement.{statement}
 use Rattle.terms.proofs.order.compare.Tie as tie
 
-places-a : (c : tie.Start) → length (c .args .a .factors) ≡ 7
+places-a : (c : tie.Start) → length (c .args .t1 .factors) ≡ 7
 places-a c = search needs
 
-places-b : (c : tie.Start) → length (c .args .b .factors) ≡ 7
+places-b : (c : tie.Start) → length (c .args .t2 .factors) ≡ 7
 places-b c = search needs
 
-few-a : (c : tie.Start) → c .args .a .«factor_count» ≤ length (c .args .a .factors)
+few-a : (c : tie.Start) → c .args .t1 .«factor_count» ≤ length (c .args .t1 .factors)
 few-a c = omega (arith, places-a c, c .pre .0 .few)
 
-few-b : (c : tie.Start) → c .args .b .«factor_count» ≤ length (c .args .b .factors)
+few-b : (c : tie.Start) → c .args .t2 .«factor_count» ≤ length (c .args .t2 .factors)
 few-b c = omega (arith, places-b c, c .pre .1 .few)
 
--- src/order.rt:58:9
 part-number-requires : tie.Need-part-number-requires
 part-number-requires c κs = search needs
 
--- src/order.rt:59:9
 part-number-requires-2 : tie.Need-part-number-requires-2
 part-number-requires-2 c κs = search needs
 
--- src/order.rt:61:9
 returns : tie.Need-returns
 unfolding orderingOf
-returns c = let w = c .before .before .before in sym (part-less (w .args .a) (w .args .b) _ _ (c .before .before .part-number .ensures) (c .before .part-number2 .ensures) (few-a w) (few-b w) (c .if1 .taken))
+returns c = let w = c .before .before .before in sym (part-less (w .args .t1) (w .args .t2) _ _ (c .before .before .part-number .ensures) (c .before .part-number2 .ensures) (few-a w) (few-b w) (c .if1 .taken))
 
--- src/order.rt:64:9
 returns-2 : tie.Need-returns-2
 unfolding orderingOf
-returns-2 c = let w = c .before .before .before .before in sym (part-more (w .args .a) (w .args .b) _ _ (c .before .before .before .part-number .ensures) (c .before .before .part-number2 .ensures) (few-a w) (few-b w) (c .if2 .taken))
+returns-2 c = let w = c .before .before .before .before in sym (part-more (w .args .t1) (w .args .t2) _ _ (c .before .before .before .part-number .ensures) (c .before .before .part-number2 .ensures) (few-a w) (few-b w) (c .if2 .taken))
 
--- src/order.rt:69:9
 returns-3 : tie.Need-returns-3
 unfolding orderingOf
-returns-3 c = let w = c .before .before .before .before .before in sym (count-less (w .args .a) (w .args .b) _ _ (c .before .before .before .before .part-number .ensures) (c .before .before .before .part-number2 .ensures) (few-a w) (few-b w) (c .before .if2 .left) (c .before .before .if1 .left) (c .if3 .taken))
+returns-3 c = let w = c .before .before .before .before .before in sym (count-less (w .args .t1) (w .args .t2) _ _ (c .before .before .before .before .part-number .ensures) (c .before .before .before .part-number2 .ensures) (few-a w) (few-b w) (c .before .if2 .left) (c .before .before .if1 .left) (c .if3 .taken))
 
--- src/order.rt:72:9
 returns-4 : tie.Need-returns-4
 unfolding orderingOf
-returns-4 c = let w = c .before .before .before .before .before .before in sym (count-more (w .args .a) (w .args .b) _ _ (c .before .before .before .before .before .part-number .ensures) (c .before .before .before .before .part-number2 .ensures) (few-a w) (few-b w) (c .before .before .if2 .left) (c .before .before .before .if1 .left) (c .if4 .taken))
+returns-4 c = let w = c .before .before .before .before .before .before in sym (count-more (w .args .t1) (w .args .t2) _ _ (c .before .before .before .before .before .part-number .ensures) (c .before .before .before .before .part-number2 .ensures) (few-a w) (few-b w) (c .before .before .if2 .left) (c .before .before .before .if1 .left) (c .if4 .taken))
 
--- src/order.rt:76:5
 compare-factors-requires : tie.Need-compare-factors-requires
 compare-factors-requires c κs = search needs
 
--- src/order.rt:52:1
 returns-5 : tie.Need-returns-5
-returns-5 c = let w = c .before .before .before .before .before .before .before .before .before in c .compare-factors .ensures ∙ sym (same-counts (w .args .a) (w .args .b) _ _ (c .before .before .before .before .before .before .before .before .part-number .ensures) (c .before .before .before .before .before .before .before .part-number2 .ensures) (few-a w) (few-b w) (c .before .before .before .before .before .if2 .left) (c .before .before .before .before .before .before .if1 .left) (c .before .before .before .if4 .left) (c .before .before .before .before .if3 .left))
+returns-5 c = let w = c .before .before .before .before .before .before .before .before .before .before .before in c .compare-factors .ensures ∙ sym (same-counts (w .args .t1) (w .args .t2) _ _ (c .before .before .before .before .before .before .before .before .before .before .part-number .ensures) (c .before .before .before .before .before .before .before .before .before .part-number2 .ensures) (few-a w) (few-b w) (c .before .before .before .before .before .before .before .if2 .left) (c .before .before .before .before .before .before .before .before .if1 .left) (c .before .before .before .before .before .if4 .left) (c .before .before .before .before .before .before .if3 .left))
 
 pub compare-spec : {M : Type 1} → statement M
 compare-spec =

@@ -1,26 +1,26 @@
+use mathlib.Core.Path.{_≡_}
 use native.Mathlib.Omega.{arith}
+use lib.ListN.{length}
 use Rattle.terms.proofs.InShape.{part-few, too-many, enough}
 use borrow.Author.Needs.{needs}
 use Rattle.terms.proofs.shape.letters_in_shape.Statement.{statement}
 use Rattle.terms.proofs.shape.letters_in_shape.Tie as tie
 
--- src/shape.rt:133:9
-letters-used-requires : tie.Need-letters-used-requires
-letters-used-requires c κs = search needs
+places : (c : tie.Start) → length (c .args .t1 .factors) ≡ 7
+places c = search needs
 
--- src/shape.rt:134:20
+letters-used-requires : tie.Need-letters-used-requires
+letters-used-requires c κs = (c .before .before .pre .few, places (c .before .before))
+
 part-letters-requires : tie.Need-part-letters-requires
 part-letters-requires c κs = search needs
 
--- src/shape.rt:134:8
 add-if1 : tie.Need-add-if1
-add-if1 c = omega (arith, c .before .before .letters-used .ensures .few, c .before .part-letters .ensures, part-few (c .before .before .before .before .args .t .part))
+add-if1 c = omega (arith, c .before .before .letters-used .ensures .few, c .before .part-letters .ensures, part-few (c .before .before .before .before .before .args .t1 .part))
 
--- src/shape.rt:135:9
 returns : tie.Need-returns
 returns c = too-many _ _ _ (c .before .before .before .letters-used .ensures) (c .before .before .part-letters .ensures) (c .if1 .taken)
 
--- src/shape.rt:126:1
 returns-2 : tie.Need-returns-2
 returns-2 c = enough _ _ _ (c .before .before .before .before .letters-used .ensures) (c .before .before .before .part-letters .ensures) (c .before .if1 .left)
 
