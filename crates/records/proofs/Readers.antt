@@ -1,7 +1,7 @@
 -- Reading a term: each step as its tests decide it. Assumes nothing.
 use mathlib.Core.Path.{_≡_, refl, ap, sym, _∙_}
 use mathlib.Core.Bool.{Bool, true, false, true≢false, not, _&&_}
-use mathlib.Core.List.{List, [], _∷_, _++_, append-nil, append-assoc}
+use mathlib.Core.List.{List, [], _∷_, _++_, map, append-nil, append-assoc}
 use Prim.Native.Nat.{ℕ, zero, suc, _+_, _-_, _*_, _/_, _%_, _<_, _≤_}
 use native.Mathlib.Omega.{arith}
 use native.Mathlib.Nat.{suc-mul, mul-le-mul, mul-le-mul-right, le-of-lt, lt-of-le-of-lt}
@@ -15,6 +15,7 @@ use Rattle.specification.specs.Results.{Result, refused, given, _>>=_, _>>_, re
 use Rattle.specification.specs.Terms.{withCoef, plus, termInShape}
 use Rattle.specification.specs.Terms as S
 use Rattle.specification.specs.Records.{isOne, fourBytesAt, stands, partLetters, goodBits, readCoef, readFactors, readLetters, factorsAt, testShape, readTermAt}
+use Rattle.terms.specs.declared.types.Part.{Part}
 use Rattle.terms.specs.declared.types.Part.the-variants.{Nothing}
 use Rattle.terms.specs.declared.types.Term.{Term}
 use Rattle.terms.specs.Numbers.{lettersOf, FactorNumber}
@@ -23,7 +24,7 @@ use Rattle.terms.specs.Build.{behind, Appended}
 use Rattle.terms.proofs.Joins.{appended-one}
 use Rattle.records.specs.declared.read.Fields.{Fields}
 use Rattle.records.specs.declared.read.TermReading.{TermReading}
-use Rattle.records.specs.Reading.{readOf, listed, fieldsOf, FieldsRefused, coefStep, CoefRead, factorsStep, withPart, partStep, shapeStep, readFields, Stepped}
+use Rattle.records.specs.Reading.{readOf, listed, fieldsOf, FieldsRefused, coefStep, CoefRead, factorsStep, withPart, partStep, shapeStep, restOf, readFields, Stepped, TermRead}
 
 -- ════ room
 
@@ -212,23 +213,57 @@ factors-absent s t at most size there e = rw (e, append-nil)
 -- ════ the vector part
 
 module _ (s : List ℕ) (t : S.Term) (at n : ℕ) where
-  pub part-short : leb (at + n) (length s) ≡ false → partStep n s (t, at) ≡ refused 11
+  part-short : leb (at + n) (length s) ≡ false → partStep n s (t, at) ≡ refused 11
   unfolding partStep readLetters
   part-short f = rw f
 
-  pub part-given : leb (at + n) (length s) ≡ true → partStep n s (t, at) ≡ given (withPart (take n (drop at s)) t, at + n)
+  part-given : leb (at + n) (length s) ≡ true → partStep n s (t, at) ≡ given (withPart (take n (drop at s)) t, at + n)
   unfolding partStep readLetters
   part-given f = rw f
 
 -- ════ the shape
 
-pub shape-refused : (t : S.Term) (at : ℕ) → termInShape t ≡ false → shapeStep (t, at) ≡ refused 11
+shape-refused : (t : S.Term) (at : ℕ) → termInShape t ≡ false → shapeStep (t, at) ≡ refused 11
 unfolding shapeStep testShape
 shape-refused t at e = rw e
 
-pub shape-given : (t : S.Term) (at : ℕ) → termInShape t ≡ true → shapeStep (t, at) ≡ given (t, at)
+shape-given : (t : S.Term) (at : ℕ) → termInShape t ≡ true → shapeStep (t, at) ≡ given (t, at)
 unfolding shapeStep testShape
 shape-given t at e = rw e
+
+-- ════ the rest of a term
+
+module _ (s f : List ℕ) (r : Fields) (n : ℕ) where
+  -- a refusal stays
+  pub rest-unread : (q : TermReading) → r .ok ≡ false → readOf q ≡ refused 11 → Counted (q .term) → TermRead (restOf n s (fieldsOf r f)) q
+  unfolding restOf readOf fieldsOf
+  rest-unread q e h c = record { is = h ∙ sym (rw e); counted = c }
+
+  module _ (o : r .ok ≡ true) where
+    -- a vector part cut off
+    pub rest-short : (q : TermReading) → leb (r .next + n) (length s) ≡ false → readOf q ≡ refused 11 → Counted (q .term) → TermRead (restOf n s (fieldsOf r f)) q
+    unfolding restOf readOf fieldsOf
+    rest-short q e h c = record { is = h ∙ sym (rw (o, part-short s (termOf (fieldsOf r f .term)) (r .next) n e)); counted = c }
+
+    module _ (p : Part) (k : ℤ) (l : leb (r .next + n) (length s) ≡ true) (ep : partOf p ≡ take n (drop (r .next) s)) (ek : k ≡ r .coef) where
+      -- the whole term
+      abbrev whole : Term
+      whole = record { coef = k; factors = f; «factor_count» = r .count; part = p }
+
+      rest-is : restOf n s (fieldsOf r f) ≡ shapeStep (termOf whole, r .next + n)
+      unfolding restOf readOf fieldsOf termOf withPart
+      rest-is =
+          rw (o, part-given s (termOf (fieldsOf r f .term)) (r .next) n l)
+          (λ i. shapeStep (record { coef = sym ek i; factors = map lettersOf (take (r .count) f); part = sym ep i }, r .next + n))
+
+      -- not in shape
+      pub rest-bad : (q : TermReading) → termInShape (termOf whole) ≡ false → readOf q ≡ refused 11 → Counted (q .term) → TermRead (restOf n s (fieldsOf r f)) q
+      rest-bad q e h c = record { is = h ∙ sym (rest-is ∙ shape-refused (termOf whole) (r .next + n) e); counted = c }
+
+      -- read whole
+      pub rest-given : termInShape (termOf whole) ≡ true → Counted (listed (r .count) f) → TermRead (restOf n s (fieldsOf r f)) (record { ok = true; next = r .next + n; term = whole })
+      unfolding readOf listed
+      rest-given e c = record { is = sym (rest-is ∙ shape-given (termOf whole) (r .next + n) e); counted = recounted _ _ refl refl c }
 
 -- ════ bits
 
@@ -329,14 +364,13 @@ pub spelled : (s : List ℕ) (at size n : ℕ) (l : List ℕ) (k : ℕ) → size
 spelled s at size n l k e q h = rw (e, q) h
 
 -- the steps made one after the other
-pub fields-read : (m : ℕ) (s : List ℕ) (at : ℕ) (coef scalars dots triples part all : TermReading) (b₀ b₁ b₂ b₃ : Bool) (n : ℕ)
+pub fields-read : (m : ℕ) (s : List ℕ) (at : ℕ) (coef scalars dots triples all : TermReading) (b₀ b₁ b₂ b₃ : Bool) (n : ℕ)
     → b₀ ≡ eqb (m / 1 % 2) 1 → b₁ ≡ eqb (m / 2 % 2) 1 → b₂ ≡ eqb (m / 4 % 2) 1 → b₃ ≡ eqb (m / 8 % 2) 1 → n ≡ partLetters m
     → readOf coef ≡ coefStep b₀ s (plus [] [], at)
     → readOf scalars ≡ (readOf coef >>= factorsStep b₁ 2 1 s)
     → readOf dots ≡ (readOf scalars >>= factorsStep b₂ 3 2 s)
     → readOf triples ≡ (readOf dots >>= factorsStep b₃ 2 3 s)
-    → readOf part ≡ (readOf triples >>= partStep n s)
-    → readOf all ≡ (readOf part >>= shapeStep)
+    → readOf all ≡ restOf n s triples
     → readOf all ≡ readFields m s at
-unfolding readFields stands
-fields-read m s at coef scalars dots triples part all b₀ b₁ b₂ b₃ n d₀ d₁ d₂ d₃ dn e₁ e₂ e₃ e₄ e₅ e₆ = rw (e₆, e₅, e₄, e₃, e₂, e₁, d₀, d₁, d₂, d₃, dn)
+unfolding readFields restOf stands
+fields-read m s at coef scalars dots triples all b₀ b₁ b₂ b₃ n d₀ d₁ d₂ d₃ dn e₁ e₂ e₃ e₄ e₅ = rw (e₅, e₄, e₃, e₂, e₁, d₀, d₁, d₂, d₃, dn)

@@ -67,6 +67,10 @@ partStep letters s r = do
 unfoldable pub shapeStep : S.Term × ℕ → Result (S.Term × ℕ)
 shapeStep r = testShape (r .0) (r .1)
 
+-- the vector part read behind the factors, and the shape tested
+unfoldable pub restOf : (letters : ℕ) (s : List ℕ) → TermReading → Result (S.Term × ℕ)
+restOf letters s r = readOf r >>= partStep letters s >>= shapeStep
+
 -- the fields behind a bit map, read one after the other
 unfoldable pub readFields : (bits : ℕ) (s : List ℕ) (at : ℕ) → Result (S.Term × ℕ)
 readFields bits s at =
@@ -87,12 +91,6 @@ pub record Stepped (step : S.Term × ℕ → Result (S.Term × ℕ)) (more : ℕ
   pub is : readOf q ≡ (readOf r >>= step)
   pub counted : Counted (q .term)
   pub few : q .term .«factor_count» ≤ r .term .«factor_count» + more
-
--- a term with another vector part
-pub record Parted (part : List ℕ) (t r : Term) : Type 0 where
-  pub is : termOf r ≡ withPart part (termOf t)
-  pub counted : Counted r
-  pub count : r .«factor_count» ≡ t .«factor_count»
 
 -- a term read
 pub record TermRead (read : Result (S.Term × ℕ)) (q : TermReading) : Type 0 where

@@ -9,8 +9,8 @@ ghost use Rattle.specification.specs.Results.{refused, given};
 ghost use Rattle.specification.specs.Terms.{plus};
 ghost use Rattle.specification.specs.Records.{factorsAt, goodBits, partLetters, readTermAt};
 ghost use Rattle.terms.specs.Numbers.{FactorNumber};
-ghost use Rattle.terms.specs.Abstraction.{partOf, termOf, Counted};
-ghost use Rattle.records.specs.Reading.{readOf, fieldsOf, listed, FieldsRefused, factorsStep, partStep, shapeStep, CoefRead, Stepped, Parted, TermRead, readFields};
+ghost use Rattle.terms.specs.Abstraction.{partOf, Counted};
+ghost use Rattle.records.specs.Reading.{readOf, fieldsOf, listed, FieldsRefused, factorsStep, restOf, CoefRead, Stepped, TermRead, readFields};
 ghost use Rattle.terms.specs.Build.{Appended};
 use integers::four_bytes_at;
 use integers::is_one;
@@ -208,54 +208,37 @@ fn part_at(s: &[u8], at: usize, n: usize) -> Part
     Part::Wedge(x, y)
 }
 
-// A term with another vector part.
-fn with_part(t: Term, p: Part) -> Term
-    requires { ⌜ Counted t ⌝ }
-    ensures { λ r. ⌜ Parted (partOf p) t r ⌝ }
+// The vector part of so many letters behind the factors, and the shape of the whole term.
+fn read_rest(s: &[u8], f: &[u32; 7], r: Fields, n: usize) -> TermReading
+    requires { ⌜ Counted (listed (r .count) (now f)) × (n ≤ 2) × (length (now f) ≡ 7) ⌝ }
+    ensures { λ q. ⌜ TermRead (restOf n (now (s .entry)) (fieldsOf r (now (f .entry)))) q ⌝ }
 {
-    let c = t.coef;
-    let f = t.factors;
-    let n = t.factor_count;
-    Term {
-        coef: c,
-        factors: f,
-        factor_count: n,
-        part: p,
-    }
-}
-
-// The vector part of so many letters.
-fn read_part(s: &[u8], r: TermReading, n: usize) -> TermReading
-    requires { ⌜ Counted (r .term) × (n ≤ 2) ⌝ }
-    ensures { λ q. ⌜ Stepped (partStep n (now (s .entry))) 0 r q ⌝ }
-{
-    if !r.ok {
-        return r;
-    }
     let at = r.next;
-    if !room(s, at, n) {
-        return refuse(r);
-    }
-    let t = with_part(r.term, part_at(s, at, n));
-    let mut q = r;
-    q.term = t;
-    q.next = at + n;
-    q
-}
-
-// The shape of what was read.
-fn test_shape(r: TermReading) -> TermReading
-    requires { ⌜ Counted (r .term) ⌝ }
-    ensures { λ q. ⌜ Stepped shapeStep 0 r q ⌝ }
-{
     if !r.ok {
-        return r;
+        return refuse(begin(at));
     }
-    let t = r.term;
-    if in_shape(t) {
-        return r;
+    if !room(s, at, n) {
+        return refuse(begin(at));
     }
-    refuse(r)
+    let k = r.coef;
+    let count = r.count;
+    let p = part_at(s, at, n);
+    if !in_shape(k, f, count, p) {
+        return refuse(begin(at));
+    }
+    let g = *f;
+    let t = Term {
+        coef: k,
+        factors: g,
+        factor_count: count,
+        part: p,
+    };
+    let next = at + n;
+    TermReading {
+        ok: true,
+        next: next,
+        term: t,
+    }
 }
 
 // Whether the bit of a value stands in a bit map.
@@ -292,24 +275,6 @@ fn bits_fit(m: u8) -> bool
     true
 }
 
-// A term of the fields read, without a vector part.
-fn gathered(r: Fields, f: [u32; 7]) -> TermReading
-    ensures { λ q. ⌜ q ≡ fieldsOf r f ⌝ }
-{
-    let p = Part::Nothing;
-    let t = Term {
-        coef: r.coef,
-        factors: f,
-        factor_count: r.count,
-        part: p,
-    };
-    TermReading {
-        ok: r.ok,
-        next: r.next,
-        term: t,
-    }
-}
-
 // The fields behind a bit map.
 fn read_fields(s: &[u8], at: usize, m: u8) -> TermReading
     ensures { λ q. ⌜ TermRead (readFields m (now (s .entry)) at) q ⌝ }
@@ -319,8 +284,7 @@ fn read_fields(s: &[u8], at: usize, m: u8) -> TermReading
     let r2 = read_factors(s, &mut f, r1, bit_stands(m, 2), 2, 1);
     let r3 = read_factors(s, &mut f, r2, bit_stands(m, 4), 3, 2);
     let r4 = read_factors(s, &mut f, r3, bit_stands(m, 8), 2, 3);
-    let r5 = read_part(s, gathered(r4, f), part_size(m));
-    test_shape(r5)
+    read_rest(s, &f, r4, part_size(m))
 }
 
 // The term record at a position.

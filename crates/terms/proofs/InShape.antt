@@ -16,10 +16,9 @@ use Rattle.specification.specs.Terms as S
 use Rattle.theory.specs.Order.{nat-laws, compares-less, compares-equal, compares-more}
 use Rattle.terms.specs.declared.types.Part.{Part}
 use Rattle.terms.specs.declared.types.Part.the-variants.{Nothing, Letter, Wedge}
-use Rattle.terms.specs.declared.types.Term.{Term}
 use Rattle.terms.specs.declared.shape.Used.{Used}
 use Rattle.terms.specs.Numbers.{lettersOf}
-use Rattle.terms.specs.Abstraction.{partOf, termOf}
+use Rattle.terms.specs.Abstraction.{partOf}
 use Rattle.terms.specs.Used.{UsedBy}
 use Rattle.terms.proofs.Numbers.{one-is, two-is, three-is, number-order}
 use Rattle.terms.proofs.Arrays.{rest-at, nothing-left}
@@ -196,14 +195,12 @@ part-few Nothing = omega arith
 part-few (Letter x) = omega arith
 part-few (Wedge x y) = omega arith
 
-module _ (t : Term) (u : Used) (r : ℕ) (h : UsedBy (map lettersOf (take (t .«factor_count») (t .factors))) u) (e : r ≡ length (partOf (t .part))) where
-  pub all-letters : u .vectors + r ≡ vectorLetters (termOf t)
-  unfolding vectorLetters termOf
+module _ (fs : List (List ℕ)) (l : List ℕ) (u : Used) (r : ℕ) (h : UsedBy fs u) (e : r ≡ length l) where
+  all-letters : u .vectors + r ≡ vectorLettersOf fs + length l
   all-letters = omega (arith, h .vectors, e)
 
-  pub too-many : 6 < u .vectors + r → false ≡ (leb (vectorLetters (termOf t)) 6 && leb (scalarLetters (termOf t)) 2)
+  pub too-many : 6 < u .vectors + r → false ≡ (leb (vectorLettersOf fs + length l) 6 && leb (scalarLettersOf fs) 2)
   too-many g = rw (← all-letters, lt-leb _ _ g)
 
-  pub enough : u .vectors + r ≤ 6 → leb (u .scalars) 2 ≡ (leb (vectorLetters (termOf t)) 6 && leb (scalarLetters (termOf t)) 2)
-  unfolding scalarLetters termOf
+  pub enough : u .vectors + r ≤ 6 → leb (u .scalars) 2 ≡ (leb (vectorLettersOf fs + length l) 6 && leb (scalarLettersOf fs) 2)
   enough g = rw (← all-letters, le-leb _ _ g, h .scalars)

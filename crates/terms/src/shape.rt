@@ -2,16 +2,15 @@
 ghost use mathlib.Core.Path.{_≡_};
 ghost use mathlib.Core.Bool.{_&&_};
 ghost use mathlib.Core.List.{[], _∷_, map};
-ghost use Prim.Native.Nat.{_≤_};
+ghost use Prim.Native.Nat.{_+_, _≤_};
 ghost use lib.ListN.{length, take};
 ghost use Rattle.specification.specs.Lists.{all, ascend};
-ghost use Rattle.specification.specs.Terms.{factorInShape, factorNotAfter, partInShape, vectorLettersOf, scalarLettersOf, vectorLetters, scalarLetters, termInShape};
+ghost use Rattle.specification.specs.Terms.{factorInShape, factorNotAfter, partInShape, vectorLettersOf, scalarLettersOf, termInShape};
 ghost use lib.Dec.{leb};
 ghost use Rattle.terms.specs.Numbers.{lettersOf};
-ghost use Rattle.terms.specs.Abstraction.{partOf, termOf, Counted};
+ghost use Rattle.terms.specs.Abstraction.{partOf, termOf};
 ghost use Rattle.terms.specs.Used.{UsedBy};
 use crate::types::Part;
-use crate::types::Term;
 use integers::is_zero;
 use integers::within;
 
@@ -124,39 +123,34 @@ pub fn part_letters(p: Part) -> usize
     }
 }
 
-// The letters of a term are not too many.
-fn letters_in_shape(t: Term) -> bool
-    requires { ⌜ Counted t ⌝ }
-    ensures { λ r. ⌜ r ≡ (leb (vectorLetters (termOf t)) 6 && leb (scalarLetters (termOf t)) 2) ⌝ }
+// The letters of n factors and of a vector part are not too many.
+fn letters_in_shape(f: &[u32; 7], n: u8, p: Part) -> bool
+    requires { ⌜ (n ≤ 7) × (length (now f) ≡ 7) ⌝ }
+    ensures { λ r. ⌜ r ≡ (leb (vectorLettersOf (map lettersOf (take n (now (f .entry)))) + length (partOf p)) 6 && leb (scalarLettersOf (map lettersOf (take n (now (f .entry))))) 2) ⌝ }
 {
-    let n = t.factor_count;
-    let p = t.part;
-    let u = letters_used(&t.factors, n);
+    let u = letters_used(f, n);
     if u.vectors + part_letters(p) > 6 {
         return false;
     }
     u.scalars <= 2
 }
 
-// A term is in shape.
-pub fn in_shape(t: Term) -> bool
-    requires { ⌜ Counted t ⌝ }
-    ensures { λ r. ⌜ r ≡ termInShape (termOf t) ⌝ }
+// A term of a coefficient, n factors and a vector part is in shape.
+pub fn in_shape(c: i64, f: &[u32; 7], n: u8, p: Part) -> bool
+    requires { ⌜ (n ≤ 7) × (length (now f) ≡ 7) ⌝ }
+    ensures { λ r. ⌜ r ≡ termInShape (termOf (record { coef = c; factors = now (f .entry); «factor_count» = n; part = p })) ⌝ }
 {
-    let c = t.coef;
-    let n = t.factor_count;
-    let p = t.part;
     if is_zero(c) {
         return false;
     }
     if !within(c) {
         return false;
     }
-    if !factors_in_shape(&t.factors, n) {
+    if !factors_in_shape(f, n) {
         return false;
     }
     if !part_in_shape(p) {
         return false;
     }
-    letters_in_shape(t)
+    letters_in_shape(f, n, p)
 }

@@ -1,4 +1,4 @@
-use mathlib.Core.Path.{refl, _∙_}
+use mathlib.Core.Path.{refl}
 use Prim.Native.Nat.{_≤_}
 use native.Mathlib.Omega.{arith}
 use Rattle.records.specs.Reading.{fieldsOf}
@@ -40,20 +40,14 @@ bit-stands-requires-4 c κs = search needs
 read-factors-requires-3 : tie.Need-read-factors-requires-3
 read-factors-requires-3 c κs = let w = c .before .before .read-factors2 .ensures in (again-counted _ _ (w .0 .counted), omega (arith, dots-few (c .before .before)), omega arith, omega arith, w .1)
 
-gathered-requires : tie.Need-gathered-requires
-gathered-requires c κs = search needs
-
 part-size-requires : tie.Need-part-size-requires
 part-size-requires c κs = search needs
 
-read-part-requires : tie.Need-read-part-requires
-read-part-requires c κs = (rw (c .before .gathered .ensures) (c .before .before .read-factors3 .ensures .0 .counted), c .part-size .ensures .1)
-
-test-shape-requires : tie.Need-test-shape-requires
-test-shape-requires c κs = search needs
+read-rest-requires : tie.Need-read-rest-requires
+read-rest-requires c κs = let w = c .before .before .read-factors3 .ensures in (again-counted _ _ (w .0 .counted), c .part-size .ensures .1, w .1)
 
 returns : tie.Need-returns
-returns c = record { is = fields-read _ _ _ _ _ _ _ _ _ _ _ _ _ _ (c .before .before .before .before .before .before .before .before .before .before .before .before .before .before .bit-stands .ensures) (c .before .before .before .before .before .before .before .before .before .before .before .bit-stands2 .ensures) (c .before .before .before .before .before .before .before .before .bit-stands3 .ensures) (c .before .before .before .before .before .bit-stands4 .ensures) (c .before .before .part-size .ensures .0) (c .before .before .before .before .before .before .before .before .before .before .before .before .before .read-coef .ensures .is _) (c .before .before .before .before .before .before .before .before .before .before .read-factors .ensures .0 .is) (c .before .before .before .before .before .before .before .read-factors2 .ensures .0 .is) (c .before .before .before .before .read-factors3 .ensures .0 .is) (c .before .read-part .ensures .is ∙ rw (c .before .before .before .gathered .ensures)) (c .test-shape .ensures .is); counted = c .test-shape .ensures .counted }
+returns c = record { is = fields-read _ _ _ _ _ _ _ _ _ _ _ _ _ (c .before .before .before .before .before .before .before .before .before .before .before .before .before .bit-stands .ensures) (c .before .before .before .before .before .before .before .before .before .before .bit-stands2 .ensures) (c .before .before .before .before .before .before .before .bit-stands3 .ensures) (c .before .before .before .before .bit-stands4 .ensures) (c .before .part-size .ensures .0) (c .before .before .before .before .before .before .before .before .before .before .before .before .read-coef .ensures .is _) (c .before .before .before .before .before .before .before .before .before .read-factors .ensures .0 .is) (c .before .before .before .before .before .before .read-factors2 .ensures .0 .is) (c .before .before .before .read-factors3 .ensures .0 .is) (c .read-rest .ensures .is); counted = c .read-rest .ensures .counted }
 
 pub read-fields-spec : {M : Type 1} → statement M
 read-fields-spec =
@@ -67,8 +61,6 @@ read-fields-spec =
     read-factors-requires-2
     bit-stands-requires-4
     read-factors-requires-3
-    gathered-requires
     part-size-requires
-    read-part-requires
-    test-shape-requires
+    read-rest-requires
     returns)
