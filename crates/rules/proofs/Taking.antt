@@ -31,7 +31,7 @@ use Rattle.terms.specs.Valid.{TermValid, FormValid}
 use Rattle.terms.proofs.Arrays.{stored-behind, mapped-behind}
 use Rattle.terms.specs.declared.shape.Used.{Used}
 use Rattle.terms.specs.Used.{UsedBy}
-use Rattle.terms.proofs.InShape.{factors-count, all-letters}
+use Rattle.terms.proofs.InShape.{factors-count}
 use Rattle.gathering.specs.declared.Sum.{Sum}
 use Rattle.gathering.specs.declared.Closed.{Closed}
 use Rattle.gathering.specs.Sums.{sumOf, Bringable, AllBrought}
@@ -66,8 +66,8 @@ module _ (kind a b : ℕ) (s : Step) (ea : a ≡ ruleKind (s .rule)) (eb : b ≡
 -- M's letters and the rule's
 pub letters-are : (s : Step) (u : Used) (p n : ℕ) → UsedBy (map lettersOf (take (s .m .«factor_count») (s .m .factors))) u → p ≡ length (partOf (s .m .part)) → n ≡ ruleLetters (s .rule)
     → leb (u .vectors + p + n) 6 ≡ leb (vectorLetters (stepOf s .m) + ruleLetters (s .rule)) 6
-unfolding stepOf
-letters-are s u p n h e k = λ i. leb (all-letters (s .m) u p h e i + k i) 6
+unfolding stepOf vectorLetters termOf
+letters-are s u p n h e k = λ i. leb (h .vectors i + e i + k i) 6
 
 -- ════ a valid step
 

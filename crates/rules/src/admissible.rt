@@ -71,7 +71,10 @@ pub fn step_at(table: &[u8], f: Form, s: Step) -> Closed
             form: f,
         };
     }
-    if !in_shape(m) {
+    let c = m.coef;
+    let n = m.factor_count;
+    let p = m.part;
+    if !in_shape(c, &m.factors, n, p) {
         return Closed {
             refusal: 11,
             form: f,

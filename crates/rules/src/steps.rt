@@ -93,10 +93,9 @@ fn letters_fit(s: Step) -> bool
     ensures { λ r. ⌜ r ≡ leb (vectorLetters (stepOf s .m) + ruleLetters (s .rule)) 6 ⌝ }
 {
     let m = s.m;
-    let f = m.factors;
     let n = m.factor_count;
     let p = m.part;
-    let u = letters_used(f, n);
+    let u = letters_used(&m.factors, n);
     u.vectors + part_letters(p) + rule_letters(s.rule) <= 6
 }
 

@@ -12,16 +12,16 @@ part-letters-requires : tie.Need-part-letters-requires
 part-letters-requires c κs = search needs
 
 add-result : tie.Need-add-result
-add-result c = omega (arith, c .before .before .letters-used .ensures .few, c .before .part-letters .ensures, part-few (c .before .before .before .before .before .args .s .m .part))
+add-result c = omega (arith, c .before .before .letters-used .ensures .few, c .before .part-letters .ensures, part-few (c .before .before .before .before .before .before .args .s .m .part))
 
 rule-letters-requires : tie.Need-rule-letters-requires
 rule-letters-requires c κs = search needs
 
 add-result-2 : tie.Need-add-result-2
-add-result-2 c = omega (arith, c .before .before .before .letters-used .ensures .few, c .before .before .part-letters .ensures, part-few (c .before .before .before .before .before .before .args .s .m .part), c .rule-letters .ensures .1)
+add-result-2 c = omega (arith, c .before .before .before .letters-used .ensures .few, c .before .before .part-letters .ensures, part-few (c .before .before .before .before .before .before .before .args .s .m .part), c .rule-letters .ensures .1)
 
 returns : tie.Need-returns
-returns c = let w = c .before .before .before .before .before .before in letters-are (w .args .s) _ _ _ (c .before .before .before .letters-used .ensures) (c .before .before .part-letters .ensures) (c .rule-letters .ensures .0)
+returns c = letters-are (c .before .before .before .before .before .before .before .args .s) _ _ _ (c .before .before .before .letters-used .ensures) (c .before .before .part-letters .ensures) (c .rule-letters .ensures .0)
 
 pub letters-fit-spec : {M : Type 1} → statement M
 letters-fit-spec =
