@@ -1,6 +1,5 @@
 -- What the checker's answer means: it accepts exactly the logs that the replay accepts, these are the logs of derivations, and their ends have equal values under every assignment. Assumes nothing.
-use mathlib.Core.Path.{_≡_, refl, ap, sym, _∙_}
-use mathlib.Core.Bool.{Bool}
+use mathlib.Core.Path.{_≡_, ap, sym, _∙_}
 use mathlib.Core.List.{List}
 use Prim.Native.Nat.{ℕ, _≤_}
 use lib.ListN.{length, take, drop}

@@ -2,13 +2,13 @@
 use mathlib.Core.Path.{_≡_, refl, ap, sym, subst, _∙_}
 use mathlib.Core.Bool.{Bool, true, false, _&&_}
 use mathlib.Core.List.{List, [], _∷_, map}
-use Prim.Native.Nat.{ℕ, suc, _+_, _<_, _≤_, Ordering}
+use Prim.Native.Nat.{ℕ, suc, _+_, _<_, _≤_}
 use native.Mathlib.Omega.{arith}
 use borrow.Author.Tests.{eq-eqb, ne-eqb}
-use lib.Dec.{eqb, isEq}
+use lib.Dec.{isEq}
 use lib.ListN.{length, getD, take, drop, length-map}
 use lib.Seq.{length-take-le}
-use Rattle.specification.specs.Results.{Result, Test, refused, given, if_then_else_}
+use Rattle.specification.specs.Results.{Result, Test, refused, given}
 use Rattle.specification.specs.Terms.{compareTerms}
 use Rattle.specification.specs.Terms as S
 use Rattle.specification.specs.Rules.{testStepLetters, takeStep}

@@ -2,13 +2,13 @@
 use mathlib.Core.Path.{_≡_, refl, ap, sym, subst, _∙_}
 use mathlib.Core.Bool.{Bool, true, false, true≢false}
 use mathlib.Core.List.{List, [], _∷_, _++_, map}
-use Prim.Native.Nat.{ℕ, zero, suc, _+_, _-_, _<_, _≤_}
+use Prim.Native.Nat.{ℕ, suc, _+_, _-_, _<_, _≤_}
 use native.Mathlib.Omega.{arith}
 use borrow.Author.Tests.{lt-ltb, le-ltb}
-use lib.Dec.{T, ltb, leb}
+use lib.Dec.{T, leb}
 use lib.ListN.{length, getD, take, drop, set, length-drop}
 use lib.Seq.{getD-drop}
-use Rattle.specification.specs.Results.{Result, refused, given, _>>=_, _>>_, require, if_then_else_}
+use Rattle.specification.specs.Results.{Result, refused, given, _>>=_, _>>_, if_then_else_}
 use Rattle.specification.specs.Terms as S
 use Rattle.specification.specs.Records.{readLetters, readTermAt}
 use Rattle.specification.specs.Rules.{isRule, ruleLetters}
@@ -17,8 +17,7 @@ use Rattle.specification.specs.Logs.{readStepAt, readSteps}
 use Rattle.theory.specs.Elements.{All, all-append}
 use Rattle.theory.specs.Records.Positions.{Bytes}
 use Rattle.theory.specs.Records.Terms.{term-written}
-use Rattle.terms.specs.declared.types.Term.{Term}
-use Rattle.terms.specs.Abstraction.{termOf, Counted}
+use Rattle.terms.specs.Abstraction.{termOf}
 use Rattle.terms.proofs.Arrays.{noTerm, stored-behind, mapped-behind}
 use Rattle.gathering.proofs.Steps.{copied-more}
 use Rattle.records.specs.declared.read.TermReading.{TermReading}

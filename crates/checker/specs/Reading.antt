@@ -7,8 +7,6 @@ use lib.ListN.{take}
 use Rattle.specification.specs.Results.{Result, refused, given, if_then_else_}
 use Rattle.specification.specs.Rules as R
 use Rattle.theory.specs.Elements.{All}
-use Rattle.terms.specs.Abstraction.{Counted}
-use Rattle.rules.specs.declared.steps.Step.{Step}
 use Rattle.rules.specs.Steps.{stepOf, StepValid}
 use Rattle.checker.specs.declared.steps.StepReading.{StepReading}
 use Rattle.checker.specs.declared.steps.Steps.{Steps}

@@ -1,7 +1,7 @@
 -- A term brought in is counted, and a closed sum is what the tests of 9 and 10 make of it; a form that is given is in shape. Assumes nothing.
-use mathlib.Core.Path.{_≡_, refl, ap, sym, subst, _∙_}
+use mathlib.Core.Path.{_≡_, ap, sym, subst, _∙_}
 use mathlib.Core.Bool.{Bool, true, false}
-use mathlib.Core.List.{List, [], map}
+use mathlib.Core.List.{List, map}
 use Prim.Native.Nat.{ℕ, _+_, _≤_, _<_}
 use native.Mathlib.Omega.{arith}
 use borrow.Author.Tests.{le-leb, lt-leb, eq-eqb, ne-eqb}
@@ -9,7 +9,7 @@ use lib.ListN.{length}
 use lib.Dec.{eqb}
 use Rattle.specification.specs.Results.{Result, given, refused, if_then_else_}
 use Rattle.specification.specs.Lists.{all}
-use Rattle.specification.specs.Terms.{termWithin, within, insert, gather, gatherInto}
+use Rattle.specification.specs.Terms.{termWithin, within, insert, gather}
 use Rattle.theory.specs.Elements.{All, all-implies}
 use Rattle.theory.specs.Gathering.Coefficients.{Ascending}
 use Rattle.theory.specs.Gathering.Gathered.{insert-asc}

@@ -1,12 +1,11 @@
 -- A sum that holds the terms of a form. Assumes nothing.
 use mathlib.Core.Path.{_≡_, ap, sym, subst, _∙_}
 use mathlib.Core.List.{List, [], _∷_, map}
-use Prim.Native.Nat.{ℕ, zero, suc, _*_, _≤_}
-use native.Mathlib.Nat as N
+use Prim.Native.Nat.{ℕ, zero, suc, _≤_}
 use native.Mathlib.Omega.{arith}
 use lib.Dec.{T, leb→le}
 use lib.IntN.{natAbs}
-use lib.ListN.{length, take}
+use lib.ListN.{take}
 use Rattle.specification.specs.Lists.{all}
 use Rattle.specification.specs.Terms.{coefWithin, termInShape}
 use Rattle.specification.specs.Terms as S

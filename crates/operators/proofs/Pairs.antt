@@ -1,7 +1,7 @@
 -- The terms of one pair: the scalar parts joined, times what the vector parts make. Assumes nothing.
 use mathlib.Core.Path.{_≡_, refl, ap, sym, subst, _∙_}
-use mathlib.Core.Logic.{_⊎_, inl, inr}
-use mathlib.Core.List.{List, [], _∷_, map}
+use mathlib.Core.Logic.{_⊎_, inl}
+use mathlib.Core.List.{[], _∷_, map}
 use Prim.Native.Nat.{ℕ, zero, suc, _+_, _*_, _≤_, _<_, _^_}
 use native.Mathlib.Nat as N
 use native.Mathlib.Omega.{arith}
@@ -10,13 +10,11 @@ use lib.IntN.{ℤ, natAbs, _*ℤ_}
 use lib.ListN.{length, take}
 use lib.Seq.{length-take-le}
 use Rattle.algebra.specs.Integers.{natAbs-*ℤ}
-use Rattle.specification.specs.Terms.{timesTerm, coefWithin, vectorLetters, scalarLetters, vectorLettersOf, scalarLettersOf}
-use Rattle.algebra.specs.Conditions.{lt-or-le}
+use Rattle.specification.specs.Terms.{timesTerm, coefWithin, vectorLetters, scalarLetters}
 use Rattle.specification.specs.Terms as S
 use Rattle.specification.specs.Reduction.{joinedScalars, pairTerms, pairLettersFit, pairCoefFits}
 use Rattle.theory.specs.Tests.{and-split}
 use Rattle.terms.specs.declared.types.Term.{Term}
-use Rattle.terms.specs.Numbers.{lettersOf}
 use Rattle.terms.specs.Abstraction.{partOf, termOf, Counted}
 use Rattle.terms.specs.Tidy.{Joined}
 use Rattle.terms.proofs.InShape.{factors-count}

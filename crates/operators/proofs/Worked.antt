@@ -23,7 +23,6 @@ use Rattle.terms.specs.Abstraction.{formOf}
 use Rattle.terms.specs.Valid.{FormValid}
 use Rattle.gathering.specs.declared.Sum.{Sum}
 use Rattle.gathering.specs.declared.Closed.{Closed}
-use Rattle.gathering.specs.Sums.{sumOf}
 use Rattle.gathering.specs.Closing.{ClosedAs, WorkedAs}
 use Rattle.gathering.proofs.Closing.{refuses, works-as, closes, worked-given, worked-refused}
 use Rattle.records.specs.Tested.{testOf}

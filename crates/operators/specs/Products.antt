@@ -6,13 +6,11 @@ use Prim.Native.Nat.{ℕ, _*_, _≤_}
 use lib.Dec.{T}
 use Rattle.specification.specs.Lists.{all}
 use Rattle.specification.specs.Letters.{scalar, vector}
-use Rattle.specification.specs.Terms as S
 use Rattle.specification.specs.Terms.{gather}
 use Rattle.specification.specs.Reduction.{pairTerms, pairsOf, pairLettersFit, pairCoefFits}
 use Rattle.terms.specs.declared.types.Term.{Term}
 use Rattle.terms.specs.declared.types.Form.{Form}
 use Rattle.terms.specs.Abstraction.{partOf, termOf, formOf, Counted}
-use Rattle.terms.specs.Valid.{FormValid}
 use Rattle.gathering.specs.declared.Sum.{Sum}
 use Rattle.gathering.specs.Sums.{sumOf, SumValid, Bringable}
 use Rattle.operators.specs.declared.parts.Few.{Few}

@@ -8,13 +8,12 @@ use borrow.Author.Tests.{eq-eqb, eqb-true, eqb-false}
 use lib.Dec.{T, eqb}
 use lib.ListN.{length, getD, take, drop}
 use lib.Seq.{length-take-le}
-use Rattle.specification.specs.Results.{Result, Test, refused, given, _>>_}
+use Rattle.specification.specs.Results.{Result, refused, given}
 use Rattle.specification.specs.Letters.{vector, testLetter, testLetters}
 use Rattle.specification.specs.Terms.{termInShape}
 use Rattle.specification.specs.Terms as S
 use Rattle.specification.specs.Records.{testTerm}
 use Rattle.specification.specs.Rules.{isRule, ruleLetters, stepInShape, testStepLetters, takeStep, stepAt}
-use Rattle.theory.specs.Tests.{and-false}
 use Rattle.terms.specs.declared.types.Form.{Form}
 use Rattle.terms.specs.Abstraction.{termOf, formOf, Counted}
 use Rattle.terms.proofs.Arrays.{rest-at, nothing-left}

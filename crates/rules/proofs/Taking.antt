@@ -2,32 +2,28 @@
 use mathlib.Core.Path.{_≡_, refl, ap, sym, subst, _∙_}
 use mathlib.Core.Logic.{_⊎_, inl, inr, ⊎-elim}
 use mathlib.Core.Bool.{Bool, true, false, _&&_}
-use mathlib.Core.List.{List, [], _∷_, _++_, map, map-append}
+use mathlib.Core.List.{List, [], _∷_, _++_, map}
 use Prim.Native.Nat.{ℕ, _+_, _%_, _<_, _≤_}
 use native.Mathlib.Omega.{arith}
-use borrow.Author.Tests.{eq-eqb, ne-eqb, lt-leb, le-leb, leb-true}
+use borrow.Author.Tests.{eq-eqb, ne-eqb}
 use lib.Dec.{T, eqb, leb, leb→le}
 use lib.IntN.{natAbs}
 use lib.ListN.{length, getD, take, set, length-set}
 use lib.Seq.{length-take-le}
-use Rattle.specification.specs.Results.{Result, Test, refused, given, _>>_, require, if_then_else_}
-use Rattle.specification.specs.Letters.{scalar, vector}
+use Rattle.specification.specs.Results.{Test, refused, given, _>>_, require, if_then_else_}
 use Rattle.specification.specs.Terms.{timesTerm, termKind, vectorLetters, scalarLetters, within, gather, gatherInto, coefWithin, termInShape}
 use Rattle.specification.specs.Terms as S
-use Rattle.specification.specs.Rules.{ruleKind, ruleLetters, isRule, stepKindsFit, stepTerms, takeStep}
-use Rattle.specification.specs.Rules as R
+use Rattle.specification.specs.Rules.{ruleKind, ruleLetters, stepKindsFit, stepTerms, takeStep}
 use Rattle.theory.specs.Elements.{All, all-append}
 use Rattle.theory.specs.Shape.Terms.{kindOfPart, term-opens}
 use Rattle.theory.specs.Tests.{required, refused≢given}
 use Rattle.theory.specs.Shape.Forms.{FormInShape, AllFit, form-gathered, within-given, within-in-shape}
 use Rattle.theory.specs.Gathering.Gathered.{gather-onto}
-use Rattle.theory.specs.Rules.Table.{ruleTerms, stepTerms-rule}
-use Rattle.theory.specs.Rules.Steps.{StepShape, Agreeing, agreeing, step-fits, step-parts}
+use Rattle.theory.specs.Rules.Table.{stepTerms-rule}
+use Rattle.theory.specs.Rules.Steps.{StepShape, agreeing, step-fits, step-parts}
 use Rattle.terms.specs.declared.types.Term.{Term}
-use Rattle.terms.specs.declared.types.Form.{Form}
 use Rattle.terms.specs.Numbers.{lettersOf}
-use Rattle.terms.specs.Abstraction.{partOf, termOf, formOf, Counted}
-use Rattle.terms.specs.Valid.{TermValid, FormValid}
+use Rattle.terms.specs.Abstraction.{partOf, termOf, Counted}
 use Rattle.terms.proofs.Arrays.{stored-behind, mapped-behind}
 use Rattle.terms.specs.declared.shape.Used.{Used}
 use Rattle.terms.specs.Used.{UsedBy}

@@ -1,13 +1,14 @@
-use Rattle.checker.proofs.CheckedLogs.{form-valid, steps-long, first-refused, count-absent, count-large, step-refused, last-refused, bytes-left, log-given, table-bad, shape-bad, first-letters, step-letters, last-letters, step-taken, not-reached, all-accepted}
-use Rattle.checker.specs.Answers.{checkedOf}
-use Rattle.records.proofs.Takers.{bytes-all}
+-- `checker::check` meets its contract: each test refuses as the replay does where it stands. Assumes nothing.
+use mathlib.Core.Path.{_≡_, sym, _∙_}
+use Prim.Native.Nat.{ℕ}
+use native.Mathlib.Omega.{arith}
 use lib.ListN.{length, length-map}
 use denote.Ref.{now}
 use borrow.Author.Tests.{not-true, not-false}
-use native.Mathlib.Omega.{arith}
-use Prim.Native.Nat.{ℕ, _≤_}
-use mathlib.Core.Path.{_≡_, sym, _∙_}
 use borrow.Author.Needs.{needs}
+use Rattle.checker.proofs.CheckedLogs.{form-valid, steps-long, first-refused, count-absent, count-large, step-refused, last-refused, bytes-left, log-given, table-bad, shape-bad, first-letters, step-letters, last-letters, step-taken, not-reached, all-accepted}
+use Rattle.checker.specs.Answers.{checkedOf}
+use Rattle.records.proofs.Takers.{bytes-all}
 use Rattle.checker.proofs.check.Statement.{statement}
 use Rattle.checker.proofs.check.Tie as tie
 

@@ -1,9 +1,9 @@
+use mathlib.Core.Path.{sym}
+use Prim.Native.Nat.{_≤_}
+use native.Mathlib.Omega.{arith}
 use lib.Seq.{take-all, length-take-le}
 use lib.ListN.{length}
 use denote.Ref.{now}
-use native.Mathlib.Omega.{arith}
-use Prim.Native.Nat.{_≤_}
-use mathlib.Core.Path.{sym}
 use borrow.Author.Needs.{needs}
 use Rattle.checker.proofs.first_form.Statement.{statement}
 use Rattle.checker.proofs.first_form.Tie as tie

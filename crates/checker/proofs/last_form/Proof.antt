@@ -1,6 +1,6 @@
-use Rattle.checker.proofs.LogParts.{whole-rest, nothing-behind}
 use denote.Ref.{now}
 use borrow.Author.Needs.{needs}
+use Rattle.checker.proofs.LogParts.{whole-rest, nothing-behind}
 use Rattle.checker.proofs.last_form.Statement.{statement}
 use Rattle.checker.proofs.last_form.Tie as tie
 

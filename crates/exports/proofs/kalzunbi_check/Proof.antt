@@ -1,7 +1,8 @@
-use Rattle.integers.proofs.Machine.{back-is}
+-- `exports::kalzunbi_check` meets its contract: 1, then 2, then what the checker says. Assumes nothing.
 use mathlib.Core.Path.{_∙_}
-use Rattle.exports.proofs.Returning.{table-refused, places-short, log-refused, log-accepted}
 use borrow.Author.Needs.{needs}
+use Rattle.integers.proofs.Machine.{back-is}
+use Rattle.exports.proofs.Returning.{table-refused, places-short, log-refused, log-accepted}
 use Rattle.exports.proofs.kalzunbi_check.Statement.{statement}
 use Rattle.exports.proofs.kalzunbi_check.Tie as tie
 

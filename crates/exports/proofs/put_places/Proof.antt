@@ -1,7 +1,8 @@
-use lib.ListN.{length-set}
+-- `exports::put_places` meets its contract: three stores put the three places in front. Assumes nothing.
 use native.Mathlib.Omega.{arith}
-use Rattle.exports.proofs.Returning.{place-stores}
+use lib.ListN.{length-set}
 use borrow.Author.Needs.{needs}
+use Rattle.exports.proofs.Returning.{place-stores}
 use Rattle.exports.proofs.put_places.Statement.{statement}
 use Rattle.exports.proofs.put_places.Tie as tie
 

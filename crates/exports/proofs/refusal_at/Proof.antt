@@ -1,10 +1,11 @@
+-- `exports::refusal_at` meets its contract: number and step fit, and so does their negative. Assumes nothing.
+use mathlib.Core.Path.{_∙_}
+use Prim.Native.Nat.{_+_, _*_}
+use native.Mathlib.Omega.{arith}
+use borrow.Author.Needs.{needs}
 use Rattle.exports.proofs.Returning.{cast-small, cast-negative}
 use Rattle.exports.specs.Returns.{returnedAt}
 use Rattle.integers.proofs.Machine.{back-is}
-use native.Mathlib.Omega.{arith}
-use Prim.Native.Nat.{_+_, _*_}
-use mathlib.Core.Path.{_∙_}
-use borrow.Author.Needs.{needs}
 use Rattle.exports.proofs.refusal_at.Statement.{statement}
 use Rattle.exports.proofs.refusal_at.Tie as tie
 

@@ -1,11 +1,12 @@
+-- `gathering::close` meets its contract: the first terms of the form are those of the sum. Assumes nothing.
+use mathlib.Core.Path.{_≡_, refl, subst, sym, _∙_}
+use Prim.Native.Nat.{ℕ, _-_, _≤_}
+use native.Mathlib.Omega.{arith}
+use lib.ListN.{length, length-map, length-set, take}
 use Rattle.gathering.proofs.Closing.{closed-refused, given-form}
 use Rattle.gathering.proofs.Steps.{copied-more}
 use Rattle.gathering.specs.Sums.{held}
 use Rattle.terms.proofs.Arrays.{noTerm}
-use lib.ListN.{length, length-map, length-set, take}
-use native.Mathlib.Omega.{arith}
-use Prim.Native.Nat.{ℕ, _-_, _≤_}
-use mathlib.Core.Path.{_≡_, refl, subst, sym, _∙_}
 use Rattle.gathering.proofs.close.Statement.{statement}
 use Rattle.gathering.proofs.close.Tie as tie
 

@@ -1,10 +1,11 @@
+-- `gathering::holding` meets its contract: the first terms are those of the form. Assumes nothing.
+use mathlib.Core.Path.{_≡_, refl, sym, subst, _∙_}
+use Prim.Native.Nat.{ℕ, _-_, _≤_}
+use native.Mathlib.Omega.{arith}
+use lib.ListN.{length, length-map, length-set, take}
 use Rattle.gathering.proofs.FormTerms.{held-form}
 use Rattle.gathering.proofs.Steps.{copied-more}
 use Rattle.terms.proofs.Arrays.{noTerm}
-use lib.ListN.{length, length-map, length-set, take}
-use native.Mathlib.Omega.{arith}
-use Prim.Native.Nat.{ℕ, _-_, _≤_}
-use mathlib.Core.Path.{_≡_, refl, sym, subst, _∙_}
 use Rattle.gathering.proofs.holding.Statement.{statement}
 use Rattle.gathering.proofs.holding.Tie as tie
 

@@ -1,10 +1,9 @@
-use Rattle.gathering.proofs.Closing.{limits-9, limits-10, limits-none}
+use mathlib.Core.Path.{_≡_, sym, _∙_}
+use Prim.Native.Nat.{_≤_}
+use native.Mathlib.Omega.{arith}
 use lib.ListN.{length, length-map}
 use borrow.Author.Tests.{not-true, not-false}
-use native.Mathlib.Omega.{arith}
-use Prim.Native.Nat.{_≤_}
-use mathlib.Core.Path.{_≡_, sym, _∙_}
-use borrow.Author.Needs.{needs}
+use Rattle.gathering.proofs.Closing.{limits-9, limits-10, limits-none}
 use Rattle.gathering.proofs.test_limits.Statement.{statement}
 use Rattle.gathering.proofs.test_limits.Tie as tie
 

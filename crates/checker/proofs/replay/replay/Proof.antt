@@ -1,3 +1,9 @@
+-- `checker::replay::replay` meets its contract: the sum stands for the current form, in shape, and replaying the steps that are left from it gives what replaying all gives. Assumes nothing.
+use mathlib.Core.List.{[]}
+use mathlib.Core.Path.{_≡_, refl, ap, sym, subst, _∙_}
+use Prim.Native.Nat.{_+_, _-_, _≤_}
+use native.Mathlib.Omega.{arith}
+use lib.ListN.{length, length-map, getD}
 use Rattle.gathering.specs.Sums.{held, sumOf}
 use Rattle.checker.proofs.Replaying.{stepsFrom, formBy, Current, current-first, current-next, step-fails, step-reaches, all-taken}
 use Rattle.checker.proofs.StepRecords.{noStep}
@@ -12,11 +18,6 @@ use Rattle.terms.specs.Abstraction.{formOf}
 use Rattle.specification.specs.Logs as L
 use Rattle.specification.specs.Logs.{Log}
 use Rattle.specification.specs.Terms as S
-use lib.ListN.{length, length-map, getD}
-use native.Mathlib.Omega.{arith}
-use Prim.Native.Nat.{ℕ, _+_, _-_, _≤_}
-use mathlib.Core.List.{[]}
-use mathlib.Core.Path.{_≡_, refl, ap, sym, subst, _∙_}
 use Rattle.checker.proofs.replay.replay.Statement.{statement}
 use Rattle.checker.proofs.replay.replay.Tie as tie
 

@@ -1,12 +1,13 @@
+-- `checker::replay::same_form` meets its contract: the terms from the place reached on decide what all decide. Assumes nothing.
+use mathlib.Core.Path.{_≡_, refl, sym, _∙_}
+use Prim.Native.Nat.{_-_, _≤_}
+use native.Mathlib.Omega.{arith}
+use lib.ListN.{length, length-map}
+use borrow.Author.Tests.{not-true, not-false}
 use Rattle.checker.proofs.Replaying.{termsFrom, kind-other, count-other, same-from-first, pair-differs, pair-same, all-same}
 use Rattle.terms.proofs.Arrays.{noTerm, all-at}
 use Rattle.terms.specs.Abstraction.{formOf, Counted}
 use Rattle.specification.specs.Logs.{sameTerms, sameForm}
-use lib.ListN.{length, length-map}
-use borrow.Author.Tests.{not-true, not-false}
-use native.Mathlib.Omega.{arith}
-use Prim.Native.Nat.{ℕ, _+_, _-_, _≤_}
-use mathlib.Core.Path.{_≡_, refl, ap, sym, subst, _∙_}
 use Rattle.checker.proofs.replay.same_form.Statement.{statement}
 use Rattle.checker.proofs.replay.same_form.Tie as tie
 

@@ -1,12 +1,12 @@
+use mathlib.Core.Path.{ap, sym, _∙_}
+use lib.Dec.{isEq}
+use borrow.Author.Tests.{not-true, not-false}
+use borrow.Author.Needs.{needs}
 use Rattle.terms.specs.Abstraction.{orderingOf}
 use Rattle.terms.specs.declared.order.Order.{Order}
 use Rattle.integers.proofs.Machine.{back-is}
 use Rattle.specification.specs.Logs.{sameCoef}
-use lib.Dec.{isEq}
-use borrow.Author.Tests.{not-true, not-false}
-use mathlib.Core.Path.{ap, sym, _∙_}
 use Rattle.checker.proofs.Replaying.{coef-other, term-same}
-use borrow.Author.Needs.{needs}
 use Rattle.checker.proofs.replay.same_term.Statement.{statement}
 use Rattle.checker.proofs.replay.same_term.Tie as tie
 

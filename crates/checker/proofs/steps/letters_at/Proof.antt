@@ -1,8 +1,9 @@
+-- `checker::steps::letters_at` meets its contract: the first letters are those of the log. Assumes nothing.
+use mathlib.Core.Path.{_≡_, refl, subst, _∙_}
+use Prim.Native.Nat.{ℕ, _-_, _≤_}
+use native.Mathlib.Omega.{arith}
 use lib.ListN.{length, length-set, take, drop}
 use denote.Ref.{now}
-use native.Mathlib.Omega.{arith}
-use Prim.Native.Nat.{ℕ, _-_, _≤_}
-use mathlib.Core.Path.{_≡_, refl, subst, _∙_}
 use Rattle.checker.proofs.StepRecords.{letter-copied}
 use Rattle.checker.proofs.steps.letters_at.Statement.{statement}
 use Rattle.checker.proofs.steps.letters_at.Tie as tie

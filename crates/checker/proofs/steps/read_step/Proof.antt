@@ -1,10 +1,10 @@
-use Rattle.records.proofs.Takers.{bytes-all}
+use mathlib.Core.Path.{sym, _∙_}
+use Prim.Native.Nat.{ℕ}
 use borrow.Author.Tests.{not-true, not-false, leb-true}
 use denote.Ref.{now}
-use Prim.Native.Nat.{ℕ}
-use mathlib.Core.Path.{sym, _∙_}
-use Rattle.checker.proofs.StepRecords.{refused-as, step-absent, rule-unknown, letters-cut, step-of-term}
 use borrow.Author.Needs.{needs}
+use Rattle.records.proofs.Takers.{bytes-all}
+use Rattle.checker.proofs.StepRecords.{refused-as, step-absent, rule-unknown, letters-cut, step-of-term}
 use Rattle.checker.proofs.steps.read_step.Statement.{statement}
 use Rattle.checker.proofs.steps.read_step.Tie as tie
 

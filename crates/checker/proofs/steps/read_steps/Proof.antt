@@ -1,16 +1,17 @@
+-- `checker::steps::read_steps` meets its contract: reading the steps that are left behind those that stand gives what reading all gives. Assumes nothing.
+use mathlib.Core.List.{List, []}
+use mathlib.Core.Bool.{true}
+use mathlib.Core.Path.{_≡_, refl, ap, sym, subst, _∙_}
+use Prim.Native.Nat.{ℕ, suc, _+_, _-_, _≤_, _<_}
+use native.Mathlib.Omega.{arith}
+use lib.ListN.{length, length-set, take}
+use borrow.Author.Tests.{not-true, not-false}
+use denote.Ref.{now}
 use Rattle.checker.specs.Reading.{stepsOf}
 use Rattle.rules.specs.Steps.{StepValid}
 use Rattle.theory.specs.Elements.{All}
 use Rattle.specification.specs.Logs.{readSteps}
 use Rattle.specification.specs.Rules as R
-use lib.ListN.{length, length-set, take}
-use borrow.Author.Tests.{not-true, not-false}
-use denote.Ref.{now}
-use native.Mathlib.Omega.{arith}
-use Prim.Native.Nat.{ℕ, suc, _+_, _-_, _≤_, _<_}
-use mathlib.Core.List.{List, []}
-use mathlib.Core.Bool.{true}
-use mathlib.Core.Path.{_≡_, refl, ap, sym, subst, _∙_}
 use Rattle.checker.proofs.StepRecords.{turn-refused, turned, step-given, step-refused, steps-given, steps-refused, pushed-steps, pushed-valid}
 use Rattle.checker.proofs.steps.read_steps.Statement.{statement}
 use Rattle.checker.proofs.steps.read_steps.Tie as tie

@@ -1,7 +1,7 @@
-use Rattle.checker.specs.Reading.{stepReadOf}
 use mathlib.Core.Bool.{true≢false}
 use mathlib.Core.Path.{refl, sym}
 use borrow.Author.Needs.{needs}
+use Rattle.checker.specs.Reading.{stepReadOf}
 use Rattle.checker.proofs.steps.refuse.Statement.{statement}
 use Rattle.checker.proofs.steps.refuse.Tie as tie
 

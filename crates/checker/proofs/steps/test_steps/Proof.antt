@@ -1,3 +1,9 @@
+-- `checker::steps::test_steps` meets its contract: the steps from the one reached on decide what all decide. Assumes nothing.
+use mathlib.Core.Path.{_≡_, refl, sym, _∙_}
+use Prim.Native.Nat.{_+_, _-_, _≤_}
+use native.Mathlib.Omega.{arith}
+use denote.Ref.{now}
+use lib.ListN.{length, length-map}
 use Rattle.checker.proofs.StepRecords.{noStep}
 use Rattle.checker.proofs.Replaying.{stepsFrom, step-stops, step-passes, steps-pass}
 use Rattle.checker.specs.Answers.{foundOf}
@@ -5,12 +11,6 @@ use Rattle.checker.specs.Reading.{stepsOf}
 use Rattle.rules.specs.Steps.{StepValid}
 use Rattle.terms.proofs.Arrays.{all-at}
 use Rattle.specification.specs.Logs.{Checked, stepsLetters}
-use denote.Ref.{now}
-use lib.ListN.{length, length-map}
-use borrow.Author.Tests.{not-true, not-false}
-use native.Mathlib.Omega.{arith}
-use Prim.Native.Nat.{ℕ, _+_, _-_, _≤_}
-use mathlib.Core.Path.{_≡_, refl, ap, sym, subst, _∙_}
 use Rattle.checker.proofs.steps.test_steps.Statement.{statement}
 use Rattle.checker.proofs.steps.test_steps.Tie as tie
 

@@ -1,6 +1,6 @@
+use borrow.Author.Needs.{needs}
 use Rattle.rules.specs.Steps.{admissible}
 use Rattle.rules.proofs.Alone.{admissible-is}
-use borrow.Author.Needs.{needs}
 use Rattle.rules.proofs.admissible.is_admissible.Statement.{statement}
 use Rattle.rules.proofs.admissible.is_admissible.Tie as tie
 

@@ -1,6 +1,6 @@
-use Rattle.specification.specs.Rules.{isRule}
-use borrow.Author.Tests.{le-leb, lt-leb}
 use native.Mathlib.Omega.{arith}
+use borrow.Author.Tests.{le-leb, lt-leb}
+use Rattle.specification.specs.Rules.{isRule}
 use Rattle.rules.proofs.admissible.is_rule.Statement.{statement}
 use Rattle.rules.proofs.admissible.is_rule.Tie as tie
 

@@ -1,13 +1,13 @@
-use Rattle.terms.specs.Abstraction.{termOf}
-use Rattle.integers.proofs.Machine.{back-is}
-use Rattle.specification.specs.Terms.{termInShape}
+use mathlib.Core.Path.{_≡_, refl, ap, _∙_}
 use lib.ListN.{length}
 use lib.IntN.{ℤ}
 use borrow.Author.Tests.{not-true, not-false}
-use mathlib.Core.Path.{_≡_, refl, ap, _∙_}
 use denote.Ref.{now}
-use Rattle.rules.proofs.Alone.{no-rule, no-shape, letters-refused, step-valid, step-decides}
 use borrow.Author.Needs.{needs}
+use Rattle.terms.specs.Abstraction.{termOf}
+use Rattle.integers.proofs.Machine.{back-is}
+use Rattle.specification.specs.Terms.{termInShape}
+use Rattle.rules.proofs.Alone.{no-rule, no-shape, letters-refused, step-valid, step-decides}
 use Rattle.rules.proofs.admissible.step_at.Statement.{statement}
 use Rattle.rules.proofs.admissible.step_at.Tie as tie
 

@@ -1,11 +1,12 @@
-use Rattle.records.specs.Tested.{testOf}
-use Rattle.specification.specs.Letters.{vector, testLetters}
+-- `rules::admissible::test_rule_letters` meets its contract: the letters from the place reached on decide what all decide. Assumes nothing.
+use mathlib.Core.Path.{_≡_, refl, sym, _∙_}
+use Prim.Native.Nat.{_-_, _≤_}
+use native.Mathlib.Omega.{arith}
 use lib.ListN.{length, take, drop}
 use denote.Ref.{now}
 use borrow.Author.Needs.{needs}
-use native.Mathlib.Omega.{arith}
-use Prim.Native.Nat.{_-_, _≤_}
-use mathlib.Core.Path.{_≡_, refl, sym, _∙_}
+use Rattle.records.specs.Tested.{testOf}
+use Rattle.specification.specs.Letters.{vector, testLetters}
 use Rattle.rules.proofs.Alone.{letters-stop, letters-pass, letters-end}
 use Rattle.rules.proofs.admissible.test_rule_letters.Statement.{statement}
 use Rattle.rules.proofs.admissible.test_rule_letters.Tie as tie

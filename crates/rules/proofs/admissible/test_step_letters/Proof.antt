@@ -1,6 +1,6 @@
 use denote.Ref.{now}
-use Rattle.rules.proofs.Alone.{rule-letters-stop, rule-letters-pass}
 use borrow.Author.Needs.{needs}
+use Rattle.rules.proofs.Alone.{rule-letters-stop, rule-letters-pass}
 use Rattle.rules.proofs.admissible.test_step_letters.Statement.{statement}
 use Rattle.rules.proofs.admissible.test_step_letters.Tie as tie
 

@@ -1,5 +1,5 @@
-use Rattle.rules.proofs.Taking.{scalar-kinds, vector-no, vector-kinds}
 use borrow.Author.Needs.{needs}
+use Rattle.rules.proofs.Taking.{scalar-kinds, vector-no, vector-kinds}
 use Rattle.rules.proofs.steps.kinds_fit.Statement.{statement}
 use Rattle.rules.proofs.steps.kinds_fit.Tie as tie
 

@@ -1,7 +1,7 @@
-use Rattle.rules.proofs.Taking.{letters-are}
-use Rattle.terms.proofs.InShape.{part-few}
 use native.Mathlib.Omega.{arith}
 use borrow.Author.Needs.{needs}
+use Rattle.rules.proofs.Taking.{letters-are}
+use Rattle.terms.proofs.InShape.{part-few}
 use Rattle.rules.proofs.steps.letters_fit.Statement.{statement}
 use Rattle.rules.proofs.steps.letters_fit.Tie as tie
 

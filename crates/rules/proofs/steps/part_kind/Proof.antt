@@ -1,8 +1,8 @@
+use mathlib.Core.Path.{sym, ap}
+use borrow.Author.Needs.{needs}
 use Rattle.terms.specs.Abstraction.{partOf}
 use Rattle.terms.specs.declared.types.Part.{Part}
 use Rattle.theory.specs.Shape.Terms.{kindOfPart}
-use mathlib.Core.Path.{sym, ap}
-use borrow.Author.Needs.{needs}
 use Rattle.rules.proofs.steps.part_kind.Statement.{statement}
 use Rattle.rules.proofs.steps.part_kind.Tie as tie
 

@@ -1,6 +1,6 @@
-use Rattle.specification.specs.Rules.{ruleKind}
-use borrow.Author.Tests.{eq-eqb, ne-eqb}
 use native.Mathlib.Omega.{arith}
+use borrow.Author.Tests.{eq-eqb, ne-eqb}
+use Rattle.specification.specs.Rules.{ruleKind}
 use Rattle.rules.proofs.steps.rule_kind.Statement.{statement}
 use Rattle.rules.proofs.steps.rule_kind.Tie as tie
 

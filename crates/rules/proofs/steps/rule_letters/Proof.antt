@@ -1,6 +1,6 @@
-use Rattle.specification.specs.Rules.{ruleLetters}
-use borrow.Author.Tests.{le-leb, lt-leb}
 use native.Mathlib.Omega.{arith}
+use borrow.Author.Tests.{le-leb, lt-leb}
+use Rattle.specification.specs.Rules.{ruleLetters}
 use Rattle.rules.proofs.steps.rule_letters.Statement.{statement}
 use Rattle.rules.proofs.steps.rule_letters.Tie as tie
 

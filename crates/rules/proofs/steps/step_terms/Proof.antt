@@ -1,9 +1,10 @@
-use Rattle.rules.specs.Table.{firstRow}
+-- `rules::steps::step_terms` meets its contract: the terms stored so far are M times the rule's first rows. Assumes nothing.
+use mathlib.Core.Path.{_≡_, refl, subst}
+use Prim.Native.Nat.{ℕ, _-_, _≤_}
+use native.Mathlib.Omega.{arith}
 use lib.ListN.{length}
 use borrow.Author.Needs.{needs}
-use native.Mathlib.Omega.{arith}
-use Prim.Native.Nat.{ℕ, _-_, _≤_}
-use mathlib.Core.Path.{_≡_, refl, subst}
+use Rattle.rules.specs.Table.{firstRow}
 use Rattle.rules.proofs.Tied.{rows-few, some-rule, few-rules}
 use Rattle.rules.proofs.Taking.{Listed, listed-none, listed-more, row-fits, step-added}
 use Rattle.rules.proofs.steps.step_terms.Statement.{statement}

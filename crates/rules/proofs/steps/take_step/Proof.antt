@@ -1,7 +1,7 @@
+use mathlib.Core.Path.{refl}
+use native.Mathlib.Omega.{arith}
 use Rattle.gathering.proofs.Closing.{refuses}
 use Rattle.terms.specs.Abstraction.{formOf}
-use native.Mathlib.Omega.{arith}
-use mathlib.Core.Path.{_≡_, refl}
 use Rattle.rules.proofs.Taking.{step-refused, step-fitting, step-closed}
 use Rattle.rules.proofs.steps.take_step.Statement.{statement}
 use Rattle.rules.proofs.steps.take_step.Tie as tie

@@ -1,6 +1,5 @@
 use borrow.Author.Tests.{not-true, not-false}
 use Rattle.rules.proofs.Taking.{test-six, test-eight, test-none}
-use borrow.Author.Needs.{needs}
 use Rattle.rules.proofs.steps.test_step.Statement.{statement}
 use Rattle.rules.proofs.steps.test_step.Tie as tie
 
