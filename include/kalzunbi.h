@@ -67,6 +67,21 @@ extern "C" {
 int64_t kalzunbi_value(const uint8_t *table, size_t table_length, const uint8_t *form, size_t form_length, const uint8_t *assignment,
                        size_t assignment_length, int64_t *values, size_t values_length);
 
+/* bytes of the buffer and of the work memory that the decision takes at least */
+#define KALZUNBI_ASSIGNMENT 72
+#define KALZUNBI_WORK 55296
+
+/* Whether two forms are equal under every assignment of integers.
+ *
+ * table: as above. first, second: the records of two forms of one kind.
+ * buffer: at least 72 bytes. Where the forms differ, the first 3 times (letters) become an assignment under which they do, each number 0 to 6, a scalar
+ *   letter's first 0 to 2 and its others 0; it can go to the value call. Further bytes stand, and all of them where the forms are equal.
+ * work: at least 55,296 bytes; what is in them afterwards is of no use, unless the call is refused: then they stand.
+ *
+ * Returns 0 where they are equal, 1 where they differ, or -1, -2, -11, then -5 or -6. */
+int64_t kalzunbi_decide(const uint8_t *table, size_t table_length, const uint8_t *first, size_t first_length, const uint8_t *second,
+                        size_t second_length, uint8_t *buffer, size_t buffer_length, uint8_t *work, size_t work_length);
+
 /* The form of an expression.
  *
  * table: as above.

@@ -1,5 +1,5 @@
 -- What the calls for C return and leave, from the tests that they make. Assumes nothing.
-use mathlib.Core.Path.{_≡_, refl, ap, sym, _∙_}
+use mathlib.Core.Path.{_≡_, refl, ap, sym, subst, _∙_}
 use mathlib.Core.List.{List, [], _∷_}
 use Prim.Native.Nat.{ℕ, _≤_, _<_, _^_}
 use native.Mathlib.Omega.{arith}
@@ -19,6 +19,7 @@ use Rattle.specification.specs.Logs.{Checked, refusedAt, atStep, checkCall}
 use Rattle.checker.specs.declared.Checked as checked
 use Rattle.checker.specs.declared.Checked.the-variants as variants
 use Rattle.checker.specs.Answers.{checkedOf}
+use Rattle.specification.specs.Decision as D
 use Rattle.records.specs.Tested.{testOf}
 use Rattle.evaluation.specs.declared.vectors.Vector.{Vector}
 use Rattle.evaluation.specs.declared.Valued.{Valued}
@@ -28,9 +29,12 @@ use Rattle.evaluation.specs.Answers.{valuedOf}
 use Rattle.reduction.specs.declared.Reduced.{Reduced}
 use Rattle.reduction.specs.declared.Reduced.the-variants.{Written, Refused}
 use Rattle.reduction.specs.Answers.{reducedOf}
+use Rattle.decision.specs.declared.Decision.{Decision}
+use Rattle.decision.specs.declared.Decision.the-variants as decided
+use Rattle.decision.specs.Answers.{decisionOf}
 use Rattle.records.proofs.LetterTests.{test-passed, test-refused}
 use Rattle.reduction.proofs.KeptValue.{reduce-keeps-value}
-use Rattle.exports.specs.Returns.{returned, handed, threeInto, answerVec, valueTested, valueReturned, reduceReturned, returnedAt, placesInto, answerLog, checkReturned}
+use Rattle.exports.specs.Returns.{returned, handed, threeInto, answerVec, valueTested, valueReturned, reduceReturned, returnedAt, placesInto, answerLog, checkReturned, decisionReturned, DecideReturned}
 
 -- ════ one number
 
@@ -173,3 +177,21 @@ module _ (table log places : List ℕ) where
         pub log-accepted : (a b k : ℕ) → c ≡ variants.Accepted a b k → (after : List ℕ) → after ≡ placesInto a b k places → (pos 0, after) ≡ checkReturned table log places
         unfolding checkReturned answerLog checkedOf
         log-accepted a b k q after p = rw (by-check ∙ ap checkedOf q, p)
+
+-- ════ the decision
+
+module _ (table first second buffer work buffer′ work′ : List ℕ) (d : Decision) (h : D.Decided table first second buffer work (decisionOf d) buffer′ work′) where
+  -- the two forms are equal
+  pub holds-returned : d ≡ decided.Holds → DecideReturned table first second buffer work (pos 0) buffer′ work′
+  unfolding decisionReturned decisionOf
+  holds-returned e = record { answer = D.holds; is = refl; decided = subst (λ (x : Decision). D.Decided table first second buffer work (decisionOf x) buffer′ work′) e h }
+
+  -- they differ
+  pub differs-returned : d ≡ decided.Differs → DecideReturned table first second buffer work (pos 1) buffer′ work′
+  unfolding decisionReturned decisionOf
+  differs-returned e = record { answer = D.differs; is = refl; decided = subst (λ (x : Decision). D.Decided table first second buffer work (decisionOf x) buffer′ work′) e h }
+
+  -- a refusal
+  pub undecided-returned : (n : ℕ) → d ≡ decided.Refused n → (r : ℤ) → r ≡ returned (refused n) → DecideReturned table first second buffer work r buffer′ work′
+  unfolding decisionReturned decisionOf returned
+  undecided-returned n e r q = record { answer = D.undecided n; is = q; decided = subst (λ (x : Decision). D.Decided table first second buffer work (decisionOf x) buffer′ work′) e h }

@@ -1,4 +1,5 @@
 -- The calls as C has them: one signed number, and all memory lent, afterwards. Assumes nothing.
+use mathlib.Core.Path.{_≡_}
 use mathlib.Core.List.{List, _∷_}
 use Prim.Native.Nat.{ℕ, _+_, _*_}
 use lib.IntN.{ℤ, pos, negℤ}
@@ -10,6 +11,7 @@ use Rattle.specification.specs.Values.{Vec}
 use Rattle.specification.specs.Reduction.{reduceCall}
 use Rattle.specification.specs.Evaluation.{valueCall}
 use Rattle.specification.specs.Logs.{Checked, refusedAt, accepted, atStep, checkCall}
+use Rattle.specification.specs.Decision as D
 
 -- what is given, or minus the number of the refusal
 unfoldable pub returned : Result ℕ → ℤ
@@ -63,3 +65,17 @@ answerLog (accepted a b n) memory = (pos 0, placesInto a b n memory)
 unfoldable pub checkReturned : (table log places : List ℕ) → ℤ × List ℕ
 checkReturned table log places =
     answerLog (atStep 0 (testTable table) λ _. atStep 0 (require (leb 3 (length places)) 2) λ _. checkCall table log) places
+
+-- ════ the decision
+
+-- 0 for holds, 1 for differs, minus the number of a refusal
+unfoldable pub decisionReturned : D.Decision → ℤ
+decisionReturned D.holds = pos 0
+decisionReturned D.differs = pos 1
+decisionReturned (D.undecided n) = negℤ (pos n)
+
+-- the decision call: the number returned is that of an answer which is decided
+pub record DecideReturned (table first second buffer work : List ℕ) (r : ℤ) (buffer′ work′ : List ℕ) : Type 0 where
+  pub answer : D.Decision
+  pub is : r ≡ decisionReturned answer
+  pub decided : D.Decided table first second buffer work answer buffer′ work′

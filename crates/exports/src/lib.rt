@@ -3,10 +3,12 @@ ghost use mathlib.Core.Path.{_≡_};
 ghost use Prim.Native.Nat.{_≤_};
 ghost use lib.ListN.{length};
 ghost use Rattle.specification.specs.Results.{given, refused};
-ghost use Rattle.exports.specs.Returns.{returned, returnedAt, threeInto, placesInto, valueReturned, reduceReturned, checkReturned};
+ghost use Rattle.exports.specs.Returns.{returned, returnedAt, threeInto, placesInto, valueReturned, reduceReturned, checkReturned, DecideReturned};
 ghost use Rattle.evaluation.specs.Vectors.{vecOf};
 use checker::Checked;
 use checker::check;
+use decision::Decision;
+use decision::decide;
 use evaluation::Valued;
 use evaluation::value;
 use evaluation::vectors::Vector;
@@ -118,5 +120,24 @@ pub extern "C" fn kalzunbi_check(table: &[u8], log: &[u8], places: &mut [u64]) -
             0
         }
         Checked::Refused(m, k) => refusal_at(m, k),
+    }
+}
+
+// Whether two forms are equal under every assignment: 0, or 1 with an assignment under which they differ in the buffer, or minus 1, 2, 11, 5 or 6.
+#[no_mangle]
+pub extern "C" fn kalzunbi_decide(
+    table: &[u8],
+    first: &[u8],
+    second: &[u8],
+    buffer: &mut [u8],
+    work: &mut [u8],
+) -> i64
+    ensures { λ r. ⌜ DecideReturned (now (table .entry)) (now (first .entry)) (now (second .entry)) (now (buffer .entry)) (now (work .entry)) r (now (buffer .exit)) (now (work .exit)) ⌝ }
+{
+    let d = decide(table, first, second, buffer, work);
+    match d {
+        Decision::Holds => 0,
+        Decision::Differs => 1,
+        Decision::Refused(n) => refusal(n),
     }
 }

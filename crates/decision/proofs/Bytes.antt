@@ -1,0 +1,144 @@
+-- Monomials in bytes: what is written is read, and what was not written over stands. Assumes nothing.
+use mathlib.Core.Path.{_≡_, refl, ap, ap₂, sym, _∙_}
+use mathlib.Core.Logic.{_⊎_, inl, inr}
+use mathlib.Core.Bool.{Bool, true, false}
+use mathlib.Core.List.{List, [], _∷_, _++_, append-assoc}
+use Prim.Native.Nat.{ℕ, zero, suc, _+_, _*_, _/_, _^_, _≤_, _<_}
+use native.Mathlib.Nat.{div-lt-iff-lt-mul, pow-succ', mul-comm, eq-or-lt-of-le}
+use Rattle.algebra.specs.Conditions.{lt-or-le}
+use native.Mathlib.Numerals.{towards-suc}
+use native.Mathlib.Omega.{arith}
+use lib.Dec.{eqb}
+use borrow.Author.Tests.{eqb-true, eqb-false}
+use lib.IntN.{ℤ}
+use lib.ListN.{length, getD, take, drop, set, length-set}
+use lib.Seq.{sets, sets-eq, length-sets, length-take-le, getD-at, getD-append-add, getD-set-same, getD-set-other, ext-getD}
+use mir.Syntax.{w64}
+use mir.Val.{SFits, toZ, ofZ}
+use mir.ValLaws.{toZ-ofZ, ofZ-fits}
+use Rattle.decision.specs.Monomials.{Monomial}
+use Rattle.decision.specs.Memory.{bytesOf, numberOf, eight, mono, none, monomialAt, tabulated, monomials}
+
+-- ════ stores
+
+-- eight stores in a row
+pub stores : (l : List ℕ) (at : ℕ) {a b c d e f g h a′ b′ c′ d′ e′ f′ g′ h′ : ℕ}
+    → a ≡ a′ → b ≡ b′ → c ≡ c′ → d ≡ d′ → e ≡ e′ → f ≡ f′ → g ≡ g′ → h ≡ h′
+    → set (set (set (set (set (set (set (set l at a) (at + 1) b) (at + 2) c) (at + 3) d) (at + 4) e) (at + 5) f) (at + 6) g) (at + 7) h
+    ≡ sets l at (a′ ∷ b′ ∷ c′ ∷ d′ ∷ e′ ∷ f′ ∷ g′ ∷ h′ ∷ [])
+stores l at p q r s t u v w = rw (p, q, r, s, t, u, v, w) (simp towards-suc)
+
+-- the number of the bytes of a number
+number-bytes : (n x : ℕ) → x < 256 ^ n → numberOf (bytesOf n x) ≡ x
+number-bytes zero x h = omega arith
+number-bytes (suc n) x h = rw (number-bytes n (x / 256) (div-lt-iff-lt-mul {k = 256} (omega arith) .1 (rw (pow-succ', mul-comm) at h))) (omega arith)
+
+-- an element that is not among those set stands
+sets-other : (l : List ℕ) (at : ℕ) (vs : List ℕ) (j : ℕ) → (j < at) ⊎ (at + length vs ≤ j) → getD (sets l at vs) j 0 ≡ getD l j 0
+sets-other l at [] j h = refl
+sets-other l at (v ∷ vs) j (inl h) = sets-other (set l at v) (suc at) vs j (inl (omega arith)) ∙ getD-set-other l at j v 0 (λ e. omega arith)
+sets-other l at (v ∷ vs) j (inr h) = sets-other (set l at v) (suc at) vs j (inr (omega arith)) ∙ getD-set-other l at j v 0 (λ e. omega arith)
+
+eight-other : (l : List ℕ) (at : ℕ) (vs : List ℕ) (j : ℕ) → (j + 8 ≤ at) ⊎ (at + length vs ≤ j) → eight (sets l at vs) j ≡ eight l j
+unfolding eight
+eight-other l at vs j h =
+    rw (sets-other l at vs j (elim h [ inl q ↦ inl (omega arith) | inr q ↦ inr (omega arith) ]), s 1 (omega arith), s 2 (omega arith), s 3 (omega arith), s 4 (omega arith), s 5 (omega arith), s 6 (omega arith), s 7 (omega arith))
+  where
+    s : (i : ℕ) → i < 8 → getD (sets l at vs) (j + i) 0 ≡ getD l (j + i) 0
+    s i g = sets-other l at vs (j + i) (elim h [ inl q ↦ inl (omega arith) | inr q ↦ inr (omega arith) ])
+
+getD-shift : (p q : List ℕ) (n k : ℕ) → length p ≡ n → getD (p ++ q) (n + k) 0 ≡ getD q k 0
+getD-shift p q n k e = rw (← e) (getD-append-add p q k 0)
+
+-- what was put is there
+eight-sets : (l : List ℕ) (at a b c d e f g h : ℕ) → at + 8 ≤ length l
+    → eight (sets l at (a ∷ b ∷ c ∷ d ∷ e ∷ f ∷ g ∷ h ∷ [])) at ≡ a ∷ b ∷ c ∷ d ∷ e ∷ f ∷ g ∷ h ∷ []
+unfolding eight
+eight-sets l at a b c d e f g h k =
+    let vs : List ℕ = a ∷ b ∷ c ∷ d ∷ e ∷ f ∷ g ∷ h ∷ [] in
+    let q = length-take-le at l (omega arith) in
+    let r = vs ++ drop (at + 8) l in
+    let m : sets l at vs ≡ take at l ++ r = sets-eq vs l at k ∙ append-assoc (take at l) vs (drop (at + 8) l) in
+    rw (m, getD-at (take at l) a _ 0 at q, getD-shift (take at l) r at 1 q, getD-shift (take at l) r at 2 q, getD-shift (take at l) r at 3 q, getD-shift (take at l) r at 4 q, getD-shift (take at l) r at 5 q, getD-shift (take at l) r at 6 q, getD-shift (take at l) r at 7 q)
+
+number-there : (l : List ℕ) (at x : ℕ) → at + 8 ≤ length l → x < 2 ^ 64 → numberOf (eight (sets l at (bytesOf 8 x)) at) ≡ x
+number-there l at x h k = ap numberOf (eight-sets l at _ _ _ _ _ _ _ _ h) ∙ number-bytes 8 x k
+
+-- ════ tables
+
+module _ {A : Type 0} where
+  pub length-tabulated : (n : ℕ) (f : ℕ → A) → length (tabulated n f) ≡ n
+  length-tabulated zero f = refl
+  length-tabulated (suc n) f = ap suc (length-tabulated n (λ i. f (suc i)))
+
+  pub getD-tabulated : (n : ℕ) (f : ℕ → A) (i : ℕ) (d : A) → i < n → getD (tabulated n f) i d ≡ f i
+  getD-tabulated zero f i d h = absurd (omega arith)
+  getD-tabulated (suc n) f zero d h = refl
+  getD-tabulated (suc n) f (suc i) d h = getD-tabulated n (λ i. f (suc i)) i d (omega arith)
+
+-- so many monomials
+pub length-monomials : (l : List ℕ) → length (monomials l) ≡ length l / 16
+unfolding monomials
+length-monomials l = length-tabulated (length l / 16) (monomialAt l)
+
+-- those with a number below are in the bytes
+pub within : (l : List ℕ) (i : ℕ) → i < length (monomials l) → 16 * i + 16 ≤ length l
+within l i h = omega (arith, length-monomials l)
+
+getD-monomials : (l : List ℕ) (i : ℕ) → i < length (monomials l) → getD (monomials l) i none ≡ monomialAt l i
+unfolding monomials
+getD-monomials l i h = getD-tabulated (length l / 16) (monomialAt l) i none (omega (arith, length-tabulated (length l / 16) (monomialAt l)))
+
+-- the key and the coefficient as they are read
+pub key-read : (l : List ℕ) (i x : ℕ) → i < length (monomials l) → x ≡ numberOf (eight l (16 * i)) → x ≡ getD (monomials l) i none .key
+unfolding monomialAt
+key-read l i x h e = e ∙ sym (ap (λ (m : Monomial). m .key) (getD-monomials l i h))
+
+pub coef-read : (l : List ℕ) (i : ℕ) (z : ℤ) → i < length (monomials l) → z ≡ toZ w64 (numberOf (eight l (16 * i + 8))) → z ≡ getD (monomials l) i none .coef
+unfolding monomialAt
+coef-read l i z h e = e ∙ sym (ap (λ (m : Monomial). m .coef) (getD-monomials l i h))
+
+-- one number put behind the other
+module _ (l m n : List ℕ) (i key x : ℕ) (coef : ℤ) (h : i < length (monomials l)) (k : key < 2 ^ 64) (f : SFits w64 coef)
+    (p : m ≡ sets l (16 * i) (bytesOf 8 key)) (q : n ≡ sets m (16 * i + 8) (bytesOf 8 x)) (e : x ≡ ofZ w64 coef) where
+  length-m : length m ≡ length l
+  length-m = ap length p ∙ length-sets l (16 * i) (bytesOf 8 key)
+
+  length-n : length n ≡ length l
+  length-n = ap length q ∙ length-sets m (16 * i + 8) (bytesOf 8 x) ∙ length-m
+
+  same-count : length (monomials n) ≡ length (monomials l)
+  same-count = length-monomials n ∙ ap (λ (z : ℕ). z / 16) length-n ∙ sym (length-monomials l)
+
+  x-small : x < 2 ^ 64
+  x-small = rw e (ofZ-fits w64 coef f .fits)
+
+  here : monomialAt n i ≡ mono key coef
+  unfolding monomialAt
+  here =
+      let a : numberOf (eight n (16 * i)) ≡ key = rw q (ap numberOf (eight-other m (16 * i + 8) (bytesOf 8 x) (16 * i) (inl (omega arith))) ∙ rw p (number-there l (16 * i) key (omega (arith, within l i h)) k)) in
+      let b : numberOf (eight n (16 * i + 8)) ≡ x = rw q (number-there m (16 * i + 8) x (omega (arith, within l i h, length-m)) x-small) in
+      ap₂ mono a (ap (toZ w64) (b ∙ e) ∙ toZ-ofZ w64 coef f)
+
+  there : (j : ℕ) → ¬ (j ≡ i) → monomialAt n j ≡ monomialAt l j
+  unfolding monomialAt
+  there j g =
+      let o : (at : ℕ) → (at + 8 ≤ 16 * i) ⊎ (16 * i + 16 ≤ at) → numberOf (eight n at) ≡ numberOf (eight l at) =
+      λ at w. rw q (ap numberOf (eight-other m (16 * i + 8) (bytesOf 8 x) at (elim w [ inl u ↦ inl (omega arith) | inr u ↦ inr (omega arith) ]))
+      ∙ rw p (ap numberOf (eight-other l (16 * i) (bytesOf 8 key) at (elim w [ inl u ↦ inl u | inr u ↦ inr (omega arith) ])))) in
+      ap₂ mono (o (16 * j) (elim (side j g 0 (omega arith)) [ inl u ↦ inl (omega arith) | inr u ↦ inr (omega arith) ])) (ap (toZ w64) (o (16 * j + 8) (side j g 8 (omega arith))))
+    where
+      side : (j : ℕ) → ¬ (j ≡ i) → (b : ℕ) → b ≤ 8 → (16 * j + b + 8 ≤ 16 * i) ⊎ (16 * i + 16 ≤ 16 * j + b)
+      side j g b w = elim (lt-or-le j i) [ inl u ↦ inl (omega arith) | inr u ↦ inr (elim (eq-or-lt-of-le u) [ inl z ↦ absurd (g (sym z)) | inr z ↦ omega arith ]) ]
+
+  pub monomial-put : monomials n ≡ set (monomials l) i (mono key coef)
+  monomial-put =
+      ext-getD none (monomials n) (set (monomials l) i (mono key coef)) (same-count ∙ sym (length-set (monomials l) i (mono key coef)))
+      (λ j w. getD-monomials n j w ∙ go j w (eqb j i) refl)
+    where
+      go : (j : ℕ) → j < length (monomials n) → (b : Bool) → eqb j i ≡ b → monomialAt n j ≡ getD (set (monomials l) i (mono key coef)) j none
+      go j w true z =
+          let u : j ≡ i = eqb-true j i z in
+          rw u (here ∙ sym (getD-set-same (monomials l) i (mono key coef) none h))
+      go j w false z =
+          there j (eqb-false j i z) ∙ sym (getD-set-other (monomials l) i j (mono key coef) none (eqb-false j i z) ∙ getD-monomials l j (omega (arith, same-count)))

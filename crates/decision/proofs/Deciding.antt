@@ -1,0 +1,144 @@
+-- The decision from its tests, in their order. Assumes nothing.
+use mathlib.Core.Path.{_≡_, refl, sym, _∙_, subst}
+use mathlib.Core.Bool.{Bool, true, false, _&&_}
+use mathlib.Core.List.{List}
+use Prim.Native.Nat.{ℕ, _≤_, _<_}
+use lib.Dec.{T, leb, leb→le}
+use lib.ListN.{length}
+use borrow.Author.Tests.{eq-eqb, ne-eqb, le-leb, lt-leb}
+use Rattle.specification.specs.Results.{Result, refused, given, Test, require}
+use Rattle.specification.specs.Lists.{all}
+use Rattle.specification.specs.Letters.{isKind, goodTable, testTable}
+use Rattle.specification.specs.Terms as S
+use Rattle.specification.specs.Records.{readForm, testTerms}
+use Rattle.specification.specs.Decision.{undecided, takeTwoForms, decideTested, DecidedBy}
+use Rattle.specification.specs.Decision as D
+use Rattle.theory.specs.Tests.{and-split, refused≢given}
+use Rattle.terms.specs.declared.types.Form.{Form}
+use Rattle.terms.specs.Abstraction.{formOf}
+use Rattle.records.specs.declared.take.Taken.{Taken}
+use Rattle.records.specs.Reading.{takenOf}
+use Rattle.records.specs.Tested.{testOf}
+use Rattle.decision.specs.Taking.{WholeRead}
+use Rattle.decision.specs.Answers.{Decidable}
+
+-- a test that is passed, or refused with its number
+test-passed : (n : ℕ) (t : Test) → testOf n ≡ t → n ≡ 0 → t ≡ given tt
+unfolding testOf
+test-passed n t e z = sym e ∙ rw (eq-eqb n 0 z)
+
+test-refused : (n : ℕ) (t : Test) → testOf n ≡ t → ¬ (n ≡ 0) → t ≡ refused n
+unfolding testOf
+test-refused n t e z = sym e ∙ rw (ne-eqb n 0 z)
+
+-- a form that is read, or refused with its number
+form-passed : (r : Taken) (f : Result S.Form) → takenOf r ≡ f → r .refusal ≡ 0 → f ≡ given (formOf (r .form))
+unfolding takenOf
+form-passed r f e z = sym e ∙ rw (eq-eqb (r .refusal) 0 z)
+
+form-refused : (r : Taken) (f : Result S.Form) → takenOf r ≡ f → ¬ (r .refusal ≡ 0) → f ≡ refused (r .refusal)
+unfolding takenOf
+form-refused r f e z = sym e ∙ rw (ne-eqb (r .refusal) 0 z)
+
+-- a refusal: everything stands
+refused-so : (r : Result (S.Form × S.Form)) (n : ℕ) (table b w : List ℕ) → r ≡ refused n → DecidedBy r table b w (undecided n) b w
+unfolding DecidedBy
+refused-so r n table b w e = subst (λ (x : Result (S.Form × S.Form)). DecidedBy x table b w (undecided n) b w) (sym e) (refl, record { bufferStands = refl; workStands = refl })
+
+-- a good table is short
+good-short : (table : List ℕ) → testTable table ≡ given tt → length table ≤ 24
+unfolding testTable goodTable
+good-short table e = go (goodTable table) e (λ t. short t)
+  where
+    short : T (goodTable table) → length table ≤ 24
+    short t =
+        let p = leb 1 (length table) in
+        let q = leb (length table) 24 in
+        leb→le (length table) 24 (and-split p q (and-split (p && q) (all isKind table) t .0) .1)
+
+    go : (b : Bool) → require b 1 ≡ given tt → (T b → length table ≤ 24) → length table ≤ 24
+    go true p f = f tt
+    go false p f = absurd (refused≢given p)
+
+module _ (table s t b w : List ℕ) (n : ℕ) (e : testOf n ≡ testTable table) where
+  pub table-refused : ¬ (n ≡ 0) → DecidedBy (decideTested table s t b w) table b w (undecided n) b w
+  unfolding decideTested
+  table-refused h = refused-so (decideTested table s t b w) n table b w (rw (test-refused n (testTable table) e h))
+
+  module _ (z : n ≡ 0) where
+    table-passed : testTable table ≡ given tt
+    table-passed = test-passed n (testTable table) e z
+
+    pub buffer-refused : length b < 72 → DecidedBy (decideTested table s t b w) table b w (undecided 2) b w
+    unfolding decideTested
+    buffer-refused h = refused-so (decideTested table s t b w) 2 table b w (rw (table-passed, lt-leb 72 (length b) h))
+
+    module _ (lb : 72 ≤ length b) where
+      pub work-refused : length w < 55296 → DecidedBy (decideTested table s t b w) table b w (undecided 2) b w
+      unfolding decideTested
+      work-refused h = refused-so (decideTested table s t b w) 2 table b w (rw (table-passed, le-leb 72 (length b) lb, lt-leb 55296 (length w) h))
+
+      module _ (lw : 55296 ≤ length w) where
+        lengths-passed : decideTested table s t b w ≡ takeTwoForms table s t
+        unfolding decideTested
+        lengths-passed = rw (table-passed, le-leb 72 (length b) lb, le-leb 55296 (length w) lw)
+
+        module _ (p : Taken) (ep : WholeRead (readForm s) p) where
+          pub first-refused : ¬ (p .refusal ≡ 0) → DecidedBy (decideTested table s t b w) table b w (undecided (p .refusal)) b w
+          unfolding takeTwoForms
+          first-refused h = refused-so (decideTested table s t b w) (p .refusal) table b w (lengths-passed ∙ rw (form-refused p (readForm s) (ep .is) h))
+
+          module _ (zp : p .refusal ≡ 0) (q : Taken) (eq : WholeRead (readForm t) q) where
+            first-passed : readForm s ≡ given (formOf (p .form))
+            first-passed = form-passed p (readForm s) (ep .is) zp
+
+            pub second-refused : ¬ (q .refusal ≡ 0) → DecidedBy (decideTested table s t b w) table b w (undecided (q .refusal)) b w
+            unfolding takeTwoForms
+            second-refused h = refused-so (decideTested table s t b w) (q .refusal) table b w (lengths-passed ∙ rw (first-passed, form-refused q (readForm t) (eq .is) h))
+
+            module _ (zq : q .refusal ≡ 0) (c : ℕ) (ec : testOf c ≡ testTerms table (formOf (p .form) .terms)) where
+              second-passed : readForm t ≡ given (formOf (q .form))
+              second-passed = form-passed q (readForm t) (eq .is) zq
+
+              pub letters-refused : ¬ (c ≡ 0) → DecidedBy (decideTested table s t b w) table b w (undecided c) b w
+              unfolding takeTwoForms
+              letters-refused h = refused-so (decideTested table s t b w) c table b w (lengths-passed ∙ rw (first-passed, second-passed, test-refused c (testTerms table (formOf (p .form) .terms)) ec h))
+
+              module _ (zc : c ≡ 0) (d : ℕ) (ed : testOf d ≡ testTerms table (formOf (q .form) .terms)) where
+                letters-passed : testTerms table (formOf (p .form) .terms) ≡ given tt
+                letters-passed = test-passed c (testTerms table (formOf (p .form) .terms)) ec zc
+
+                pub others-refused : ¬ (d ≡ 0) → DecidedBy (decideTested table s t b w) table b w (undecided d) b w
+                unfolding takeTwoForms
+                others-refused h =
+                    refused-so (decideTested table s t b w) d table b w (lengths-passed ∙ rw (first-passed, second-passed, letters-passed, test-refused d (testTerms table (formOf (q .form) .terms)) ed h))
+
+                module _ (zd : d ≡ 0) where
+                  others-passed : testTerms table (formOf (q .form) .terms) ≡ given tt
+                  others-passed = test-passed d (testTerms table (formOf (q .form) .terms)) ed zd
+
+                  pub kinds-refused : ¬ (p .form .kind ≡ q .form .kind) → DecidedBy (decideTested table s t b w) table b w (undecided 6) b w
+                  unfolding takeTwoForms formOf
+                  kinds-refused h =
+                      refused-so (decideTested table s t b w) 6 table b w
+                      (lengths-passed ∙ rw (first-passed, second-passed, letters-passed, others-passed, ne-eqb (p .form .kind) (q .form .kind) h))
+
+                  module _ (k : p .form .kind ≡ q .form .kind) where
+                    pub settle-asks : Decidable table (p .form) (q .form) b w
+                    settle-asks =
+                        record {
+                          letters = good-short table table-passed;
+                          room = lb;
+                          workRoom = lw;
+                          validFirst = ep .valid zp;
+                          validSecond = eq .valid zq;
+                          testedFirst = letters-passed;
+                          testedSecond = others-passed;
+                          kinds = k;
+                        }
+
+                    pub settled : (a : D.Decision) (b′ w′ : List ℕ) → DecidedBy (given (formOf (p .form), formOf (q .form))) table b w a b′ w′ → DecidedBy (decideTested table s t b w) table b w a b′ w′
+                    unfolding takeTwoForms formOf
+                    settled a b′ w′ h =
+                        subst (λ (x : Result (S.Form × S.Form)). DecidedBy x table b w a b′ w′)
+                        (sym (lengths-passed ∙ rw (first-passed, second-passed, letters-passed, others-passed, eq-eqb (p .form .kind) (q .form .kind) k))) h

@@ -1,0 +1,21 @@
+-- What the proofs of the functions lean on.
+pub mod Keys
+pub mod Monomials
+pub mod Survival
+pub mod Bits64
+pub mod Bytes
+pub mod Digits
+pub mod Turns
+pub mod Orders
+pub mod Pieces
+pub mod Layers
+pub mod Expansions
+pub mod Differences
+pub mod Choices
+pub mod Contents
+pub mod Polynomials
+pub mod Gathered
+pub mod Settling
+pub mod Reading
+pub mod Deciding
+pub mod Told

@@ -1,0 +1,272 @@
+-- The decision of two forms that passed every test: the components compared one after the other. Assumes nothing.
+use mathlib.Core.Path.{_≡_, refl, sym, _∙_, ap, ap₂, subst}
+use mathlib.Core.Bool.{Bool, true, false, _&&_}
+use mathlib.Core.Logic.{_⊎_, inl, inr}
+use mathlib.Core.List.{List, [], _∷_}
+use Prim.Native.Nat.{ℕ, zero, suc, _+_, _-_, _*_, _/_, _%_, _≤_, _<_}
+use native.Mathlib.Nat as N
+use native.Mathlib.Numerals.{add-one}
+use native.Mathlib.Omega.{arith}
+use lib.Dec.{T, leb, eqb}
+use borrow.Author.Tests.{eq-eqb, ne-eqb, eqb-true, le-leb, lt-ltb}
+use lib.IntN.{ℤ, pos, _+ℤ_, _-ℤ_, _*ℤ_}
+use lib.IntN as I
+use lib.ListN.{length, getD, take, drop}
+use Rattle.algebra.specs.Integers.{sub-zero→eq}
+use Rattle.specification.specs.Results.{if_then_else_}
+use Rattle.specification.specs.Lists.{each, all}
+use Rattle.specification.specs.Letters.{scalar, vector, kindOf}
+use Rattle.specification.specs.Records.{partFits}
+use Rattle.specification.specs.Values.{Vec, scalarValue, _•_, _+v_}
+use Rattle.specification.specs.Terms as S
+use Rattle.specification.specs.Evaluation.{signedByte, assignment, partValue, termValue, termsValue, value, factorsValue}
+use Rattle.specification.specs.Decision.{letterInRange, Holds, Differs}
+use Rattle.theory.specs.Tests.{and-both}
+use Rattle.theory.specs.Elements.{All, all-T, T-all}
+use Rattle.theory.specs.Values.Vectors.{by-components}
+use Rattle.theory.specs.Shape.Terms.{term-opens, kindOfPart}
+use Rattle.theory.specs.Shape.Letters.{Known, FactorKnown, AllKnown, terms-known}
+use Rattle.terms.specs.declared.types.Form.{Form}
+use Rattle.terms.specs.Abstraction.{formOf}
+use Rattle.decision.specs.Monomials.{Monomial, weigh, total, isSome}
+use Rattle.decision.specs.Memory.{monomials}
+use Rattle.decision.specs.Expansion.{Below, TermBelow, difference, Comparable, Compared}
+use Rattle.decision.specs.Elimination.{limitOf, Eliminable, Eliminated}
+use Rattle.decision.specs.Values.{component, variables}
+use Rattle.decision.specs.Answers.{Decidable}
+use Rattle.decision.proofs.Bytes.{length-monomials}
+use Rattle.decision.proofs.Contents.{known, AllHas}
+use Rattle.decision.proofs.Polynomials.{Sound, difference-value}
+use Rattle.decision.proofs.Differences.{few-all, all-modest}
+use Rattle.decision.proofs.Gathered.{gathered-value, gathered-polynomial}
+
+-- ════ assignments in bytes
+
+each-T : (n : ℕ) (f : ℕ → Bool) → ((j : ℕ) → j < n → T (f j)) → T (each n f)
+unfolding each
+each-T zero f h = tt
+each-T (suc n) f h = and-both (each n f) (f n) (each-T n f (λ j l. h j (omega arith))) (h n (N.le-refl (suc n)))
+
+limit-six : (table : List ℕ) (x : ℕ) → limitOf table x ≤ 6
+unfolding limitOf
+limit-six table x = go (eqb (kindOf table (x / 3)) vector) (eqb (x % 3) 0)
+  where
+    go : (a b : Bool) → (if a then 6 else if b then 2 else 0) ≤ 6
+    go true b = omega arith
+    go false true = omega arith
+    go false false = omega arith
+
+-- a scalar letter's numbers
+module _ (table : List ℕ) (n : ℕ) (e : kindOf table n ≡ scalar) where
+  scalar-limit : (x : ℕ) → x / 3 ≡ n → (x % 3 ≡ 0 → limitOf table x ≡ 2) × (¬ (x % 3 ≡ 0) → limitOf table x ≡ 0)
+  unfolding limitOf
+  scalar-limit x q =
+      let k : eqb (kindOf table (x / 3)) vector ≡ false = ne-eqb (kindOf table (x / 3)) vector (λ z. omega (arith, z, ap (kindOf table) q, e)) in
+      (λ z. rw (k, eq-eqb (x % 3) 0 z), λ z. rw (k, ne-eqb (x % 3) 0 z))
+
+letter-in-range : (table b : List ℕ) (n : ℕ) → getD b (3 * n) 0 ≤ limitOf table (3 * n) → getD b (3 * n + 1) 0 ≤ limitOf table (3 * n + 1) → getD b (3 * n + 2) 0 ≤ limitOf table (3 * n + 2)
+    → T (letterInRange table b n)
+unfolding letterInRange
+letter-in-range table b n p q r = go (eqb (kindOf table n) scalar) refl
+  where
+    go : (t : Bool) → eqb (kindOf table n) scalar ≡ t
+        → T (if t then leb (getD b (3 * n) 0) 2 && eqb (getD b (3 * n + 1) 0) 0 && eqb (getD b (3 * n + 2) 0) 0 else leb (getD b (3 * n) 0) 6 && leb (getD b (3 * n + 1) 0) 6 && leb (getD b (3 * n + 2) 0) 6)
+    go true e =
+        let k = eqb-true (kindOf table n) scalar e in
+        let a : limitOf table (3 * n) ≡ 2 = scalar-limit table n k (3 * n) (omega arith) .0 (omega arith) in
+        let c : limitOf table (3 * n + 1) ≡ 0 = scalar-limit table n k (3 * n + 1) (omega arith) .1 (λ z. omega arith) in
+        let d : limitOf table (3 * n + 2) ≡ 0 = scalar-limit table n k (3 * n + 2) (omega arith) .1 (λ z. omega arith) in
+        rw (le-leb (getD b (3 * n) 0) 2 (omega (arith, p, a)), eq-eqb (getD b (3 * n + 1) 0) 0 (omega (arith, q, c)), eq-eqb (getD b (3 * n + 2) 0) 0 (omega (arith, r, d))) tt
+    go false e =
+        rw (le-leb (getD b (3 * n) 0) 6 (omega (arith, p, limit-six table (3 * n))), le-leb (getD b (3 * n + 1) 0) 6 (omega (arith, q, limit-six table (3 * n + 1))), le-leb (getD b (3 * n + 2) 0) 6 (omega (arith, r, limit-six table (3 * n + 2)))) tt
+
+in-range : (table b : List ℕ) → ((x : ℕ) → x < 3 * length table → getD b x 0 ≤ limitOf table x) → T (each (length table) (letterInRange table b))
+in-range table b h = each-T (length table) (letterInRange table b) (λ n l. letter n l)
+  where
+    letter : (n : ℕ) → n < length table → T (letterInRange table b n)
+    letter n l = letter-in-range table b n (h (3 * n) (omega arith)) (h (3 * n + 1) (omega arith)) (h (3 * n + 2) (omega arith))
+
+variable-value : (b : List ℕ) (x : ℕ) → getD b x 0 ≤ 6 → variables (assignment b) x ≡ pos (getD b x 0)
+unfolding variables assignment component signedByte
+variable-value b x h = go (x % 3) refl (omega arith)
+  where
+    byte : signedByte (getD b x 0) ≡ pos (getD b x 0)
+    byte = rw (lt-ltb (getD b x 0) 128 (omega arith))
+
+    go : (r : ℕ) → x % 3 ≡ r → r < 3 → component r (assignment b (x / 3)) ≡ pos (getD b x 0)
+    go zero e l = let q : 3 * (x / 3) ≡ x = omega arith in ap (λ (i : ℕ). signedByte (getD b i 0)) q ∙ byte
+    go (suc zero) e l = let q : 3 * (x / 3) + 1 ≡ x = omega arith in ap (λ (i : ℕ). signedByte (getD b i 0)) q ∙ byte
+    go (suc (suc zero)) e l = let q : 3 * (x / 3) + 2 ≡ x = omega arith in ap (λ (i : ℕ). signedByte (getD b i 0)) q ∙ byte
+    go (suc (suc (suc r))) e l = absurd (omega arith)
+
+-- ════ scalar forms
+
+component-none : (i : ℕ) → component (suc i) (scalarValue (pos 0)) ≡ pos 0
+unfolding component
+component-none zero = refl
+component-none (suc i) = refl
+
+component-sum : (i : ℕ) (u v : Vec) → component (suc i) (u +v v) ≡ component (suc i) u +ℤ component (suc i) v
+unfolding component
+component-sum zero u v = refl
+component-sum (suc i) u v = refl
+
+first-T : {A : Type 0} (f : A → Bool) (x : A) (xs : List A) → T (all f (x ∷ xs)) → T (f x)
+first-T f x xs h = all-T f (x ∷ xs) h .0
+
+rest-T : {A : Type 0} (f : A → Bool) (x : A) (xs : List A) → T (all f (x ∷ xs)) → T (all f xs)
+rest-T f x xs h = T-all f xs (all-T f (x ∷ xs) h .1)
+
+no-part : (τ : ℕ → Vec) (i : ℕ) (t : S.Term) → T (partFits 0 t) → component (suc i) (termValue τ t) ≡ pos 0
+unfolding termValue partValue component partFits S.termKind
+no-part τ i t h =
+    let e : t .part ≡ [] = go (t .part) h in
+    ap (λ (p : List ℕ). component (suc i) ((t .coef *ℤ factorsValue τ (t .factors)) • partValue τ p)) e ∙ none i (t .coef *ℤ factorsValue τ (t .factors))
+  where
+    go : (p : List ℕ) → T (eqb (if eqb (length p) 0 then scalar else vector) 0) → p ≡ []
+    go [] z = refl
+    go (a ∷ p) z = absurd (subst (λ (b : Bool). T (eqb (if b then scalar else vector) 0)) (ne-eqb (length (a ∷ p)) 0 (λ e. omega arith)) z)
+
+    none : (i : ℕ) (k : ℤ) → component (suc i) (k • partValue τ []) ≡ pos 0
+    none zero k = I.*ℤ-zero k
+    none (suc i) k = I.*ℤ-zero k
+
+-- the second and third component of terms without a vector part are 0
+no-parts : (τ : ℕ → Vec) (i : ℕ) (ts : List S.Term) → T (all (partFits 0) ts) → component (suc i) (termsValue τ ts) ≡ pos 0
+unfolding termsValue
+no-parts τ i [] h = component-none i
+no-parts τ i (t ∷ ts) h =
+    component-sum i (termValue τ t) (termsValue τ ts) ∙ ap₂ (λ (x y : ℤ). x +ℤ y) (no-part τ i t (first-T (partFits 0) t ts h)) (no-parts τ i ts (rest-T (partFits 0) t ts h))
+
+-- ════ two forms
+
+some-left : (k : ℕ) (l : List Monomial) → 0 < k → k ≤ length l → isSome (take k l) ≡ true
+unfolding isSome
+some-left zero l p q = absurd (omega arith)
+some-left (suc k) [] p q = absurd (omega arith)
+some-left (suc k) (m ∷ l) p q = refl
+
+module _ (table : List ℕ) (f g : Form) (buffer work : List ℕ) (w : Decidable table f g buffer work) where
+  letters-below : (kind : ℕ) (ls : List ℕ) → All (Known table kind) ls → Below ls
+  letters-below kind [] k = tt
+  letters-below kind (l ∷ ls) k = (N.le-trans (known table kind l (k .0) .0) (w .letters), letters-below kind ls (k .1))
+
+  factors-below : (fs : List (List ℕ)) → All (FactorKnown table) fs → All Below fs
+  factors-below [] k = tt
+  factors-below (x ∷ fs) k = (letters-below (if eqb (length x) 1 then scalar else vector) x (k .0), factors-below fs (k .1))
+
+  terms-below : (ts : List S.Term) → AllKnown table ts → All TermBelow ts
+  terms-below [] k = tt
+  terms-below (t ∷ ts) k = (record { factors = factors-below (t .factors) (k .0 .factors); part = letters-below vector (t .part) (k .0 .part) }, terms-below ts (k .1))
+
+  sound : (τ : ℕ → Vec) (ts : List S.Term) → T (all S.termInShape ts) → AllKnown table ts → All (Sound table τ (w .letters)) ts
+  sound τ [] h k = tt
+  sound τ (t ∷ ts) h k = (((kindOfPart (t .part), term-opens t (first-T S.termInShape t ts h) .fits), k .0), sound τ ts (rest-T S.termInShape t ts h) (k .1))
+
+  firsts : AllKnown table (formOf f .terms)
+  firsts = terms-known table (formOf f .terms) (w .testedFirst)
+
+  seconds : AllKnown table (formOf g .terms)
+  seconds = terms-known table (formOf g .terms) (w .testedSecond)
+
+  abbrev es : ℕ → List Monomial
+  es i = difference i (formOf f) (formOf g)
+
+  values : (τ : ℕ → Vec) (i : ℕ) → i < 3 → (total (variables τ) (es i) ≡ component i (value τ (formOf f)) -ℤ component i (value τ (formOf g))) × AllHas table 6 2 (es i)
+  values τ i h =
+      difference-value table τ (w .letters) i (formOf f) (formOf g) h (sound τ (formOf f .terms) (w .validFirst .inShape .terms) firsts) (sound τ (formOf g .terms) (w .validSecond .inShape .terms) seconds)
+
+  module _ (now : List ℕ) (same : length now ≡ length work) (i : ℕ) (h : i < 3) where
+    pub compare-asks : Comparable f g i (monomials now)
+    compare-asks =
+        record {
+          room = omega (arith, length-monomials now, w .workRoom, same);
+          validFirst = w .validFirst;
+          validSecond = w .validSecond;
+          belowFirst = terms-below (formOf f .terms) firsts;
+          belowSecond = terms-below (formOf g .terms) seconds;
+          component = h;
+        }
+
+    module _ (r : ℕ) (ns : List Monomial) (c : Compared (es i) r (monomials now) ns) where
+      abbrev tau : ℕ → Vec
+      tau l = scalarValue (pos 0)
+
+      same-value : (σ : ℕ → ℤ) → total σ (take r ns) ≡ total σ (es i)
+      same-value σ = gathered-value table (w .letters) (es i) (all-modest f g i (monomials now) compare-asks) (values tau i h .1) (few-all f g i (monomials now) compare-asks) r (monomials now) ns c σ
+
+      -- nothing is left
+      pub none-left : r ≤ 0 → (σ : ℕ → ℤ) → total σ (es i) ≡ pos 0
+      unfolding weigh
+      none-left l σ = let e : r ≡ 0 = omega arith in sym (same-value σ) ∙ ap (λ (k : ℕ). total σ (take k ns)) e
+
+      -- something is left
+      module _ (l : 0 < r) (b : List ℕ) (room : length b ≡ length buffer) (z : (x : ℕ) → x < 3 * length table → getD b x 0 ≡ 0) where
+        few : r ≤ length ns
+        few = omega (arith, c .few, c .same, few-all f g i (monomials now) compare-asks, length-monomials now, w .workRoom, same)
+
+        some : isSome (take r ns) ≡ true
+        some = go r ns l few
+          where
+            go : (k : ℕ) (l : List Monomial) → 0 < k → k ≤ length l → isSome (take k l) ≡ true
+            go k l p q = some-left k l p q
+
+        pub eliminate-asks : Eliminable table r ns b
+        eliminate-asks =
+            record {
+              letters = w .letters;
+              there = few;
+              room = omega (arith, w .room, room);
+              polynomial = gathered-polynomial table (w .letters) (es i) (all-modest f g i (monomials now) compare-asks) (values tau i h .1) (few-all f g i (monomials now) compare-asks) r (monomials now) ns c some;
+              zeros = z;
+            }
+
+        pub differs : (b′ : List ℕ) → drop (3 * length table) b ≡ drop (3 * length table) buffer → Eliminated table (take r ns) b b′ → Differs table (formOf f) (formOf g) buffer b′
+        differs b′ d e =
+            let τ = assignment b′ in
+            let at : (x : ℕ) → x < 3 * length table → variables τ x ≡ pos (getD b′ x 0) = λ x k. variable-value b′ x (N.le-trans (e .within x k) (limit-six table x)) in
+            record {
+              sameLength = e .sameLength ∙ room;
+              inRange = in-range table b′ (e .within);
+              unequal = λ q. e .nonzero (variables τ) at (same-value (variables τ) ∙ values τ i h .0 ∙ ap (λ (v : Vec). component i v -ℤ component i (value τ (formOf g))) q ∙ I.+ℤ-invr (component i (value τ (formOf g))));
+              restStands = e .behind ∙ d;
+            }
+
+  -- every component is 0
+  module _ (m : ℕ) (k : ((m ≡ 1) × (f .kind ≡ 0)) ⊎ (m ≡ 3)) (z : (i : ℕ) → i < m → (σ : ℕ → ℤ) → total σ (es i) ≡ pos 0) where
+    same-component : (τ : ℕ → Vec) (i : ℕ) → i < 3 → i < m → component i (value τ (formOf f)) ≡ component i (value τ (formOf g))
+    same-component τ i h l = sub-zero→eq (component i (value τ (formOf f))) (component i (value τ (formOf g))) (sym (values τ i h .0) ∙ z i l (variables τ))
+
+    other-component : (τ : ℕ → Vec) (i : ℕ) → suc i < 3 → component (suc i) (value τ (formOf f)) ≡ component (suc i) (value τ (formOf g))
+    unfolding value formOf
+    other-component τ i h = go k
+      where
+        go : ((m ≡ 1) × (f .kind ≡ 0)) ⊎ (m ≡ 3) → component (suc i) (value τ (formOf f)) ≡ component (suc i) (value τ (formOf g))
+        go (inr e) = same-component τ (suc i) h (omega arith)
+        go (inl e) =
+            no-parts τ i (formOf f .terms) (subst (λ (y : ℕ). T (all (partFits y) (formOf f .terms))) (e .1) (w .validFirst .inShape .parts))
+            ∙ sym (no-parts τ i (formOf g .terms) (subst (λ (y : ℕ). T (all (partFits y) (formOf g .terms))) (sym (w .kinds) ∙ e .1) (w .validSecond .inShape .parts)))
+
+    first-component : (τ : ℕ → Vec) → component 0 (value τ (formOf f)) ≡ component 0 (value τ (formOf g))
+    first-component τ = same-component τ 0 (omega arith) (go k)
+      where
+        go : ((m ≡ 1) × (f .kind ≡ 0)) ⊎ (m ≡ 3) → 0 < m
+        go (inl e) = omega (arith, e .0)
+        go (inr e) = omega arith
+
+    pub equal : (b : List ℕ) → b ≡ buffer → Holds (formOf f) (formOf g) buffer b
+    unfolding component
+    equal b e = record { equal = λ τ. by-components (first-component τ) (other-component τ 0 (omega arith)) (other-component τ 1 (omega arith)); bufferStands = e }
+
+-- components checked so far
+pub zero-more : (P : ℕ → Type 0) (i : ℕ) → ((j : ℕ) → j < i → P j) → P i → (j : ℕ) → j < i + 1 → P j
+zero-more P i h p j l =
+    elim (N.eq-or-lt-of-le (N.le-of-suc-le-suc (N.le-trans l (N.le-of-eq (add-one i))))) [ inl q ↦ subst P (sym q) p | inr q ↦ h j q ]
+
+-- there are at most three components
+pub three : {m i k : ℕ} → ((m ≡ 1) × (k ≡ 0)) ⊎ (m ≡ 3) → i < m → i < 3
+three (inl e) l = omega (arith, e .0)
+three (inr e) l = omega arith
+
+pub all-zero : {P : ℕ → Type 0} {i m : ℕ} → ((j : ℕ) → j < i → P j) → m ≤ i → (j : ℕ) → j < m → P j
+all-zero h l j k = h j (N.le-trans k l)

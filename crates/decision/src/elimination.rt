@@ -1,0 +1,62 @@
+// Numbers chosen for the variables, one after the other from the lowest on, so that a polynomial in lent bytes is not 0.
+ghost use mathlib.Core.Path.{_≡_};
+ghost use Prim.Native.Nat.{ℕ, _/_, _≤_, _<_};
+ghost use lib.ListN.{length, getD, take, drop};
+ghost use Rattle.decision.specs.Memory.{monomials};
+ghost use Rattle.decision.specs.Passes.{Fit};
+ghost use Rattle.decision.specs.Elimination.{mostOf, FirstNumber, Eliminable, Eliminated};
+use crate::passes::least;
+use crate::passes::leaves;
+use crate::passes::substitute;
+
+// The largest number for a variable.
+fn most(table: &[u8], x: usize) -> u64
+    requires { ⌜ x / 3 < length (now table) ⌝ }
+    ensures { λ r. ⌜ r ≡ mostOf (now (table .entry)) x ⌝ }
+{
+    if table[x / 3] == 1 { 6 } else { 2 }
+}
+
+// The first number for the variable of a digit that leaves a monomial; the last one needs no test.
+fn first_number(work: &[u8], n: usize, d: u64, most: u64) -> u64
+    requires { ⌜ (n ≤ length (monomials (now work))) × (most ≤ 6) × ((v : ℕ) → v ≤ most → Fit d v (take n (monomials (now work)))) ⌝ }
+    ensures { λ r. ⌜ FirstNumber (take n (monomials (now (work .entry)))) d most r ⌝ }
+{
+    let mut v: u64 = 0;
+    while v < most {
+        if leaves(work, n, d, v) {
+            return v;
+        }
+        v += 1;
+    }
+    v
+}
+
+// Chooses a number for each variable of a polynomial that is not 0, and writes it into the buffer.
+pub fn eliminate(table: &[u8], work: &mut [u8], n: usize, buffer: &mut [u8])
+    requires { ⌜ Eliminable (now table) n (monomials (now work)) (now buffer) ⌝ }
+    ensures { λ r. ⌜ Eliminated (now (table .entry)) (take n (monomials (now (work .entry)))) (now (buffer .entry)) (now (buffer .exit)) ⌝ }
+{
+    let mut m = n;
+    let mut d = least(work, n);
+    while d != 0 {
+        let x = (d - 1) as usize;
+        let v = first_number(work, m, d, most(table, x));
+        m = substitute(work, m, d, v);
+        buffer[x] = v as u8;
+        d = least(work, m);
+    }
+}
+
+// Writes 0 into the first n bytes.
+pub fn clear(buffer: &mut [u8], n: usize)
+    requires { ⌜ n ≤ length (now buffer) ⌝ }
+    ensures zeros { λ r. ⌜ ((x : ℕ) → x < n → getD (now (buffer .exit)) x 0 ≡ 0) ⌝ }
+    ensures behind { λ r. ⌜ drop n (now (buffer .exit)) ≡ drop n (now (buffer .entry)) ⌝ }
+{
+    let mut i: usize = 0;
+    while i < n {
+        buffer[i] = 0;
+        i += 1;
+    }
+}

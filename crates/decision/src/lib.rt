@@ -1,0 +1,122 @@
+// The decision: whether two forms are equal under every assignment, or one under which they differ.
+ghost use Rattle.specification.specs.Records.{readForm};
+ghost use Rattle.specification.specs.Decision.{Decided};
+ghost use Rattle.decision.specs.Taking.{WholeRead};
+ghost use Rattle.decision.specs.Answers.{decisionOf, Decidable, DecidedSo};
+
+mod components;
+mod elimination;
+mod expansion;
+mod memory;
+mod passes;
+mod sorting;
+mod variables;
+
+use crate::components::compare;
+use crate::elimination::clear;
+use crate::elimination::eliminate;
+use records::table::check_table;
+use records::table::test_terms;
+use records::take::Taken;
+use records::take::read_form_at;
+use terms::types::Form;
+
+// What the decision says.
+pub enum Decision {
+    Holds,
+    Differs,
+    Refused(u8),
+}
+
+// The form whose record the bytes are, from the first to the last, or 11.
+fn read_whole(s: &[u8]) -> Taken
+    ensures { λ r. ⌜ WholeRead (readForm (now (s .entry))) r ⌝ }
+{
+    let r = read_form_at(s, 0);
+    let f = r.form;
+    if !r.ok {
+        return Taken {
+            refusal: 11,
+            form: f,
+        };
+    }
+    if r.next != s.len() {
+        return Taken {
+            refusal: 11,
+            form: f,
+        };
+    }
+    Taken {
+        refusal: 0,
+        form: f,
+    }
+}
+
+// The decision of two forms that passed every test: their components are compared one after the other.
+fn settle(table: &[u8], f: Form, g: Form, buffer: &mut [u8], work: &mut [u8]) -> Decision
+    requires { ⌜ Decidable (now table) f g (now buffer) (now work) ⌝ }
+    ensures { λ r. ⌜ DecidedSo (now (table .entry)) f g (now (buffer .entry)) (now (work .entry)) (decisionOf r) (now (buffer .exit)) (now (work .exit)) ⌝ }
+{
+    let mut m: u8 = 1;
+    if f.kind != 0 {
+        m = 3;
+    }
+    let mut i: u8 = 0;
+    while i < m {
+        let n = compare(work, f, g, i);
+        if n > 0 {
+            clear(buffer, 3 * table.len());
+            eliminate(table, work, n, buffer);
+            return Decision::Differs;
+        }
+        i += 1;
+    }
+    Decision::Holds
+}
+
+// Whether two forms are equal under every assignment, or one under which they differ, in the buffer.
+// Refused with 1 for the table, 2 for short memory, 11 for either form, then 5 or 6 for letters, 6 for unlike kinds.
+pub fn decide(
+    table: &[u8],
+    first: &[u8],
+    second: &[u8],
+    buffer: &mut [u8],
+    work: &mut [u8],
+) -> Decision
+    ensures { λ r. ⌜ Decided (now (table .entry)) (now (first .entry)) (now (second .entry)) (now (buffer .entry)) (now (work .entry)) (decisionOf r) (now (buffer .exit)) (now (work .exit)) ⌝ }
+{
+    let n = check_table(table);
+    if n != 0 {
+        return Decision::Refused(n);
+    }
+    if buffer.len() < 72 {
+        return Decision::Refused(2);
+    }
+    if work.len() < 55296 {
+        return Decision::Refused(2);
+    }
+    let a = read_whole(first);
+    let p = a.refusal;
+    if p != 0 {
+        return Decision::Refused(p);
+    }
+    let b = read_whole(second);
+    let q = b.refusal;
+    if q != 0 {
+        return Decision::Refused(q);
+    }
+    let f = a.form;
+    let g = b.form;
+    let c = test_terms(table, f);
+    if c != 0 {
+        return Decision::Refused(c);
+    }
+    let d = test_terms(table, g);
+    if d != 0 {
+        return Decision::Refused(d);
+    }
+    if f.kind != g.kind {
+        return Decision::Refused(6);
+    }
+    settle(table, f, g, buffer, work)
+}
