@@ -86,7 +86,7 @@ fn comes_behind(t: Term, u: Term) -> bool
 }
 
 // Whether two terms are like.
-fn are_like(t: Term, u: Term) -> bool
+pub fn are_like(t: Term, u: Term) -> bool
     requires { ⌜ Counted t × Counted u ⌝ }
     ensures { λ r. ⌜ r ≡ isLike (termOf t) (termOf u) ⌝ }
 {

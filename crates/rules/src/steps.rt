@@ -42,7 +42,7 @@ pub fn rule_letters(rule: u8) -> usize
 }
 
 // The kind of a rule's sides: 0 scalar, 1 vector.
-fn rule_kind(rule: u8) -> u8
+pub fn rule_kind(rule: u8) -> u8
     ensures { λ r. ⌜ r ≡ ruleKind rule ⌝ }
 {
     match rule {

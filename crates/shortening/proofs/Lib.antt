@@ -1,0 +1,5 @@
+-- Lemmas that belong to no one function.
+pub mod Masks
+pub mod Pools
+pub mod Openings
+pub mod Picks

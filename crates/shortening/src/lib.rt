@@ -1,0 +1,2 @@
+// Shortening.
+pub mod choosing;
