@@ -1,0 +1,215 @@
+// Runs cases of the decision from standard input. A case is the length of a table (one byte), the table, the length of a form's record (two bytes), the record,
+// the same for the second form, how many bytes of the buffer are lent (one byte) and how many of the work memory (two bytes).
+// For each it writes a line: holds, differs, or R and the number of the refusal; behind it what is wrong with the memory lent or the assignment, if anything is.
+ghost use Prim.Native.Nat.{_+_, _*_, _<_, _≤_};
+ghost use lib.ListN.{length};
+use case_lines::byte_at;
+use case_lines::print_character;
+use case_lines::print_refusal;
+use decision::Decision;
+use decision::decide;
+use evaluation::Valued;
+use evaluation::value;
+use evaluation::vectors::Vector;
+
+// What every byte lent is before a call: no number of an assignment.
+const FILLING: u8 = 170;
+
+// Fills the bytes.
+fn fill(s: &mut [u8]) {
+    let mut i: usize = 0;
+    while i < s.len() {
+        s[i] = FILLING;
+        i += 1;
+    }
+}
+
+// Whether the bytes are as they were before.
+fn stands(s: &[u8]) -> bool {
+    let mut i: usize = 0;
+    while i < s.len() {
+        if s[i] != FILLING {
+            return false;
+        }
+        i += 1;
+    }
+    true
+}
+
+// Whether the three numbers of a letter are from 0 to 6, of a scalar letter from 0 to 2 and two zeros.
+fn letter_in_range(kind: u8, x: u8, y: u8, z: u8) -> bool {
+    if kind == 0 {
+        return x <= 2 && y == 0 && z == 0;
+    }
+    x <= 6 && y <= 6 && z <= 6
+}
+
+// Whether the numbers of every letter are in range.
+fn in_range(table: &[u8], s: &[u8]) -> bool
+    requires { ⌜ 3 * length (now table) ≤ length (now s) ⌝ }
+{
+    let mut n: usize = 0;
+    while n < table.len() {
+        let i = 3 * n;
+        if !letter_in_range(table[n], s[i], s[i + 1], s[i + 2]) {
+            return false;
+        }
+        n += 1;
+    }
+    true
+}
+
+// Whether two vectors are unequal.
+fn unequal(v: Vector, w: Vector) -> bool {
+    if v.x != w.x {
+        return true;
+    }
+    if v.y != w.y {
+        return true;
+    }
+    v.z != w.z
+}
+
+// Whether the value call gives different values of two forms.
+fn apart(table: &[u8], first: &[u8], second: &[u8], assignment: &[u8]) -> bool {
+    let a = value(table, first, assignment);
+    let Valued::Given(v) = a else {
+        return false;
+    };
+    let b = value(table, second, assignment);
+    let Valued::Given(w) = b else {
+        return false;
+    };
+    unequal(v, w)
+}
+
+// The word for memory that was changed.
+fn print_standing(s: &[u8]) {
+    if !stands(s) {
+        io::write_all(1, b" changed");
+    }
+}
+
+// The words for an assignment that is out of range or does not tell two forms apart.
+fn print_faults(table: &[u8], first: &[u8], second: &[u8], assignment: &[u8])
+    requires { ⌜ 3 * length (now table) ≤ length (now assignment) ⌝ }
+{
+    if !in_range(table, assignment) {
+        io::write_all(1, b" out-of-range");
+    }
+    if !apart(table, first, second, assignment) {
+        io::write_all(1, b" not-apart");
+    }
+}
+
+// Two forms that differ, with the assignment that was handed over.
+fn print_differing(table: &[u8], first: &[u8], second: &[u8], buffer: &[u8]) {
+    io::write_all(1, b"differs");
+    let n = table.len();
+    let len = buffer.len();
+    if n > 24 {
+        io::write_all(1, b" table");
+        return;
+    }
+    if len < 72 {
+        io::write_all(1, b" buffer");
+        return;
+    }
+    let m = 3 * n;
+    print_standing(&buffer[m..]);
+    print_faults(table, first, second, &buffer[..m]);
+}
+
+// The line of a case.
+fn print_case(table: &[u8], first: &[u8], second: &[u8], buffer: &mut [u8], work: &mut [u8]) {
+    fill(buffer);
+    fill(work);
+    let d = decide(table, first, second, buffer, work);
+    match d {
+        Decision::Holds => {
+            io::write_all(1, b"holds");
+            print_standing(buffer);
+        }
+        Decision::Differs => print_differing(table, first, second, buffer),
+        Decision::Refused(n) => {
+            print_refusal(n);
+            print_standing(buffer);
+            print_standing(work);
+        }
+    }
+    print_character(b'\n');
+}
+
+// The line of a case, with the first bytes of the buffer and of the work memory lent.
+fn print_lent(
+    table: &[u8],
+    first: &[u8],
+    second: &[u8],
+    buffer: &mut [u8],
+    p: usize,
+    work: &mut [u8],
+    q: usize,
+)
+    requires { ⌜ (p ≤ length (now buffer)) × (q ≤ length (now work)) ⌝ }
+{
+    print_case(table, first, second, &mut buffer[..p], &mut work[..q]);
+}
+
+// Two bytes as a number.
+fn two_bytes_at(s: &[u8], i: usize) -> usize
+    requires { ⌜ i + 1 < length (now s) ⌝ }
+    ensures { λ r. ⌜ r < 65536 ⌝ }
+{
+    byte_at(s, i) * 256 + byte_at(s, i + 1)
+}
+
+// The case at a position, and the position behind it; the end where a case is cut off or asks for more memory than there is.
+fn case_at(s: &[u8], at: usize, buffer: &mut [u8], work: &mut [u8]) -> usize
+    requires { ⌜ at < length (now s) ⌝ }
+    ensures { λ r. ⌜ at < r ⌝ }
+{
+    let len = s.len();
+    let t = byte_at(s, at);
+    if len - at - 1 < t + 2 {
+        return len;
+    }
+    let k = at + 1 + t;
+    let m = two_bytes_at(s, k);
+    let b = k + 2;
+    if len - b < m + 2 {
+        return len;
+    }
+    let j = b + m;
+    let n = two_bytes_at(s, j);
+    let c = j + 2;
+    if len - c < n + 3 {
+        return len;
+    }
+    let e = c + n;
+    let p = byte_at(s, e);
+    let q = two_bytes_at(s, e + 1);
+    if buffer.len() < p {
+        return len;
+    }
+    if work.len() < q {
+        return len;
+    }
+    print_lent(&s[at + 1..k], &s[b..j], &s[c..e], buffer, p, work, q);
+    e + 3
+}
+
+// All cases.
+fn run(s: &[u8], buffer: &mut [u8], work: &mut [u8]) {
+    let mut at: usize = 0;
+    while at < s.len() {
+        at = case_at(s, at, buffer, work);
+    }
+}
+
+fn main() {
+    let mut buf = io::large_buffer();
+    let mut buffer = [0u8; 256];
+    let mut work = io::large_buffer();
+    let n = io::read_full(0, &mut buf);
+    run(&buf[..n], &mut buffer, &mut work);
+}
