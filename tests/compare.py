@@ -1,8 +1,9 @@
 #!/usr/bin/env python3
-"""The calls for C on random and damaged inputs, against the unrelated programs value_cases.py, reduction_cases.py and check_cases.py.
+"""The calls for C on random and damaged inputs, against the unrelated programs value_cases.py, reduction_cases.py, check_cases.py and decision_cases.py.
 
 compare.py [COUNT [SEED]]: COUNT inputs for each call (10000). What is returned and all memory, lent or around what is lent, is compared.
-A form that is given is handed on to the value call, whose numbers must be those of the expression by components.
+A form that is given is handed on to the value call, whose numbers must be those of the expression by components. An assignment that is handed over
+must be in its range, and tell the two forms apart by the unrelated program and by the value call.
 """
 import collections
 import ctypes
@@ -12,6 +13,7 @@ import subprocess
 import sys
 
 import check_cases as logs
+import decision_cases as decisions
 import reduction_cases as expressions
 import value_cases as forms
 
@@ -26,7 +28,7 @@ def load():
     subprocess.run(["rt", "staticlib", "exports"], cwd=HOME, check=True, stdout=subprocess.DEVNULL, stderr=subprocess.DEVNULL)
     subprocess.run(["gcc", "-shared", "-o", shared, "-Wl,--whole-archive", made, "-Wl,--no-whole-archive"], check=True)
     library = ctypes.CDLL(str(shared))
-    for call in (library.kalzunbi_value, library.kalzunbi_reduce, library.kalzunbi_check):
+    for call in (library.kalzunbi_value, library.kalzunbi_reduce, library.kalzunbi_check, library.kalzunbi_decide):
         call.restype = ctypes.c_int64
     return library
 
@@ -36,23 +38,26 @@ class Lent:
 
     def __init__(self, element, elements):
         known = [element(7 * i + 1).value for i in range(2 * MARGIN)]
-        self.size = ctypes.sizeof(element)
-        self.length = len(elements)
+        self.element = element
+        self.start, self.length = MARGIN * ctypes.sizeof(element), len(elements)
         self.memory = (element * (len(elements) + 2 * MARGIN))(*known[:MARGIN], *elements, *known[MARGIN:])
-        self.before = list(self.memory)
+        self.before = bytes(self.memory)
 
     def passed(self):
-        return ctypes.byref(self.memory, MARGIN * self.size), ctypes.c_size_t(self.length)
+        return ctypes.byref(self.memory, self.start), ctypes.c_size_t(self.length)
+
+    def first(self, count):
+        return self.memory[MARGIN:MARGIN + count]
 
     def stands_but_for(self, elements=()):
-        end = MARGIN + len(elements)
-        return list(self.memory) == self.before[:MARGIN] + list(elements) + self.before[end:]
+        written = bytes((self.element * len(elements))(*elements))
+        return bytes(self.memory) == self.before[:self.start] + written + self.before[self.start + len(written):]
 
 
-def call(function, sources, target):
+def call(function, sources, *targets):
     """What is returned; the sources must stand."""
     lent = [Lent(ctypes.c_uint8, s) for s in sources]
-    returned = function(*(x for l in lent + [target] for x in l.passed()))
+    returned = function(*(x for l in (*lent, *targets) for x in l.passed()))
     return returned if all(l.stands_but_for() for l in lent) else None
 
 
@@ -122,6 +127,15 @@ def log_inputs(chance):
         yield any_table(chance, table), data, chance.choice((3, 3, 3, 3, 4, 9, chance.randrange(4)))
 
 
+def pair_inputs(chance):
+    while True:
+        made = chance.choice((decisions.random_pair, decisions.random_pair, decisions.damaged_pair))
+        table, *pair = made(chance, *chance.choices(((3, 4), (12, 8), (48, 6), (2, 30)), (12, 4, 2, 1))[0])
+        pair = [chance.choices((x, damaged(chance, x), any_bytes(chance, 40)), (30, 3, 1))[0] for x in pair]
+        work = chance.choice((55296, 55296, 55296, 55297, 55400)) if chance.randrange(20) else chance.randrange(55296)
+        yield any_table(chance, table), *pair, chance.choice((72, 72, 72, 73, 100)) if chance.randrange(20) else chance.randrange(72), work
+
+
 # ════ comparing
 
 def bad_table(table):
@@ -163,13 +177,43 @@ def compare_check(function, table, data, lent):
     return returned == 0 and target.stands_but_for(answer[1:]), "accepted"
 
 
+def in_range(table, numbers):
+    """Each number 0 to 6, of a scalar letter 0 to 2 and two zeros."""
+    most = [m for kind in table for m in ((6, 6, 6) if kind else (2, 0, 0))]
+    return all(n <= m for n, m in zip(numbers, most, strict=True))
+
+
+def compare_decide(functions, table, first, second, lent, work):
+    buffer, memory = Lent(ctypes.c_uint8, [0xC3] * lent), Lent(ctypes.c_uint8, [0x3C] * work)
+    returned = call(functions.kalzunbi_decide, (table, first, second), buffer, memory)
+    answer = decisions.answer(table, first, second, lent, work)
+    if answer[0] == "R":
+        return returned == -int(answer[1:]) and buffer.stands_but_for() and memory.stands_but_for(), answer
+    around = memory.stands_but_for(memory.first(work))
+    if answer == decisions.HOLDS:
+        return returned == 0 and buffer.stands_but_for() and around, answer
+    numbers = buffer.first(3 * len(table))
+    if not (returned == 1 and buffer.stands_but_for(numbers) and around and in_range(table, numbers)):
+        return False, answer
+    values = []
+    for data in (first, second):
+        target = Lent(ctypes.c_int64, [0] * 3)
+        vectors = [tuple(numbers[i:i + 3]) for i in range(0, len(numbers), 3)]
+        given = call(functions.kalzunbi_value, (table, data, bytes(numbers)), target) == 0
+        values.append(target.first(3))
+        if not given or values[-1] != forms.evaluate(forms.read(data)[1], vectors):
+            return False, answer
+    return values[0] != values[1], answer
+
+
 def main():
     count, seed = (int(x) for x in (sys.argv[1:] + ["10000", "1"][len(sys.argv) - 1:])[:2])
     library, chance, differences = load(), random.Random(seed), 0
     for name, inputs, compare in (
             ("value", form_inputs(chance), lambda *x: compare_value(library.kalzunbi_value, *x)),
             ("reduce", expression_inputs(chance), lambda *x: compare_reduce(library, chance, *x)),
-            ("check", log_inputs(chance), lambda *x: compare_check(library.kalzunbi_check, *x))):
+            ("check", log_inputs(chance), lambda *x: compare_check(library.kalzunbi_check, *x)),
+            ("decide", pair_inputs(chance), lambda *x: compare_decide(library, *x))):
         answers = collections.Counter()
         for _ in range(count):
             case = next(inputs)
@@ -179,7 +223,7 @@ def main():
                 differences += 1
                 print(name, *(x.hex() if isinstance(x, bytes) else x for x in case), "expected", answer)
         print(f"{name}: {count} cases, " + ", ".join(f"{n} {a}" for a, n in sorted(answers.items(), key=lambda x: (len(x[0]), x[0]))))
-    print(f"{3 * count} cases, {differences} differences")
+    print(f"{4 * count} cases, {differences} differences")
     sys.exit(differences > 0)
 
 
