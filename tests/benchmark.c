@@ -1,7 +1,8 @@
 /* Nanoseconds a call, through the calls for C: one line for each measure of tests/benchmark.gp, in its order, then the check of logs, which it has not.
- * The logs are in logs.h, which tests/check_cases.py --header prints. */
+ * The logs are in logs.h, which tests/check_cases.py --header prints, the forms to decide in forms.h, which tests/decision_cases.py --header prints. */
 #define _POSIX_C_SOURCE 199309L
 #include "kalzunbi.h"
+#include "forms.h"
 #include "logs.h"
 
 #include <stdio.h>
@@ -10,6 +11,7 @@
 
 /* a to l are vectors, m to x scalars */
 static uint8_t table[24], assignment[72], form[KALZUNBI_FORM], out[KALZUNBI_FORM];
+static uint8_t buffer[KALZUNBI_ASSIGNMENT], work[KALZUNBI_WORK];
 static int64_t values[KALZUNBI_VALUES];
 
 static double now(void)
@@ -45,6 +47,16 @@ static void measure_check(const char *what, const uint8_t *letters, size_t lette
     for (int i = 0; i < count; i++)
         returned = kalzunbi_check(letters, letters_length, log, log_length, places, 3);
     report(what, returned, 0, since, count);
+}
+
+static void measure_decision(const char *what, const uint8_t *first, size_t first_length, const uint8_t *second, size_t second_length, int64_t expected,
+                             int count)
+{
+    int64_t returned = 0;
+    double since = now();
+    for (int i = 0; i < count; i++)
+        returned = kalzunbi_decide(decision_table, sizeof decision_table, first, first_length, second, second_length, buffer, sizeof buffer, work, sizeof work);
+    report(what, returned, expected, since, count);
 }
 
 /* the sum of so many letters, from the first on, each added to the sum of those before */
@@ -99,6 +111,12 @@ int main(void)
     length += sum(product + length, 12, 6);
     length += sum(product + length, 0, 8);
     measure_reduction("reduction of 6 scalar letters times 8 vector letters", product, length, 194, 10000);
+
+    measure_decision("decision of rule 5's two sides: equal", rule_5_first, sizeof rule_5_first, rule_5_second, sizeof rule_5_second, 0, 100000);
+    measure_decision("decision of two forms of 48 terms: equal", equal_first, sizeof equal_first, equal_second, sizeof equal_second, 0, 1000);
+    measure_decision("decision of two forms of 48 terms: they differ", other_first, sizeof other_first, other_second, sizeof other_second, 1, 1000);
+    measure_decision("decision of a form of 48 terms that is 0: equal", zero_first, sizeof zero_first, zero_second, sizeof zero_second, 0, 1000);
+    measure_decision("decision of two vector forms of 48 terms: equal", vectors_first, sizeof vectors_first, vectors_second, sizeof vectors_second, 0, 1000);
 
     measure_check("check of a log of 8 steps, from 19 terms to 6", eight_table, sizeof eight_table, eight_log, sizeof eight_log, 10000);
     measure_check("check of the longest log, 64 steps at 44 to 48 terms", longest_table, sizeof longest_table, longest_log, sizeof longest_log, 1000);

@@ -15,3 +15,12 @@ x = vector(8, i, vector(3, k, eval(Str("v", i, "_", k))));
 s = vector(6, i, eval(Str("s", i)));
 measure(() -> wedge(x[1], wedge(x[2], x[3])), 100000);
 measure(() -> vecsum(s) * sum(i = 1, 8, x[i]), 10000);
+
+\\ the forms to decide, which tests/decision_cases.py --gp prints, compared as polynomials in components
+triple(a, b, c) = dot(wedge(a, b), c);
+read("target/forms.gp");
+measure(rule_5, 1000);
+measure(equal, 10);
+measure(other, 10);
+measure(zero, 10);
+measure(vectors, 10);
