@@ -217,7 +217,7 @@ def full_forms():
     # every coefficient at the limit
     large = forms.record(0, [(LIMIT, factors, part) for _, factors, part in forms.read(zero_triples())[1]])
     yield FULL_TABLE, large, negated(large), DIFFERS
-    # letters 12 to 23
+    # letters 13 to 23
     table = bytes([0, 1] * 12)
     yield table, *(high_letters(x, table) for x in equal_vectors()), HOLDS
     # the ends of logs
@@ -263,7 +263,8 @@ def lines_to_prove():
                     yield TABLE, total_of(kind, other), NOTHING[kind], DIFFERS
     for m in (times(letter(6), letter(7)), dotted(letter(4), letter(5)), constant(-9)):
         for kind, summands in starred(*map(letter, range(4))):
-            if len(summands) > 1 and not (m[0] == dotted(b"")[0] and kind == 0 and len(summands) == 2):  # that one has six vector letters
+            six_letters = (kind, len(summands)) == (0, 2)
+            if len(summands) > 1 and not (six_letters and m[0] == expressions.DOT):
                 yield TABLE, form_of(times(m, summands[0])), form_of(neg(times(m, total(summands[1:])))), HOLDS
 
 
