@@ -6,20 +6,19 @@ use mathlib.Core.List.{List, [], _∷_, map}
 use Prim.Native.Nat.{ℕ, zero, suc, _+_, _-_, _*_, _/_, _%_, _≤_, _<_}
 use native.Mathlib.Numerals.{add-one}
 use native.Mathlib.Omega.{arith}
-use lib.Dec.{ltb, eqb}
-use borrow.Author.Tests.{eq-eqb, ne-eqb, eqb-true, ltb-true, lt-ltb}
+use lib.Dec.{eqb}
+use borrow.Author.Tests.{eq-eqb, ne-eqb, lt-ltb}
 use lib.IntN.{ℤ, pos, _+ℤ_, _*ℤ_}
 use lib.IntN as I
 use lib.ListN.{length}
 use Rattle.algebra.specs.Integers as R
 use Rattle.algebra.specs.Normaliser.{var, _⊗_, solve, normalising}
-use Rattle.specification.specs.Results.{given, require, if_then_else_}
+use Rattle.specification.specs.Results.{if_then_else_}
 use Rattle.specification.specs.Lists.{joined}
-use Rattle.specification.specs.Letters.{scalar, vector, kindOf, testLetter}
-use Rattle.theory.specs.Tests.{required, is-true}
+use Rattle.specification.specs.Letters.{scalar, vector, kindOf}
 use Rattle.theory.specs.Elements.{All, all-append}
 use Rattle.theory.specs.Shape.Terms.{OneToThree}
-use Rattle.theory.specs.Shape.Letters.{Known, FactorKnown}
+use Rattle.theory.specs.Shape.Letters.{Known, FactorKnown, known-is}
 use Rattle.decision.specs.declared.expansion.Piece.{Piece}
 use Rattle.decision.specs.declared.expansion.Block.the-variants.{Zero, One}
 use Rattle.decision.specs.Keys.{digitValue, keyValue, timesDigit, Ordered, tally}
@@ -27,7 +26,6 @@ use Rattle.decision.specs.Monomials.{Monomial, weigh, total}
 use Rattle.decision.specs.Memory.{tabulated}
 use Rattle.decision.specs.Expansion.{digitOf, signOf, plus, crossPiece, pieceAt, countOf, pieces, blockOf, partBlock, timesPiece, timesPieces}
 use Rattle.decision.specs.Elimination.{vectorDigit, scalarDigit, strangeDigit, Has}
-use Rattle.decision.specs.Values.{variables}
 use Rattle.decision.proofs.Keys.{times-value, times-ordered, times-tally, from-tally}
 use Rattle.decision.proofs.Monomials.{weigh-append}
 
@@ -170,16 +168,6 @@ module _ (table : List ℕ) where
 
   -- ════ polynomials of known letters
 
-  pub known : (kind l : ℕ) → Known table kind l → (l < length table) × (kindOf table l ≡ kind)
-  unfolding testLetter
-  known kind l e =
-      let w = required (ltb l (length table)) 5 (require (eqb (kindOf table l) kind) 6) tt e in
-      (ltb-true l (length table) (is-true (ltb l (length table)) (w .0)), go (eqb (kindOf table l) kind) refl (w .1))
-    where
-      go : (b : Bool) → eqb (kindOf table l) kind ≡ b → require b 6 ≡ given tt → kindOf table l ≡ kind
-      go true q z = eqb-true (kindOf table l) kind q
-      go false q z = absurd (let t : _≡_ {A = ℕ} 0 1 = cc in omega arith)
-
   -- a digit of a known letter
   module _ (short : length table ≤ 24) where
     pub record Digit (v s d : ℕ) : Type 0 where
@@ -191,7 +179,7 @@ module _ (table : List ℕ) where
     vector-digit : (l i : ℕ) → Known table vector l → i < 3 → Digit 1 0 (digitOf l i)
     unfolding strangeDigit vectorDigit scalarDigit
     vector-digit l i k h =
-        let w = known vector l k in
+        let w = known-is table vector l k in
         let x = 3 * l + i in
         let e : 3 * l + i + 1 ≡ suc x = add-one x in
         let q : x / 3 ≡ l = omega arith in
@@ -206,7 +194,7 @@ module _ (table : List ℕ) where
     scalar-digit : (l : ℕ) → Known table scalar l → Digit 0 1 (digitOf l 0)
     unfolding strangeDigit vectorDigit scalarDigit
     scalar-digit l k =
-        let w = known scalar l k in
+        let w = known-is table scalar l k in
         let x = 3 * l + 0 in
         let e : 3 * l + 0 + 1 ≡ suc x = add-one x in
         let q : x / 3 ≡ l = omega arith in

@@ -1,19 +1,16 @@
 -- The decision from its tests, in their order. Assumes nothing.
 use mathlib.Core.Path.{_≡_, refl, sym, _∙_, subst}
-use mathlib.Core.Bool.{Bool, true, false, _&&_}
 use mathlib.Core.List.{List}
 use Prim.Native.Nat.{ℕ, _≤_, _<_}
-use lib.Dec.{T, leb, leb→le}
 use lib.ListN.{length}
 use borrow.Author.Tests.{eq-eqb, ne-eqb, le-leb, lt-leb}
-use Rattle.specification.specs.Results.{Result, refused, given, Test, require}
-use Rattle.specification.specs.Lists.{all}
-use Rattle.specification.specs.Letters.{isKind, goodTable, testTable}
+use Rattle.specification.specs.Results.{Result, refused, given, Test}
+use Rattle.specification.specs.Letters.{testTable}
 use Rattle.specification.specs.Terms as S
 use Rattle.specification.specs.Records.{readForm, testTerms}
 use Rattle.specification.specs.Decision.{undecided, takeTwoForms, decideTested, DecidedBy}
 use Rattle.specification.specs.Decision as D
-use Rattle.theory.specs.Tests.{and-split, refused≢given}
+use Rattle.theory.specs.Shape.Letters.{table-good, good-short}
 use Rattle.terms.specs.declared.types.Form.{Form}
 use Rattle.terms.specs.Abstraction.{formOf}
 use Rattle.records.specs.declared.take.Taken.{Taken}
@@ -44,21 +41,6 @@ form-refused r f e z = sym e ∙ rw (ne-eqb (r .refusal) 0 z)
 refused-so : (r : Result (S.Form × S.Form)) (n : ℕ) (table b w : List ℕ) → r ≡ refused n → DecidedBy r table b w (undecided n) b w
 unfolding DecidedBy
 refused-so r n table b w e = subst (λ (x : Result (S.Form × S.Form)). DecidedBy x table b w (undecided n) b w) (sym e) (refl, record { bufferStands = refl; workStands = refl })
-
--- a good table is short
-good-short : (table : List ℕ) → testTable table ≡ given tt → length table ≤ 24
-unfolding testTable goodTable
-good-short table e = go (goodTable table) e (λ t. short t)
-  where
-    short : T (goodTable table) → length table ≤ 24
-    short t =
-        let p = leb 1 (length table) in
-        let q = leb (length table) 24 in
-        leb→le (length table) 24 (and-split p q (and-split (p && q) (all isKind table) t .0) .1)
-
-    go : (b : Bool) → require b 1 ≡ given tt → (T b → length table ≤ 24) → length table ≤ 24
-    go true p f = f tt
-    go false p f = absurd (refused≢given p)
 
 module _ (table s t b w : List ℕ) (n : ℕ) (e : testOf n ≡ testTable table) where
   pub table-refused : ¬ (n ≡ 0) → DecidedBy (decideTested table s t b w) table b w (undecided n) b w
@@ -127,7 +109,7 @@ module _ (table s t b w : List ℕ) (n : ℕ) (e : testOf n ≡ testTable table)
                     pub settle-asks : Decidable table (p .form) (q .form) b w
                     settle-asks =
                         record {
-                          letters = good-short table table-passed;
+                          letters = good-short table (table-good table table-passed);
                           room = lb;
                           workRoom = lw;
                           validFirst = ep .valid zp;

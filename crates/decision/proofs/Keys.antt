@@ -11,7 +11,7 @@ use borrow.Author.Tests.{eq-eqb, ne-eqb, eqb-true, eqb-false, lt-leb, leb-true, 
 use lib.IntN.{ℤ, pos, _*ℤ_}
 use Rattle.algebra.specs.Integers as R
 use Rattle.specification.specs.Results.{if_then_else_}
-use Rattle.decision.specs.Keys.{digitValue, keyValue, placed, timesDigit, goes, rest, exponent, lowest, From, Ordered, tally}
+use Rattle.decision.specs.Keys.{digitValue, keyValue, placed, timesDigit, goes, rest, exponent, From, Ordered, tally}
 
 -- ════ digits
 

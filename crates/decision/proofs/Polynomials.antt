@@ -14,7 +14,6 @@ use Rattle.algebra.specs.Integers as R
 use Rattle.algebra.specs.Normaliser.{Ex, var, lit, _⊕_, _⊖_, _⊗_, solve, normalising}
 use Rattle.specification.specs.Results.{if_then_else_}
 use Rattle.specification.specs.Lists.{joined}
-use Rattle.specification.specs.Letters.{vector}
 use Rattle.specification.specs.Values.{Vec, scalarValue, dot, triple, _•_, _+v_}
 use Rattle.specification.specs.Terms as S
 use Rattle.specification.specs.Terms.{vectorLettersOf, scalarLettersOf}

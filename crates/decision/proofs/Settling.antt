@@ -21,11 +21,10 @@ use Rattle.specification.specs.Values.{Vec, scalarValue, _•_, _+v_}
 use Rattle.specification.specs.Terms as S
 use Rattle.specification.specs.Evaluation.{signedByte, assignment, partValue, termValue, termsValue, value, factorsValue}
 use Rattle.specification.specs.Decision.{letterInRange, Holds, Differs}
-use Rattle.theory.specs.Tests.{and-both}
-use Rattle.theory.specs.Elements.{All, all-T, T-all}
+use Rattle.theory.specs.Elements.{All, all-T, T-all, T-each}
 use Rattle.theory.specs.Values.Vectors.{by-components}
 use Rattle.theory.specs.Shape.Terms.{term-opens, kindOfPart}
-use Rattle.theory.specs.Shape.Letters.{Known, FactorKnown, AllKnown, terms-known}
+use Rattle.theory.specs.Shape.Letters.{Known, FactorKnown, AllKnown, known-is, terms-known}
 use Rattle.terms.specs.declared.types.Form.{Form}
 use Rattle.terms.specs.Abstraction.{formOf}
 use Rattle.decision.specs.Monomials.{Monomial, weigh, total, isSome}
@@ -35,17 +34,12 @@ use Rattle.decision.specs.Elimination.{limitOf, Eliminable, Eliminated}
 use Rattle.decision.specs.Values.{component, variables}
 use Rattle.decision.specs.Answers.{Decidable}
 use Rattle.decision.proofs.Bytes.{length-monomials}
-use Rattle.decision.proofs.Contents.{known, AllHas}
+use Rattle.decision.proofs.Contents.{AllHas}
 use Rattle.decision.proofs.Polynomials.{Sound, difference-value}
 use Rattle.decision.proofs.Differences.{few-all, all-modest}
 use Rattle.decision.proofs.Gathered.{gathered-value, gathered-polynomial}
 
 -- ════ assignments in bytes
-
-each-T : (n : ℕ) (f : ℕ → Bool) → ((j : ℕ) → j < n → T (f j)) → T (each n f)
-unfolding each
-each-T zero f h = tt
-each-T (suc n) f h = and-both (each n f) (f n) (each-T n f (λ j l. h j (omega arith))) (h n (N.le-refl (suc n)))
 
 limit-six : (table : List ℕ) (x : ℕ) → limitOf table x ≤ 6
 unfolding limitOf
@@ -81,7 +75,7 @@ letter-in-range table b n p q r = go (eqb (kindOf table n) scalar) refl
         rw (le-leb (getD b (3 * n) 0) 6 (omega (arith, p, limit-six table (3 * n))), le-leb (getD b (3 * n + 1) 0) 6 (omega (arith, q, limit-six table (3 * n + 1))), le-leb (getD b (3 * n + 2) 0) 6 (omega (arith, r, limit-six table (3 * n + 2)))) tt
 
 in-range : (table b : List ℕ) → ((x : ℕ) → x < 3 * length table → getD b x 0 ≤ limitOf table x) → T (each (length table) (letterInRange table b))
-in-range table b h = each-T (length table) (letterInRange table b) (λ n l. letter n l)
+in-range table b h = T-each (letterInRange table b) (length table) letter
   where
     letter : (n : ℕ) → n < length table → T (letterInRange table b n)
     letter n l = letter-in-range table b n (h (3 * n) (omega arith)) (h (3 * n + 1) (omega arith)) (h (3 * n + 2) (omega arith))
@@ -149,7 +143,7 @@ some-left (suc k) (m ∷ l) p q = refl
 module _ (table : List ℕ) (f g : Form) (buffer work : List ℕ) (w : Decidable table f g buffer work) where
   letters-below : (kind : ℕ) (ls : List ℕ) → All (Known table kind) ls → Below ls
   letters-below kind [] k = tt
-  letters-below kind (l ∷ ls) k = (N.le-trans (known table kind l (k .0) .0) (w .letters), letters-below kind ls (k .1))
+  letters-below kind (l ∷ ls) k = (N.le-trans (known-is table kind l (k .0) .0) (w .letters), letters-below kind ls (k .1))
 
   factors-below : (fs : List (List ℕ)) → All (FactorKnown table) fs → All Below fs
   factors-below [] k = tt

@@ -1,18 +1,27 @@
 -- What the decision says of two forms that it takes: it holds exactly where they are equal under every assignment of integers,
--- and where it differs the bytes handed over are an assignment in range that tells them apart. Assumes nothing.
+-- and where it differs the bytes handed over are an assignment in range that tells them apart; the value call, given those bytes,
+-- gives different numbers for the two. Assumes nothing.
 use mathlib.Core.Path.{_≡_, refl, subst}
+use mathlib.Core.Bool.{_&&_}
 use mathlib.Core.List.{List}
-use Prim.Native.Nat.{ℕ}
-use lib.Dec.{T}
-use lib.ListN.{length}
-use Rattle.specification.specs.Results.{given}
+use Prim.Native.Nat.{ℕ, _*_, _≤_}
+use native.Mathlib.Omega.{arith}
+use lib.Dec.{T, leb, eqb, leb→le}
+use lib.ListN.{length, take}
+use Rattle.specification.specs.Results.{Result, refused, given}
 use Rattle.specification.specs.Lists.{each}
+use Rattle.specification.specs.Letters.{testTable}
 use Rattle.specification.specs.Values.{Vec}
 use Rattle.specification.specs.Terms.{Form}
-use Rattle.specification.specs.Evaluation.{value, assignment}
-use Rattle.specification.specs.Decision.{decideTested, letterInRange, DecidedBy, Decided}
+use Rattle.specification.specs.Records.{readForm, testTerms, takeForm}
+use Rattle.specification.specs.Evaluation.{value, assignment, valueCall}
+use Rattle.specification.specs.Decision.{takeTwoForms, decideTested, letterInRange, DecidedBy, Decided}
 use Rattle.specification.specs.Decision as D
+use Rattle.theory.specs.Tests.{and-split, given-same, required, tested, past, into}
+use Rattle.theory.specs.Shape.Letters.{table-good, good-short}
+use Rattle.theory.specs.Values.Assignments.{value-given}
 
+-- equal forms are said to hold
 equal-said : (table : List ℕ) (f g : Form) (buffer work buffer′ work′ : List ℕ) → ((σ : ℕ → Vec) → value σ f ≡ value σ g)
     → (a : D.Decision) → DecidedBy (given (f, g)) table buffer work a buffer′ work′ → a ≡ D.holds
 unfolding DecidedBy
@@ -40,3 +49,62 @@ module _ (table s t buffer work : List ℕ) (answer : D.Decision) (buffer′ wor
   pub differs-apart : answer ≡ D.differs → T (each (length table) (letterInRange table buffer′)) × ¬ (value (assignment buffer′) f ≡ value (assignment buffer′) g)
   unfolding DecidedBy
   differs-apart e = let w = subst (λ (a : D.Decision). DecidedBy (given (f, g)) table buffer work a buffer′ work′) e said in (w .inRange, w .unequal)
+
+-- ════ at the calls
+
+-- the decision took the table, the buffer and the two forms
+record BothTaken (table s t buffer : List ℕ) (forms : Form × Form) : Type 0 where
+  tableTested : testTable table ≡ given tt
+  room : 72 ≤ length buffer
+  firstTaken : takeForm table s ≡ given (forms .0)
+  secondTaken : takeForm table t ≡ given (forms .1)
+  firstLetters : testTerms table (forms .0 .terms) ≡ given tt
+  secondLetters : testTerms table (forms .1 .terms) ≡ given tt
+
+both-taken : (table s t buffer work : List ℕ) (forms : Form × Form) → decideTested table s t buffer work ≡ given forms → BothTaken table s t buffer forms
+unfolding decideTested takeTwoForms takeForm
+both-taken table s t buffer work forms e =
+    let first = tested (testTable table) _ forms e in
+    past (leb 72 (length buffer) && leb 55296 (length work)) 2 _ forms (first .1) (λ rooms e₁.
+    into (readForm s) _ forms e₁ (λ f f-read e₂.
+    into (readForm t) _ forms e₂ (λ g g-read e₃.
+    let f-tested = tested (testTerms table (f .terms)) _ forms e₃ in
+    let g-tested = tested (testTerms table (g .terms)) _ forms (f-tested .1) in
+    let kinds = required (eqb (f .kind) (g .kind)) 6 (given (f, g)) forms (g-tested .1) in
+    subst (BothTaken table s t buffer) (given-same (kinds .1))
+    (record {
+      tableTested = first .0;
+      room = leb→le 72 (length buffer) (and-split (leb 72 (length buffer)) (leb 55296 (length work)) rooms .0);
+      firstTaken = rw (f-read, f-tested .0);
+      secondTaken = rw (g-read, g-tested .0);
+      firstLetters = f-tested .0;
+      secondLetters = g-tested .0;
+    }))))
+
+-- the value call refuses neither form, and what it gives for the two is different
+pub record ValuesDiffer (table s t bytes : List ℕ) : Type 0 where
+  pub first : Vec
+  pub second : Vec
+  pub firstGiven : valueCall table s bytes ≡ given first
+  pub secondGiven : valueCall table t bytes ≡ given second
+  pub different : ¬ (first ≡ second)
+
+-- where the decision says that two forms differ, the value call on the bytes handed over gives different numbers
+pub differs-values : (table s t buffer work : List ℕ) (answer : D.Decision) (buffer′ work′ : List ℕ) → Decided table s t buffer work answer buffer′ work′
+    → answer ≡ D.differs → ValuesDiffer table s t (take (3 * length table) buffer′)
+unfolding Decided DecidedBy
+differs-values table s t buffer work answer buffer′ work′ contract e =
+    go (decideTested table s t buffer work) refl (subst (λ (a : D.Decision). DecidedBy (decideTested table s t buffer work) table buffer work a buffer′ work′) e contract)
+  where
+    go : (r : Result (Form × Form)) → decideTested table s t buffer work ≡ r → DecidedBy r table buffer work D.differs buffer′ work′ → ValuesDiffer table s t (take (3 * length table) buffer′)
+    go (refused n) q w = absurd w
+    go (given forms) q w =
+        let k = both-taken table s t buffer work forms q in
+        let long : 3 * length table ≤ length buffer′ = omega (arith, w .sameLength, k .room, good-short table (table-good table (k .tableTested))) in
+        record {
+          first = value (assignment buffer′) (forms .0);
+          second = value (assignment buffer′) (forms .1);
+          firstGiven = value-given table buffer′ long (w .inRange) s (forms .0) (k .tableTested) (k .firstTaken) (k .firstLetters);
+          secondGiven = value-given table buffer′ long (w .inRange) t (forms .1) (k .tableTested) (k .secondTaken) (k .secondLetters);
+          different = w .unequal;
+        }

@@ -21,6 +21,11 @@ module _ {A : Type 0} where
   all-append P [] ys h k = k
   all-append P (x ∷ xs) ys h k = (h .0, all-append P xs ys (h .1) k)
 
+  -- and apart again
+  pub all-split : (P : A → Type 0) (xs ys : List A) → All P (xs ++ ys) → All P xs × All P ys
+  all-split P [] ys h = (tt, h)
+  all-split P (x ∷ xs) ys h = let w = all-split P xs ys (h .1) in ((h .0, w .0), w .1)
+
   -- a weaker property
   pub all-implies : (P Q : A → Type 0) → ((x : A) → P x → Q x) → (xs : List A) → All P xs → All Q xs
   all-implies P Q f [] h = tt
@@ -41,6 +46,11 @@ module _ {A : Type 0} where
   all-at P [] i d h l = absurd (N.not-suc-le-zero l)
   all-at P (x ∷ xs) zero d h l = h .0
   all-at P (x ∷ xs) (suc i) d h l = all-at P xs i d (h .1) (omega arith)
+
+  -- at every place
+  pub at-all : (P : A → Type 0) (xs : List A) (d : A) → ((i : ℕ) → i < length xs → P (getD xs i d)) → All P xs
+  at-all P [] d h = tt
+  at-all P (x ∷ xs) d h = (h 0 (omega arith), at-all P xs d (λ i l. h (suc i) (omega arith)))
 
   -- a computed test of every element, as a property
   pub all-T : (f : A → Bool) (xs : List A) → T (all f xs) → All (λ x. T (f x)) xs
@@ -63,6 +73,12 @@ each-T f (suc n) t i h = let w = and-split (each n f) (f n) t in go (w .1) (each
     go : T (f n) → (i < n → T (f i)) → (suc i ≡ suc n) ⊎ (suc i < suc n) → T (f i)
     go t rest (inl e) = let q : n ≡ i = omega arith in subst (λ (k : ℕ). T (f k)) q t
     go t rest (inr l) = rest (omega arith)
+
+-- and at each of them
+pub T-each : (f : ℕ → Bool) (n : ℕ) → ((i : ℕ) → i < n → T (f i)) → T (each n f)
+unfolding each
+T-each f zero h = tt
+T-each f (suc n) h = and-both (each n f) (f n) (T-each f n (λ i l. h i (omega arith))) (h n (N.le-refl (suc n)))
 
 pub all-map : {A B : Type 0} (P : A → Type 0) (Q : B → Type 0) (f : A → B) → ((x : A) → P x → Q (f x)) → (xs : List A) → All P xs → All Q (map f xs)
 all-map P Q f g [] h = tt

@@ -30,6 +30,7 @@ pub and-false : (b : Bool) → (b && false) ≡ false
 and-false true = refl
 and-false false = refl
 
+-- a number passes the test against its equal
 pub eqb-T : (m n : ℕ) → m ≡ n → T (eqb m n)
 eqb-T m n e = subst (λ (k : ℕ). T (eqb m k)) e (eqb-refl m)
 
@@ -61,6 +62,11 @@ module _ {A : Type 0} where
   pub bound : {B : Type 0} (r : Result B) (k : B → Result A) (a : A) → (r >>= k) ≡ given a → (b : B) × (r ≡ given b) × (k b ≡ given a)
   bound (refused n) k a e = absurd (refused≢given e)
   bound (given b) k a e = (b, refl, e)
+
+-- a test that was passed held
+pub passed : (b : Bool) (n : ℕ) → _≡_ {A = Test} (require b n) (given tt) → T b
+passed true n e = tt
+passed false n e = absurd (refused≢given e)
 
 -- the same for long blocks: what a line gave is handed on under a name (a `let` would be written out in full in each later line)
 module _ {A P : Type 0} where

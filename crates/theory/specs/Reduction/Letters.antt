@@ -1,17 +1,15 @@
 -- The letters of an expression that is read are in the table, with their kinds. Assumes nothing.
 use mathlib.Core.Path.{_≡_, refl, _∙_, subst}
-use mathlib.Core.Bool.{Bool, true, false, _&&_}
-use mathlib.Core.List.{List, [], _∷_}
+use mathlib.Core.Bool.{Bool, true, false}
+use mathlib.Core.List.{List}
 use Prim.Native.Nat.{ℕ, zero, suc, _+_, _≤_}
-use native.Mathlib.Omega.{arith}
-use lib.Dec.{T, ltb, leb, eqb, leb→le}
+use lib.Dec.{T, ltb, leb, eqb}
 use lib.ListN.{length, getD}
 use Rattle.specification.specs.Results.{Result, given, require, if_then_else_}
-use Rattle.specification.specs.Lists.{all}
-use Rattle.specification.specs.Letters.{isKind, goodTable, kindOf, testLetter}
+use Rattle.specification.specs.Letters.{goodTable, kindOf, testLetter}
 use Rattle.specification.specs.Expressions.{Expr, Letter, Constant, Sum, Difference, Negation, Times, Dot, Wedge, Triple, Token, leaf, one, two, three, tokenBytes, testBytes, readLetter, readToken, readOperands, readTree, readExpr}
-use Rattle.theory.specs.Tests.{and-split, eqb-T, given-same, refused≢given, required, passes, tested, bound, into}
-use Rattle.theory.specs.Shape.Letters.{Known}
+use Rattle.theory.specs.Tests.{eqb-T, given-same, refused≢given, required, passes, tested, bound, into}
+use Rattle.theory.specs.Shape.Letters.{Known, good-kind}
 
 -- every letter is in the table, with its kind, which is scalar or vector
 abbrev pub LettersIn : (table : List ℕ) → Expr → Type 0
@@ -24,18 +22,6 @@ LettersIn table (Times e f) = LettersIn table e × LettersIn table f
 LettersIn table (Dot e f) = LettersIn table e × LettersIn table f
 LettersIn table (Wedge e f) = LettersIn table e × LettersIn table f
 LettersIn table (Triple e f g) = LettersIn table e × LettersIn table f × LettersIn table g
-
--- ════ the table
-
-kinds-small : (table : List ℕ) (n : ℕ) → T (all isKind table) → kindOf table n ≤ 1
-unfolding all isKind
-kinds-small [] n h = omega arith
-kinds-small (b ∷ table) zero h = leb→le b 1 (and-split (isKind b) (all isKind table) h .0)
-kinds-small (b ∷ table) (suc n) h = kinds-small table n (and-split (isKind b) (all isKind table) h .1)
-
-kind-small : (table : List ℕ) (n : ℕ) → T (goodTable table) → kindOf table n ≤ 1
-unfolding goodTable
-kind-small table n h = kinds-small table n (and-split (leb 1 (length table) && leb (length table) 24) (all isKind table) h .1)
 
 module _ (table : List ℕ) (good : T (goodTable table)) where
   -- ════ tokens
@@ -65,7 +51,7 @@ module _ (table : List ℕ) (good : T (goodTable table)) where
       this (leaf (Letter n (kindOf table n))) (
         passes (ltb n (length table)) 5 (require (eqb (kindOf table n) (kindOf table n)) 6) (w .0)
             ∙ known (eqb (kindOf table n) (kindOf table n)) (eqb-T (kindOf table n) (kindOf table n) refl),
-        kind-small table n good,
+        good-kind table good n,
       ) token (w .1)
     where
       known : (b : Bool) → T b → require b 6 ≡ given tt

@@ -8,13 +8,14 @@ use lib.IntN.{ℤ, pos, negsuc}
 use lib.ListN.{length}
 use lib.Dec.{T, eqb, eqb→eq, isEq}
 use borrow.Author.Tests.{eq-eqb}
-use Rattle.specification.specs.Results.{Result, Test, refused, given, _>>=_, _>>_, require, if_then_else_}
+use Rattle.specification.specs.Results.{Result, Test, refused, given, _>>=_, _>>_, if_then_else_}
 use Rattle.specification.specs.Letters.{testTable, goodTable}
 use Rattle.specification.specs.Terms.{Term, Form, compareTerms}
 use Rattle.specification.specs.Records.{writeForm, testTerms}
 use Rattle.specification.specs.Rules.{Step, takeStep, testStepLetters}
 use Rattle.specification.specs.Logs.{Log, sameCoef, sameTerms, sameForm, Checked, refusedAt, accepted, atStep, readLog, stepsLetters, replay, checkCall}
-use Rattle.theory.specs.Tests.{is-true, holds, and-split, given-same, refused≢given, tested, into}
+use Rattle.theory.specs.Tests.{is-true, holds, and-split, given-same, tested, into}
+use Rattle.theory.specs.Shape.Letters.{table-good}
 use Rattle.theory.specs.Order.{compareTerms-eq, eq-compareTerms}
 use Rattle.theory.specs.Records.Positions.{Bytes}
 use Rattle.theory.specs.Records.Logs.{writeLog, lastStartOf, logOf, LogInShape, LogRead, log-read-back, log-one-record}
@@ -171,21 +172,13 @@ pub record Accepted (table s : List ℕ) (a b n : ℕ) : Type 0 where
   pub lastStart : b ≡ lastStartOf first steps
   pub count : n ≡ length steps
 
-goodTable-tested : (table : List ℕ) (u : Unit {0}) → testTable table ≡ given u → T (goodTable table)
-unfolding testTable
-goodTable-tested table u e = go (goodTable table) e
-  where
-    go : (b : Bool) → require b 1 ≡ given u → T b
-    go true e = tt
-    go false e = absurd (refused≢given e)
-
 -- bytes that the checker accepts are the log of a derivation, with the positions and the steps that it reports
 pub accepted-derives : (table s : List ℕ) (a b n : ℕ) → Bytes s → checkCall table s ≡ accepted a b n → Accepted table s a b n
 unfolding checkCall
 accepted-derives table s a b n bs e =
     let t = passed 0 (testTable table) (λ _. read) a b n e in
     let l = passed 0 (readLog s) letters a b n (t .2) in
-    made (l .0) (l .1) (goodTable-tested table (t .0) (t .1)) (l .2)
+    made (l .0) (l .1) (table-good table (t .1)) (l .2)
   where
     lastLetters : Log → Checked
     lastLetters log = atStep (length (log .steps) + 1) (testTerms table (log .last .terms)) λ _. replay log 1 (log .first) (log .steps)

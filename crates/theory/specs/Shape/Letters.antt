@@ -1,24 +1,60 @@
--- Letters that are in the table and of their kind: tidying, products and gathering keep them. Assumes nothing.
+-- A good table, and letters that are in it and of their kind: tidying, products and gathering keep them. Assumes nothing.
 use mathlib.Core.Path.{_≡_, refl, sym, _∙_, ap, subst}
+use mathlib.Core.Bool.{_&&_}
 use mathlib.Core.List.{List, [], _∷_, map}
-use Prim.Native.Nat.{ℕ}
-use lib.Dec.{eqb}
+use Prim.Native.Nat.{ℕ, zero, suc, _≤_, _<_}
+use native.Mathlib.Omega.{arith}
+use lib.Dec.{T, ltb, leb, eqb, ltb→lt, leb→le, eqb→eq}
 use lib.ListN.{length}
-use Rattle.specification.specs.Results.{given, _>>_, if_then_else_}
-use Rattle.specification.specs.Lists.{order, sorted}
-use Rattle.specification.specs.Letters.{scalar, vector, testLetter, testLetters}
+use Rattle.specification.specs.Results.{given, _>>_, require, if_then_else_}
+use Rattle.specification.specs.Lists.{order, all, sorted}
+use Rattle.specification.specs.Letters.{scalar, vector, isKind, goodTable, testTable, kindOf, testLetter, testLetters}
 use Rattle.specification.specs.Terms.{Term, compareLetters, tidy, timesTerm, gather}
 use Rattle.specification.specs.Records.{testFactors, testTerm, testTerms}
-use Rattle.theory.specs.Tests.{tested}
+use Rattle.theory.specs.Tests.{and-split, required, passed, tested}
 use Rattle.theory.specs.Elements.{All, all-append, all-implies}
 use Rattle.theory.specs.Order.{Monomial, monomial}
 use Rattle.theory.specs.Sorting as O
 use Rattle.theory.specs.Gathering.Gathered.{Good, Unless0, gather-good}
 
+-- ════ the table
+
+-- a table that passes its test is good
+pub table-good : (table : List ℕ) → testTable table ≡ given tt → T (goodTable table)
+unfolding testTable
+table-good table e = passed (goodTable table) 1 e
+
+module _ (table : List ℕ) (good : T (goodTable table)) where
+  -- a good table has at most 24 letters
+  pub good-short : length table ≤ 24
+  unfolding goodTable
+  good-short =
+      let few = and-split (leb 1 (length table) && leb (length table) 24) (all isKind table) good .0 in
+      leb→le (length table) 24 (and-split (leb 1 (length table)) (leb (length table) 24) few .1)
+
+  -- and each is a scalar or a vector
+  pub good-kind : (n : ℕ) → kindOf table n ≤ 1
+  unfolding goodTable all isKind
+  good-kind n = go table n (and-split (leb 1 (length table) && leb (length table) 24) (all isKind table) good .1)
+    where
+      go : (kinds : List ℕ) (n : ℕ) → T (all isKind kinds) → kindOf kinds n ≤ 1
+      go [] n h = omega arith
+      go (b ∷ kinds) zero h = leb→le b 1 (and-split (isKind b) (all isKind kinds) h .0)
+      go (b ∷ kinds) (suc n) h = go kinds n (and-split (isKind b) (all isKind kinds) h .1)
+
+-- ════ its letters
+
 module _ (table : List ℕ) where
   -- the letter is in the table, and of the kind
   abbrev pub Known : (kind n : ℕ) → Type 0
   Known kind n = testLetter table kind n ≡ given tt
+
+  -- in other words
+  pub known-is : (kind n : ℕ) → Known kind n → (n < length table) × (kindOf table n ≡ kind)
+  unfolding testLetter
+  known-is kind n e =
+      let w = required (ltb n (length table)) 5 (require (eqb (kindOf table n) kind) 6) tt e in
+      (ltb→lt n (length table) (w .0), eqb→eq (kindOf table n) kind (passed (eqb (kindOf table n) kind) 6 (w .1)))
 
   -- letters that pass the test are known
   pub letters-known : (kind : ℕ) (ls : List ℕ) → testLetters table kind ls ≡ given tt → All (Known kind) ls
