@@ -1,9 +1,9 @@
--- A test and the choice that it makes: `cond` by its two branches, and the test of two numbers for equality. Assumes nothing.
+-- A test and the choice that it makes: `cond` by its two branches, and the tests of two numbers. Assumes nothing.
 use mathlib.Core.Path.{_≡_, refl}
 use mathlib.Core.Bool.{Bool, true, false, not, cond}
 use mathlib.Core.Logic.{_⊎_, inl, inr}
 use Prim.Native.Nat.{ℕ, _≤_, _<_}
-use borrow.Author.Tests.{ltb-true, ltb-false}
+use borrow.Author.Tests.{ltb-true, ltb-false, eqb-true, eqb-false}
 use lib.Dec.{T, ltb, eqb, eqb→eq, eqb-refl}
 
 -- what holds of each branch under its test holds of the choice
@@ -26,6 +26,14 @@ eqb-ne x y h = go (eqb x y) (λ t. h (eqb→eq x y t))
     go : (b : Bool) → (T b → ⊥) → b ≡ false
     go true f = absurd (f tt)
     go false f = refl
+
+-- equal, or not
+pub eq-or-ne : (a b : ℕ) → (a ≡ b) ⊎ ¬ (a ≡ b)
+eq-or-ne a b = go (eqb a b) refl
+  where
+    go : (t : Bool) → eqb a b ≡ t → (a ≡ b) ⊎ ¬ (a ≡ b)
+    go true e = inl (eqb-true a b e)
+    go false e = inr (eqb-false a b e)
 
 -- below, or not
 pub lt-or-le : (a b : ℕ) → (a < b) ⊎ (b ≤ a)

@@ -26,6 +26,11 @@ pub +ℤ-right-comm : (a b c : ℤ) → (a +ℤ b) +ℤ c ≡ (a +ℤ c) +ℤ b
 pub +ℤ-interchange : (a b c d : ℤ) → (a +ℤ b) +ℤ (c +ℤ d) ≡ (a +ℤ c) +ℤ (b +ℤ d)
 +ℤ-interchange a b c d = simp (I.+ℤ-assoc, +ℤ-left-comm)
 
+-- a + (b + (c + d)) = c + (b + (a + d))
+pub +ℤ-outer-comm : (a b c d : ℤ) → a +ℤ (b +ℤ (c +ℤ d)) ≡ c +ℤ (b +ℤ (a +ℤ d))
++ℤ-outer-comm a b c d =
+    ap (λ (z : ℤ). a +ℤ z) (+ℤ-left-comm b c d) ∙ +ℤ-left-comm a c (b +ℤ d) ∙ ap (λ (z : ℤ). c +ℤ z) (+ℤ-left-comm a b d)
+
 -- equal sums with one summand equal have the other equal
 pub +ℤ-cancel-left : (a b c : ℤ) → a +ℤ b ≡ a +ℤ c → b ≡ c
 +ℤ-cancel-left a b c e = cc (I.+ℤ-assoc (negℤ a) a b, I.+ℤ-assoc (negℤ a) a c, I.+ℤ-invl a, I.+ℤ-idl b, I.+ℤ-idl c)

@@ -4,20 +4,22 @@ use mathlib.Core.Logic.{_⊎_, inl, inr}
 use mathlib.Core.Bool.{Bool, true, false}
 use mathlib.Core.List.{List, [], _∷_, _++_, append-assoc}
 use Prim.Native.Nat.{ℕ, zero, suc, _+_, _*_, _/_, _^_, _≤_, _<_}
-use native.Mathlib.Nat.{div-lt-iff-lt-mul, pow-succ', mul-comm, eq-or-lt-of-le}
-use Rattle.algebra.specs.Conditions.{lt-or-le}
+use native.Mathlib.Nat.{eq-or-lt-of-le}
 use native.Mathlib.Numerals.{towards-suc}
 use native.Mathlib.Omega.{arith}
 use lib.Dec.{eqb}
 use borrow.Author.Tests.{eqb-true, eqb-false}
 use lib.IntN.{ℤ}
 use lib.ListN.{length, getD, take, drop, set, length-set}
-use lib.Seq.{sets, sets-eq, length-sets, length-take-le, getD-at, getD-append-add, getD-set-same, getD-set-other, ext-getD}
+use lib.Seq.{sets, sets-eq, length-sets, length-take-le, getD-at, getD-set-same, getD-set-other, ext-getD}
 use mir.Syntax.{w64}
 use mir.Val.{SFits, toZ, ofZ}
 use mir.ValLaws.{toZ-ofZ, ofZ-fits}
+use Rattle.algebra.specs.Conditions.{lt-or-le}
+use Rattle.algebra.specs.Numbers.{shift-small}
+use Rattle.algebra.specs.Lists.{length-tabulated, getD-tabulated, getD-second, sets-other}
 use Rattle.decision.specs.Monomials.{Monomial}
-use Rattle.decision.specs.Memory.{bytesOf, numberOf, eight, mono, none, monomialAt, tabulated, monomials}
+use Rattle.decision.specs.Memory.{bytesOf, numberOf, eight, mono, none, monomialAt, monomials}
 
 -- ════ stores
 
@@ -31,24 +33,15 @@ stores l at p q r s t u v w = rw (p, q, r, s, t, u, v, w) (simp towards-suc)
 -- the number of the bytes of a number
 number-bytes : (n x : ℕ) → x < 256 ^ n → numberOf (bytesOf n x) ≡ x
 number-bytes zero x h = omega arith
-number-bytes (suc n) x h = rw (number-bytes n (x / 256) (div-lt-iff-lt-mul {k = 256} (omega arith) .1 (rw (pow-succ', mul-comm) at h))) (omega arith)
-
--- an element that is not among those set stands
-sets-other : (l : List ℕ) (at : ℕ) (vs : List ℕ) (j : ℕ) → (j < at) ⊎ (at + length vs ≤ j) → getD (sets l at vs) j 0 ≡ getD l j 0
-sets-other l at [] j h = refl
-sets-other l at (v ∷ vs) j (inl h) = sets-other (set l at v) (suc at) vs j (inl (omega arith)) ∙ getD-set-other l at j v 0 (λ e. omega arith)
-sets-other l at (v ∷ vs) j (inr h) = sets-other (set l at v) (suc at) vs j (inr (omega arith)) ∙ getD-set-other l at j v 0 (λ e. omega arith)
+number-bytes (suc n) x h = rw (number-bytes n (x / 256) (shift-small n x h)) (omega arith)
 
 eight-other : (l : List ℕ) (at : ℕ) (vs : List ℕ) (j : ℕ) → (j + 8 ≤ at) ⊎ (at + length vs ≤ j) → eight (sets l at vs) j ≡ eight l j
 unfolding eight
 eight-other l at vs j h =
-    rw (sets-other l at vs j (elim h [ inl q ↦ inl (omega arith) | inr q ↦ inr (omega arith) ]), s 1 (omega arith), s 2 (omega arith), s 3 (omega arith), s 4 (omega arith), s 5 (omega arith), s 6 (omega arith), s 7 (omega arith))
+    rw (sets-other l at vs j 0 (elim h [ inl q ↦ inl (omega arith) | inr q ↦ inr (omega arith) ]), s 1 (omega arith), s 2 (omega arith), s 3 (omega arith), s 4 (omega arith), s 5 (omega arith), s 6 (omega arith), s 7 (omega arith))
   where
     s : (i : ℕ) → i < 8 → getD (sets l at vs) (j + i) 0 ≡ getD l (j + i) 0
-    s i g = sets-other l at vs (j + i) (elim h [ inl q ↦ inl (omega arith) | inr q ↦ inr (omega arith) ])
-
-getD-shift : (p q : List ℕ) (n k : ℕ) → length p ≡ n → getD (p ++ q) (n + k) 0 ≡ getD q k 0
-getD-shift p q n k e = rw (← e) (getD-append-add p q k 0)
+    s i g = sets-other l at vs (j + i) 0 (elim h [ inl q ↦ inl (omega arith) | inr q ↦ inr (omega arith) ])
 
 -- what was put is there
 eight-sets : (l : List ℕ) (at a b c d e f g h : ℕ) → at + 8 ≤ length l
@@ -59,24 +52,14 @@ eight-sets l at a b c d e f g h k =
     let q = length-take-le at l (omega arith) in
     let r = vs ++ drop (at + 8) l in
     let m : sets l at vs ≡ take at l ++ r = sets-eq vs l at k ∙ append-assoc (take at l) vs (drop (at + 8) l) in
-    rw (m, getD-at (take at l) a _ 0 at q, getD-shift (take at l) r at 1 q, getD-shift (take at l) r at 2 q, getD-shift (take at l) r at 3 q, getD-shift (take at l) r at 4 q, getD-shift (take at l) r at 5 q, getD-shift (take at l) r at 6 q, getD-shift (take at l) r at 7 q)
+    rw (m, getD-at (take at l) a _ 0 at q, getD-second (take at l) r at 1 0 q, getD-second (take at l) r at 2 0 q, getD-second (take at l) r at 3 0 q, getD-second (take at l) r at 4 0 q, getD-second (take at l) r at 5 0 q, getD-second (take at l) r at 6 0 q, getD-second (take at l) r at 7 0 q)
 
 number-there : (l : List ℕ) (at x : ℕ) → at + 8 ≤ length l → x < 2 ^ 64 → numberOf (eight (sets l at (bytesOf 8 x)) at) ≡ x
 number-there l at x h k = ap numberOf (eight-sets l at _ _ _ _ _ _ _ _ h) ∙ number-bytes 8 x k
 
--- ════ tables
+-- ════ monomials
 
-module _ {A : Type 0} where
-  pub length-tabulated : (n : ℕ) (f : ℕ → A) → length (tabulated n f) ≡ n
-  length-tabulated zero f = refl
-  length-tabulated (suc n) f = ap suc (length-tabulated n (λ i. f (suc i)))
-
-  pub getD-tabulated : (n : ℕ) (f : ℕ → A) (i : ℕ) (d : A) → i < n → getD (tabulated n f) i d ≡ f i
-  getD-tabulated zero f i d h = absurd (omega arith)
-  getD-tabulated (suc n) f zero d h = refl
-  getD-tabulated (suc n) f (suc i) d h = getD-tabulated n (λ i. f (suc i)) i d (omega arith)
-
--- so many monomials
+-- so many
 pub length-monomials : (l : List ℕ) → length (monomials l) ≡ length l / 16
 unfolding monomials
 length-monomials l = length-tabulated (length l / 16) (monomialAt l)

@@ -6,16 +6,17 @@ use mathlib.Core.Logic.{_⊎_, inl, inr}
 use mathlib.Core.List.{List, [], _∷_, map}
 use Prim.Native.Nat.{ℕ, zero, suc, _+_, _-_, _*_, _/_, _%_, _^_, _≤_, _<_}
 use native.Mathlib.Nat as N
-use native.Mathlib.Numerals.{add-one}
 use native.Mathlib.Omega.{arith}
 use lib.Dec.{ltb, leb, eqb}
 use borrow.Author.Tests.{eq-eqb, ne-eqb, eqb-true, eqb-false, ltb-true, leb-true, leb-false}
 use lib.IntN.{ℤ, pos, _+ℤ_, _*ℤ_}
 use lib.IntN as I
+use lib.Pow.{pow-add}
 use lib.ListN.{length, getD, take, drop, set, length-set}
 use lib.Seq.{getD-set-same, getD-set-other, drop-set-lt}
 use Rattle.algebra.specs.Integers.{NonZero}
 use Rattle.algebra.specs.Integers as R
+use Rattle.algebra.specs.Numbers.{below-more}
 use Rattle.specification.specs.Results.{if_then_else_}
 use Rattle.specification.specs.Letters.{vector, kindOf}
 use Rattle.theory.specs.Elements.{All, all-implies, both-all}
@@ -28,12 +29,6 @@ use Rattle.decision.proofs.Monomials.{substituted-value, like-size, red
 use Rattle.decision.proofs.Survival.{survives}
 
 -- ════ the variables of a table
-
-pow-add : (a m n : ℕ) → a ^ (m + n) ≡ a ^ m * a ^ n
-pow-add a zero n = rw (N.zero-add n, N.pow-zero) (sym (N.one-mul (a ^ n)))
-pow-add a (suc m) n =
-    let e : suc m + n ≡ suc (m + n) = omega arith in
-    rw (e, N.pow-succ' a (m + n), N.pow-succ' a m, pow-add a m n) (sym (N.mul-assoc a (a ^ m) (a ^ n)))
 
 most-limit : (table : List ℕ) (x : ℕ) (b c : Bool) → eqb (kindOf table (x / 3)) vector ≡ b → eqb (x % 3) 0 ≡ c → (b || c) ≡ true → mostOf table x ≡ limitOf table x
 unfolding mostOf limitOf
@@ -261,17 +256,13 @@ pub first-last : (ms : List Monomial) (d most v : ℕ) → v ≤ most → most �
 first-last ms d most v l k h = record { few = l; before = h; found = inr (omega arith) }
 
 pub first-on : (ms : List Monomial) (d v : ℕ) → ((u : ℕ) → u < v → isSome (substituted d u ms) ≡ false) → isSome (substituted d v ms) ≡ false → (u : ℕ) → u < v + 1 → isSome (substituted d u ms) ≡ false
-first-on ms d v h e u l =
-    elim (N.eq-or-lt-of-le (N.le-of-suc-le-suc (N.le-trans l (N.le-of-eq (add-one v))))) [ inl q ↦ ap (λ (w : ℕ). isSome (substituted d w ms)) q ∙ e | inr q ↦ h u q ]
+first-on ms d v h e = below-more (λ (u : ℕ). isSome (substituted d u ms) ≡ false) v h e
 
 -- ════ bytes set to 0
 
 pub cleared-more : (l : List ℕ) (i : ℕ) → i < length l → ((x : ℕ) → x < i → getD l x 0 ≡ 0) → (x : ℕ) → x < i + 1 → getD (set l i 0) x 0 ≡ 0
-cleared-more l i h g x k =
-    elim (N.eq-or-lt-of-le (N.le-of-suc-le-suc (N.le-trans k (N.le-of-eq (add-one i))))) [
-      | inl q ↦ ap (λ (w : ℕ). getD (set l i 0) w 0) q ∙ getD-set-same l i 0 0 h
-      | inr q ↦ getD-set-other l i x 0 0 (λ e. omega arith) ∙ g x q
-    ]
+cleared-more l i h g =
+    below-more (λ (x : ℕ). getD (set l i 0) x 0 ≡ 0) i (λ x k. getD-set-other l i x 0 0 (λ e. omega arith) ∙ g x k) (getD-set-same l i 0 0 h)
 
 -- ════ one number after the other
 
@@ -319,11 +310,11 @@ choose-starts table n ms b d w e =
 
 module _ (table : List ℕ) (ms rs : List Monomial) (d : ℕ) (b₀ b : List ℕ) (w : Choosing table ms rs d b₀ b) where
   -- ends: only the key 0 is left
-  only-zero : All (λ (m : Monomial). Ordered (w .low) 8 (m .key)) rs → (rs : List Monomial) → All (λ (m : Monomial). m .key ≡ 0) rs → isSome rs ≡ true → Rising 0 rs → (σ : ℕ → ℤ) → NonZero (total σ rs)
+  only-zero : (rs : List Monomial) → All (λ (m : Monomial). m .key ≡ 0) rs → isSome rs ≡ true → Rising 0 rs → (σ : ℕ → ℤ) → NonZero (total σ rs)
   unfolding isSome weigh
-  only-zero o [] a s r σ = absurd (let z : _≡_ {A = ℕ} 0 1 = cc in omega arith)
-  only-zero o (m ∷ n ∷ rs) a s r σ = absurd (omega (arith, r .2 .0, a .1 .0))
-  only-zero o (m ∷ []) a s r σ =
+  only-zero [] a s r σ = absurd (let z : _≡_ {A = ℕ} 0 1 = cc in omega arith)
+  only-zero (m ∷ n ∷ rs) a s r σ = absurd (omega (arith, r .2 .0, a .1 .0))
+  only-zero (m ∷ []) a s r σ =
       λ e. r .1 (sym (I.+ℤ-idr (m .coef *ℤ keyValue σ 8 (m .key)) ∙ ap (λ (k : ℕ). m .coef *ℤ keyValue σ 8 k) (a .0) ∙ ap (λ (z : ℤ). m .coef *ℤ z) (value-zero σ 8) ∙ R.*ℤ-1 (m .coef)) ∙ e)
 
   zero-key : (rs : List Monomial) → AllOrdered (w .low) rs → All (λ (m : Monomial). lowest 8 (m .key) ≡ 0) rs → All (λ (m : Monomial). m .key ≡ 0) rs
@@ -341,15 +332,12 @@ module _ (table : List ℕ) (ms rs : List Monomial) (d : ℕ) (b₀ b : List ℕ
         within = w .within;
         behind = w .behind;
         nonzero = λ σ h e.
-            only-zero (w .ordered) rs (zero-key rs (w .ordered) (least-zero 0 rs (sym (w .least) ∙ z) .1)) (w .polynomial .some) (w .polynomial .rising) σ
+            only-zero rs (zero-key rs (w .ordered) (least-zero 0 rs (sym (w .least) ∙ z) .1)) (w .polynomial .some) (w .polynomial .rising) σ
             (sym (w .value σ (λ x l. h x (omega (arith, l, w .lowMost)))) ∙ e);
       }
 
   -- a variable is left
   module _ (h : ¬ (d ≡ 0)) where
-    x : ℕ
-    x = d - 1
-
     pub isDigit : d ≡ suc (d - 1)
     isDigit = omega arith
 
@@ -362,9 +350,6 @@ module _ (table : List ℕ) (ms rs : List Monomial) (d : ℕ) (b₀ b : List ℕ
 
     known : (d - 1 < 3 * length table) × (mostOf table (d - 1) ≡ limitOf table (d - 1))
     known = known-digit table (d - 1) (subst (λ (y : ℕ). strangeDigit table y ≡ 0) isDigit strange)
-
-    pub variable-there : d - 1 < 3 * length table
-    variable-there = known .0
 
     pub letter-there : (d - 1) / 3 < length table
     letter-there = omega (arith, known .0)
@@ -452,9 +437,9 @@ module _ (table : List ℕ) (ms rs : List Monomial) (d : ℕ) (b₀ b : List ℕ
               w .value σ (λ y l. g y (omega (arith, l, low-least)) ∙ ap pos (getD-set-other b (d - 1) y v 0 (λ q. omega (arith, q, l, low-least))))
               ∙ sym (substituted-value σ d v (at-digit σ d (d - 1) v isDigit (g (d - 1) (omega arith) ∙ ap pos (getD-set-same b (d - 1) v 0 byte-there))) rs)
 
-          pub choose-on : (r m′ : ℕ) (os ns : List Monomial) (k : ℕ) (b′ : List ℕ) → Substituted d v k r os ns → rs ≡ take k os → b′ ≡ set b (d - 1) v → (d′ : ℕ) → d′ ≡ leastFrom 0 (take r ns)
+          pub choose-on : (r : ℕ) (os ns : List Monomial) (k : ℕ) (b′ : List ℕ) → Substituted d v k r os ns → rs ≡ take k os → b′ ≡ set b (d - 1) v → (d′ : ℕ) → d′ ≡ leastFrom 0 (take r ns)
               → Choosing table ms (take r ns) d′ b₀ b′
-          choose-on r m′ os ns k b′ s q p d′ z =
+          choose-on r os ns k b′ s q p d′ z =
               let is : take r ns ≡ substituted d v rs = s .is ∙ ap (substituted d v) (sym q) in
               record {
                 least = z;

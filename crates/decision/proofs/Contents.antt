@@ -13,6 +13,7 @@ use lib.IntN as I
 use lib.ListN.{length}
 use Rattle.algebra.specs.Integers as R
 use Rattle.algebra.specs.Normaliser.{var, _⊗_, solve, normalising}
+use Rattle.algebra.specs.Lists.{tabulated}
 use Rattle.specification.specs.Results.{if_then_else_}
 use Rattle.specification.specs.Lists.{joined}
 use Rattle.specification.specs.Letters.{scalar, vector, kindOf}
@@ -23,7 +24,6 @@ use Rattle.decision.specs.declared.expansion.Piece.{Piece}
 use Rattle.decision.specs.declared.expansion.Block.the-variants.{Zero, One}
 use Rattle.decision.specs.Keys.{digitValue, keyValue, timesDigit, Ordered, tally}
 use Rattle.decision.specs.Monomials.{Monomial, weigh, total}
-use Rattle.decision.specs.Memory.{tabulated}
 use Rattle.decision.specs.Expansion.{digitOf, signOf, plus, crossPiece, pieceAt, countOf, pieces, blockOf, partBlock, timesPiece, timesPieces}
 use Rattle.decision.specs.Elimination.{vectorDigit, scalarDigit, strangeDigit, Has}
 use Rattle.decision.proofs.Keys.{times-value, times-ordered, times-tally, from-tally}

@@ -4,7 +4,7 @@ use mathlib.Core.List.{List}
 use Prim.Native.Nat.{ℕ, _≤_, _<_}
 use lib.ListN.{length}
 use borrow.Author.Tests.{eq-eqb, ne-eqb, le-leb, lt-leb}
-use Rattle.specification.specs.Results.{Result, refused, given, Test}
+use Rattle.specification.specs.Results.{Result, refused, given}
 use Rattle.specification.specs.Letters.{testTable}
 use Rattle.specification.specs.Terms as S
 use Rattle.specification.specs.Records.{readForm, testTerms}
@@ -16,17 +16,9 @@ use Rattle.terms.specs.Abstraction.{formOf}
 use Rattle.records.specs.declared.take.Taken.{Taken}
 use Rattle.records.specs.Reading.{takenOf}
 use Rattle.records.specs.Tested.{testOf}
+use Rattle.records.proofs.LetterTests.{test-passed, test-refused}
 use Rattle.decision.specs.Taking.{WholeRead}
 use Rattle.decision.specs.Answers.{Decidable}
-
--- a test that is passed, or refused with its number
-test-passed : (n : ℕ) (t : Test) → testOf n ≡ t → n ≡ 0 → t ≡ given tt
-unfolding testOf
-test-passed n t e z = sym e ∙ rw (eq-eqb n 0 z)
-
-test-refused : (n : ℕ) (t : Test) → testOf n ≡ t → ¬ (n ≡ 0) → t ≡ refused n
-unfolding testOf
-test-refused n t e z = sym e ∙ rw (ne-eqb n 0 z)
 
 -- a form that is read, or refused with its number
 form-passed : (r : Taken) (f : Result S.Form) → takenOf r ≡ f → r .refusal ≡ 0 → f ≡ given (formOf (r .form))
@@ -45,11 +37,11 @@ refused-so r n table b w e = subst (λ (x : Result (S.Form × S.Form)). DecidedB
 module _ (table s t b w : List ℕ) (n : ℕ) (e : testOf n ≡ testTable table) where
   pub table-refused : ¬ (n ≡ 0) → DecidedBy (decideTested table s t b w) table b w (undecided n) b w
   unfolding decideTested
-  table-refused h = refused-so (decideTested table s t b w) n table b w (rw (test-refused n (testTable table) e h))
+  table-refused h = refused-so (decideTested table s t b w) n table b w (rw (sym e ∙ test-refused n h))
 
   module _ (z : n ≡ 0) where
     table-passed : testTable table ≡ given tt
-    table-passed = test-passed n (testTable table) e z
+    table-passed = sym e ∙ test-passed n z
 
     pub buffer-refused : length b < 72 → DecidedBy (decideTested table s t b w) table b w (undecided 2) b w
     unfolding decideTested
@@ -84,20 +76,20 @@ module _ (table s t b w : List ℕ) (n : ℕ) (e : testOf n ≡ testTable table)
 
               pub letters-refused : ¬ (c ≡ 0) → DecidedBy (decideTested table s t b w) table b w (undecided c) b w
               unfolding takeTwoForms
-              letters-refused h = refused-so (decideTested table s t b w) c table b w (lengths-passed ∙ rw (first-passed, second-passed, test-refused c (testTerms table (formOf (p .form) .terms)) ec h))
+              letters-refused h = refused-so (decideTested table s t b w) c table b w (lengths-passed ∙ rw (first-passed, second-passed, sym ec ∙ test-refused c h))
 
               module _ (zc : c ≡ 0) (d : ℕ) (ed : testOf d ≡ testTerms table (formOf (q .form) .terms)) where
                 letters-passed : testTerms table (formOf (p .form) .terms) ≡ given tt
-                letters-passed = test-passed c (testTerms table (formOf (p .form) .terms)) ec zc
+                letters-passed = sym ec ∙ test-passed c zc
 
                 pub others-refused : ¬ (d ≡ 0) → DecidedBy (decideTested table s t b w) table b w (undecided d) b w
                 unfolding takeTwoForms
                 others-refused h =
-                    refused-so (decideTested table s t b w) d table b w (lengths-passed ∙ rw (first-passed, second-passed, letters-passed, test-refused d (testTerms table (formOf (q .form) .terms)) ed h))
+                    refused-so (decideTested table s t b w) d table b w (lengths-passed ∙ rw (first-passed, second-passed, letters-passed, sym ed ∙ test-refused d h))
 
                 module _ (zd : d ≡ 0) where
                   others-passed : testTerms table (formOf (q .form) .terms) ≡ given tt
-                  others-passed = test-passed d (testTerms table (formOf (q .form) .terms)) ed zd
+                  others-passed = sym ed ∙ test-passed d zd
 
                   pub kinds-refused : ¬ (p .form .kind ≡ q .form .kind) → DecidedBy (decideTested table s t b w) table b w (undecided 6) b w
                   unfolding takeTwoForms formOf

@@ -1,7 +1,7 @@
 -- Forms expanded term by term, and the difference of two forms gathered. Assumes nothing.
 use mathlib.Core.Path.{_≡_, refl, sym, _∙_, ap, subst}
 use mathlib.Core.List.{List, [], _∷_, _++_, map, append-assoc, append-nil}
-use Prim.Native.Nat.{ℕ, zero, suc, _+_, _-_, _*_, _≤_, _<_, _^_}
+use Prim.Native.Nat.{ℕ, _+_, _-_, _*_, _≤_, _<_, _^_}
 use native.Mathlib.Nat as N
 use native.Mathlib.Numerals.{add-one}
 use native.Mathlib.Omega.{arith}
@@ -10,9 +10,10 @@ use lib.IntN.{ℤ, pos, negsuc, natAbs, _*ℤ_}
 use lib.ListN.{length, getD, take, length-append}
 use lib.Seq.{take-suc, length-take-le}
 use Rattle.algebra.specs.Integers.{natAbs-*ℤ}
+use Rattle.algebra.specs.Numbers.{power-one}
 use Rattle.specification.specs.Lists.{joined}
 use Rattle.specification.specs.Terms as S
-use Rattle.theory.specs.Elements.{All, all-append, all-T}
+use Rattle.theory.specs.Elements.{All, all-append, all-T, all-unmap}
 use Rattle.theory.specs.Shape.Terms.{term-opens}
 use Rattle.terms.specs.declared.types.Term.{Term}
 use Rattle.terms.specs.declared.types.Form.{Form}
@@ -39,10 +40,6 @@ expand-more i sign ts t =
   where
     one : (l : List Monomial) → joined (l ∷ []) ≡ l
     one l = append-nil l
-
-all-unmap : {A B : Type 0} (P : B → Type 0) (g : A → B) (l : List A) → All P (map g l) → All (λ (x : A). P (g x)) l
-all-unmap P g [] h = tt
-all-unmap P g (x ∷ l) h = (h .0, all-unmap P g l (h .1))
 
 -- the terms before k are expanded
 pub record Filled (start : ℕ) (f : Form) (i : ℕ) (sign : ℤ) (k n : ℕ) (ms ns : List Monomial) : Type 0 where
@@ -132,12 +129,8 @@ terms-modest i sign (t ∷ ts) l u h b =
     (terms-modest i sign ts l u (h .1) (b .1))
 
 -- the terms of a valid form
-in-shape : (f : Form) → FormValid f → All (λ (t : S.Term). T (S.termInShape t)) (formOf f .terms)
+pub in-shape : (f : Form) → FormValid f → All (λ (t : S.Term). T (S.termInShape t)) (formOf f .terms)
 in-shape f v = all-T S.termInShape (formOf f .terms) (v .inShape .terms)
-
-pub power-one : (e : ℕ) → 1 ^ e ≡ 1
-power-one zero = N.pow-zero 1
-power-one (suc e) = N.pow-succ' 1 e ∙ omega (arith, power-one e)
 
 -- with 1 put for a variable no coefficient changes
 mass-one : (d : ℕ) (ms : List Monomial) → All Modest ms → mass (map (reduced d 1) ms) ≤ length ms * 2147483647

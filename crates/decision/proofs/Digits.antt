@@ -12,17 +12,10 @@ use mir.Val.{SFits, toZ, ofZ}
 use Rattle.integers.proofs.Machine.{back-is}
 use lib.Dec.{leb, eqb}
 use borrow.Author.Tests.{eq-eqb, ne-eqb, le-leb, lt-leb}
+use Rattle.algebra.specs.Numbers.{shift-small, digit-small}
 use Rattle.specification.specs.Results.{if_then_else_}
 use Rattle.decision.specs.Keys.{placed, timesDigit, rest, exponent, lowest}
 use Rattle.decision.proofs.Keys.{rest-none, rest-same, rest-other, exponent-none, exponent-same, exponent-other, rest-zero, exponent-zero}
-
--- a number below 256 ^ suc n without its lowest digit
-pub shift-small : (n k : ℕ) → k < 256 ^ suc n → k / 256 < 256 ^ n
-shift-small n k h = N.div-lt-iff-lt-mul {k = 256} (omega arith) .1 (rw (N.pow-succ', N.mul-comm) at h)
-
--- a digit in front of a number below 256 ^ n
-digit-small : (n a q : ℕ) → a < 256 → q < 256 ^ n → a + 256 * q < 256 ^ suc n
-digit-small n a q h k = rw (N.pow-succ' 256 n) (omega arith)
 
 -- ════ a variable put in
 

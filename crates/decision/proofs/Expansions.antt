@@ -11,11 +11,12 @@ use lib.IntN.{ℤ, natAbs, _*ℤ_}
 use lib.ListN.{length, getD, take, drop, set, length-append, length-map, length-set}
 use lib.Seq.{take-suc, take-at, drop-at, length-take-le, take-take, take-set-le, getD-set-same}
 use Rattle.algebra.specs.Integers.{natAbs-*ℤ}
+use Rattle.algebra.specs.Lists.{length-tabulated, window}
 use Rattle.specification.specs.Lists.{joined}
 use Rattle.specification.specs.Results.{if_then_else_}
 use Rattle.specification.specs.Terms.{vectorLettersOf, termInShape}
 use Rattle.specification.specs.Terms as S
-use Rattle.theory.specs.Elements.{All, all-append, all-map}
+use Rattle.theory.specs.Elements.{All, all-append, all-map, all-tabulated}
 use Rattle.theory.specs.Shape.Terms.{OneToThree, term-opens}
 use Rattle.integers.specs.Over.{over}
 use Rattle.integers.proofs.Over.{length-over, take-over-end}
@@ -28,10 +29,9 @@ use Rattle.decision.specs.declared.expansion.Piece.{Piece}
 use Rattle.decision.specs.declared.expansion.Block.{Block}
 use Rattle.decision.specs.declared.expansion.Block.the-variants.{Zero, One}
 use Rattle.decision.specs.Monomials.{Monomial}
-use Rattle.decision.specs.Memory.{mono, none, tabulated}
+use Rattle.decision.specs.Memory.{mono, none}
 use Rattle.decision.specs.Expansion.{pieceAt, countOf, pieces, blockOf, partBlock, timesPiece, timesPieces, timesBlock, timesFactors, expandTerm, PieceSmall, Modest, Small, Multiplying, Multiplied, Below, top, Layer, Factorable, Factored, Expandable, Expanded}
-use Rattle.decision.proofs.Bytes.{length-tabulated}
-use Rattle.decision.proofs.Layers.{window, piece-small}
+use Rattle.decision.proofs.Layers.{piece-small}
 
 -- ════ so many monomials
 
@@ -107,13 +107,9 @@ pieces-modest [] ms s h = tt
 pieces-modest (p ∷ ps) ms s h =
     all-append Modest (map (timesPiece p) ms) (timesPieces ps ms) (all-map Modest Modest (timesPiece p) (piece-modest p (s .0)) ms h) (pieces-modest ps ms (s .1) h)
 
-tabulated-all : {A : Type 0} (P : A → Type 0) (n : ℕ) (f : ℕ → A) → ((i : ℕ) → i < n → P (f i)) → All P (tabulated n f)
-tabulated-all P zero f h = tt
-tabulated-all P (suc n) f h = (h 0 (omega arith), tabulated-all P n (λ i. f (suc i)) (λ i l. h (suc i) (omega arith)))
-
 pub block-modest : (f : Block) (ms : List Monomial) → Small f → All Modest ms → All Modest (timesBlock f ms)
 unfolding timesBlock pieces
-block-modest f ms s h = pieces-modest (pieces f) ms (tabulated-all PieceSmall (countOf f) (pieceAt f) (λ j l. piece-small f j s l)) h
+block-modest f ms s h = pieces-modest (pieces f) ms (all-tabulated PieceSmall (countOf f) (pieceAt f) (λ j l. piece-small f j s l)) h
 
 pub block-small : (f : List ℕ) → Below f → Small (blockOf f)
 unfolding blockOf

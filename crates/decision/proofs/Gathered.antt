@@ -9,6 +9,7 @@ use borrow.Author.Tests.{le-ltb}
 use lib.IntN.{ℤ, pos, _*ℤ_}
 use lib.ListN.{length, take}
 use Rattle.algebra.specs.Integers as R
+use Rattle.algebra.specs.Numbers.{power-one}
 use Rattle.theory.specs.Elements.{All}
 use Rattle.decision.specs.Keys.{rest, exponent, tally, keyValue}
 use Rattle.decision.specs.Monomials.{Monomial, total, size, likeAdded, reduced, substituted, isSome, Rising}
@@ -19,7 +20,6 @@ use Rattle.decision.proofs.Keys.{Digit, none, same, other, digit, rest-
 use Rattle.decision.proofs.Monomials.{like-weigh, like-size, like-rising, like-keys}
 use Rattle.decision.proofs.Orders.{reordered-weigh, reordered-size, reordered-all}
 use Rattle.decision.proofs.Contents.{AllHas}
-use Rattle.decision.proofs.Differences.{power-one}
 
 module _ (table : List ℕ) (short : length table ≤ 24) where
   -- 255 is no variable

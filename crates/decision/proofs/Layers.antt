@@ -1,7 +1,7 @@
 -- Monomials multiplied in place: one turn of each loop, and the room that is needed. Assumes nothing.
 use mathlib.Core.Path.{_≡_, sym, _∙_, ap, ap₂, subst}
 use mathlib.Core.Logic.{_⊎_, inl, inr}
-use mathlib.Core.List.{List, [], _∷_, _++_, map, append-assoc}
+use mathlib.Core.List.{List, [], _∷_, _++_, map}
 use Prim.Native.Nat.{ℕ, zero, suc, _+_, _-_, _*_, _/_, _%_, _≤_, _<_}
 use native.Mathlib.Nat as N
 use native.Mathlib.Numerals.{add-one}
@@ -9,62 +9,20 @@ use native.Mathlib.Omega.{arith}
 use borrow.Author.Tests.{ne-eqb}
 use lib.IntN.{natAbs}
 use lib.ListN.{length, getD, take, drop, set, length-append, length-map, length-drop}
-use lib.Seq.{getD-take, getD-drop, take-suc, take-add, drop-at, drop-cons, length-take-le, drop-length}
+use lib.Seq.{getD-drop, take-suc, drop-cons, drop-length}
+use Rattle.algebra.specs.Lists.{tabulated, length-tabulated, getD-tabulated, length-window}
 use Rattle.specification.specs.Lists.{joined}
 use Rattle.theory.specs.Elements.{All}
 use Rattle.integers.specs.Over.{over}
-use Rattle.integers.proofs.Over.{length-over, take-over, drop-over, drop-over-start, set-over, over-append, over-nil}
+use Rattle.integers.proofs.Over.{length-over, getD-before, getD-behind, window-before, over-nil, over-more, over-front}
 use Rattle.terms.proofs.Arrays.{all-at, mapped-behind}
 use Rattle.decision.specs.declared.expansion.Piece.{Piece}
 use Rattle.decision.specs.declared.expansion.Block.{Block}
 use Rattle.decision.specs.declared.expansion.Block.the-variants.{Zero, One, Single, Dot, Triple, Cross}
 use Rattle.decision.specs.Monomials.{Monomial}
-use Rattle.decision.specs.Memory.{none, tabulated, monomials}
+use Rattle.decision.specs.Memory.{none, monomials}
 use Rattle.decision.specs.Expansion.{digitOf, signOf, crossPiece, pieceAt, countOf, pieces, timesPiece, timesPieces, timesBlock, PieceSmall, PieceFit, Modest, Small, Spreading, Spread, Multiplying, Multiplied}
-use Rattle.decision.proofs.Bytes.{length-tabulated, getD-tabulated, length-monomials}
-
--- ════ a part of a list written over
-
-module _ (l xs : List Monomial) (at : ℕ) (h : at ≤ length l) where
-  -- an element before it stands
-  getD-before : (j : ℕ) → j < at → getD (over l at xs) j none ≡ getD l j none
-  getD-before j k =
-      sym (getD-take (suc j) (over l at xs) j none (N.le-refl (suc j))) ∙ ap (λ (m : List Monomial). getD m j none) (take-over (suc j) l at xs k h)
-      ∙ getD-take (suc j) l j none (N.le-refl (suc j))
-
-  -- and one behind it
-  getD-behind : (j : ℕ) → at + length xs ≤ j → getD (over l at xs) j none ≡ getD l j none
-  getD-behind j k =
-      let e : j + 0 ≡ j = omega arith in
-      ap (λ (i : ℕ). getD (over l at xs) i none) (sym e) ∙ sym (getD-drop j (over l at xs) 0 none) ∙ ap (λ (m : List Monomial). getD m 0 none) (drop-over j l at xs k h)
-      ∙ getD-drop j l 0 none ∙ ap (λ (i : ℕ). getD l i none) e
-
-  -- one more element
-  over-more : (x : Monomial) → at + length xs < length l → set (over l at xs) (at + length xs) x ≡ over l at (xs ++ x ∷ [])
-  over-more x k =
-      set-over (over l at xs) (at + length xs) x (omega (arith, length-over l at xs (omega arith))) ∙ over-append l at xs (x ∷ []) h
-
-  -- what is written before
-  over-front : (ys : List Monomial) → at + length xs ≤ length l → over (over l (at + length xs) ys) at xs ≡ over l at (xs ++ ys)
-  unfolding over
-  over-front ys k =
-      let t : take at (over l (at + length xs) ys) ≡ take at l = take-over at l (at + length xs) ys (omega arith) k in
-      let d : drop (at + length xs) (over l (at + length xs) ys) ≡ ys ++ drop (at + length xs + length ys) l = drop-over-start l (at + length xs) ys k in
-      let e : at + length xs + length ys ≡ at + length (xs ++ ys) = omega (arith, length-append xs ys) in
-      ap₂ (λ (p q : List Monomial). p ++ xs ++ q) t d
-      ∙ sym (append-assoc (take at l ++ xs) ys (drop (at + length xs + length ys) l))
-      ∙ ap₂ (λ (p : List Monomial) (i : ℕ). p ++ drop i l) (append-assoc (take at l) xs ys) e
-
--- so many from a place on
-pub window : (l : List Monomial) (s n : ℕ) → s + n ≤ length l → take n (drop s l) ≡ drop s (take (s + n) l)
-window l s n h = sym (ap (drop s) (take-add s n l) ∙ drop-at (take s l) (take n (drop s l)) s (length-take-le s l (omega arith)))
-
-window-before : (l xs : List Monomial) (at s n : ℕ) → at ≤ length l → s + n ≤ at → at + length xs ≤ length l → take n (drop s (over l at xs)) ≡ take n (drop s l)
-window-before l xs at s n h k f =
-    window (over l at xs) s n (omega (arith, length-over l at xs f)) ∙ ap (drop s) (take-over (s + n) l at xs k h) ∙ sym (window l s n (omega arith))
-
-length-window : (l : List Monomial) (s n : ℕ) → s + n ≤ length l → length (take n (drop s l)) ≡ n
-length-window l s n h = length-take-le n (drop s l) (omega (arith, length-drop s l))
+use Rattle.decision.proofs.Bytes.{length-monomials}
 
 -- ════ monomials times a product
 
@@ -93,8 +51,8 @@ module _ (from n to : ℕ) (p : Piece) (ms : List Monomial) (w : Spreading from 
       unwritten = ap (λ (l : List Monomial). getD l (from + i) none) is ∙ go (w .apart)
         where
           go : (from ≡ to) ⊎ (from + n ≤ to) → getD (over ms to (written i)) (from + i) none ≡ getD ms (from + i) none
-          go (inl e) = getD-behind ms (written i) to (omega (arith, w .there)) (from + i) (omega (arith, length-written i (omega arith)))
-          go (inr k) = getD-before ms (written i) to (omega (arith, w .there)) (from + i) (omega arith)
+          go (inl e) = getD-behind ms to (written i) (from + i) none (omega (arith, length-written i (omega arith))) (omega (arith, w .there))
+          go (inr k) = getD-before ms to (written i) (from + i) none (omega arith) (omega (arith, w .there))
 
       pub spread-fits : PieceFit p (getD ns (from + i) none)
       spread-fits =
@@ -115,7 +73,7 @@ module _ (from n to : ℕ) (p : Piece) (ms : List Monomial) (w : Spreading from 
           ∙ ap (λ (m : Monomial). written i ++ timesPiece p m ∷ []) (getD-drop from ms i none) in
           e ∙ ap₂ (λ (l : List Monomial) (m : Monomial). set l (to + i) (timesPiece p m)) is g
           ∙ ap (λ (j : ℕ). set (over ms to (written i)) j x) (sym k)
-          ∙ over-more ms (written i) to (omega (arith, w .there)) x (omega (arith, length-written i (omega arith), w .there))
+          ∙ over-more ms to (written i) x (omega (arith, length-written i (omega arith), w .there))
           ∙ ap (over ms to) (sym more)
 
   pub spread-starts : ms ≡ over ms to (written 0)
@@ -148,15 +106,6 @@ module _ where
   piece-small (Dot l m) j s h = record { first = digit-small l j (s .0) h; second = digit-small m j (s .1) h; third = omega arith; unit = N.le-refl 1 }
   piece-small (Triple l m k) j s h = cross-small l m (j / 2) (j % 2) (digitOf k (j / 2)) (s .0) (s .1) (digit-small k (j / 2) (s .2) (omega arith))
   piece-small (Cross l m i) j s h = cross-small l m i j 0 (s .0) (s .1) (omega arith)
-
-pub few-products : (f : Block) → countOf f ≤ 6
-unfolding countOf
-few-products Zero = omega arith
-few-products One = omega arith
-few-products (Single l i) = omega arith
-few-products (Dot l m) = omega arith
-few-products (Triple l m k) = omega arith
-few-products (Cross l m i) = omega arith
 
 module _ (start n : ℕ) (f : Block) (ms : List Monomial) (w : Multiplying start n f ms) where
   abbrev layer : List Monomial
@@ -214,7 +163,7 @@ module _ (start n : ℕ) (f : Block) (ms : List Monomial) (w : Multiplying start
     pub same-layer : take n (drop start ns) ≡ layer
     same-layer =
         ap (λ (x : List Monomial). take n (drop start x)) is
-        ∙ window-before ms (left (j + 1)) (start + (j + 1) * n) start n (most (j + 1) (omega arith)) (omega (arith, N.add-mul j 1 n)) ends
+        ∙ window-before ms (start + (j + 1) * n) (left (j + 1)) start n (omega (arith, N.add-mul j 1 n)) ends
 
     pub spreadable : Spreading start n (start + j * n) (pieceAt f j) ns
     spreadable =
@@ -236,7 +185,7 @@ module _ (start n : ℕ) (f : Block) (ms : List Monomial) (w : Multiplying start
         let at : start + (j + 1) * n ≡ start + j * n + length xs = omega (arith, N.add-mul j 1 n, size) in
         s .is ∙ ap (λ (x : List Monomial). over ns (start + j * n) (map (timesPiece (pieceAt f j)) x)) same-layer
         ∙ ap (λ (x : List Monomial). over x (start + j * n) xs) (is ∙ ap₂ (λ (a i : ℕ). over ms a (left i)) at (add-one j))
-        ∙ over-front ms xs (start + j * n) (most j (omega arith)) (left (suc j)) (omega (arith, most (j + 1) (omega arith)))
+        ∙ over-front ms (start + j * n) xs (left (suc j)) (omega (arith, most (j + 1) (omega arith)))
         ∙ ap (over ms (start + j * n)) (sym (left-on j l))
 
   pub multiply-ends : (ns : List Monomial) (m r : ℕ) → ns ≡ over ms (start + 0 * n) (left 0) → m ≡ countOf f → r ≡ m * n → Multiplied start n f r ms ns

@@ -2,7 +2,6 @@
 pub mod Keys
 pub mod Monomials
 pub mod Survival
-pub mod Bits64
 pub mod Bytes
 pub mod Digits
 pub mod Turns

@@ -13,6 +13,7 @@ use lib.IntN.{ℤ, pos, negsuc, natAbs, _+ℤ_, _*ℤ_}
 use lib.IntN as I
 use Rattle.algebra.specs.Integers.{NonZero, pos-nonzero, negsuc-nonzero, natAbs-+ℤ, natAbs-*ℤ}
 use Rattle.algebra.specs.Integers as R
+use Rattle.algebra.specs.Conditions.{eq-or-ne}
 use Rattle.specification.specs.Results.{if_then_else_}
 use Rattle.specification.specs.Terms.{isZero}
 use Rattle.theory.specs.Elements.{All, all-map}
@@ -34,11 +35,11 @@ coefficient (pos (suc n)) = isNot (pos-nonzero n) refl
 coefficient (negsuc n) = isNot (negsuc-nonzero n) refl
 
 module _ (m : Monomial) (ms : List Monomial) where
-  kept-null : isZero (m .coef) ≡ true → kept m ms ≡ ms
+  pub kept-null : isZero (m .coef) ≡ true → kept m ms ≡ ms
   unfolding kept
   kept-null e = rw e
 
-  kept-not : isZero (m .coef) ≡ false → kept m ms ≡ m ∷ ms
+  pub kept-not : isZero (m .coef) ≡ false → kept m ms ≡ m ∷ ms
   unfolding kept
   kept-not e = rw e
 
@@ -60,14 +61,6 @@ module _ (m r : Monomial) (rs : List Monomial) where
       go true h = absurd (h refl)
       go false h = refl
 
--- equal keys or not
-same-or-not : (a b : ℕ) → (a ≡ b) ⊎ ¬ (a ≡ b)
-same-or-not a b = go (eqb a b) refl
-  where
-    go : (t : Bool) → eqb a b ≡ t → (a ≡ b) ⊎ ¬ (a ≡ b)
-    go true e = inl (eqb-true a b e)
-    go false e = inr (eqb-false a b e)
-
 -- ════ values
 
 module _ (w : ℕ → ℤ) where
@@ -83,7 +76,7 @@ module _ (w : ℕ → ℤ) where
   unfolding onto weigh
   onto-weigh m [] = kept-weigh m []
   onto-weigh m (r ∷ rs) =
-      go (same-or-not (m .key) (r .key)) (onto-weigh (record { key = m .key; coef = m .coef +ℤ r .coef }) rs) (onto-weigh r rs)
+      go (eq-or-ne (m .key) (r .key)) (onto-weigh (record { key = m .key; coef = m .coef +ℤ r .coef }) rs) (onto-weigh r rs)
     where
       go : (m .key ≡ r .key) ⊎ ¬ (m .key ≡ r .key)
           → weigh w (onto (record { key = m .key; coef = m .coef +ℤ r .coef }) rs) ≡ (m .coef +ℤ r .coef) *ℤ w (m .key) +ℤ weigh w rs
@@ -140,7 +133,7 @@ module _ (w : ℕ → ℕ) where
   unfolding onto size
   onto-size m [] = kept-size m []
   onto-size m (r ∷ rs) =
-      go (same-or-not (m .key) (r .key)) (onto-size (record { key = m .key; coef = m .coef +ℤ r .coef }) rs) (onto-size r rs)
+      go (eq-or-ne (m .key) (r .key)) (onto-size (record { key = m .key; coef = m .coef +ℤ r .coef }) rs) (onto-size r rs)
     where
       go : (m .key ≡ r .key) ⊎ ¬ (m .key ≡ r .key)
           → size w (onto (record { key = m .key; coef = m .coef +ℤ r .coef }) rs) ≤ natAbs (m .coef +ℤ r .coef) * w (m .key) + size w rs
@@ -185,7 +178,7 @@ onto-rising low m [] l s = go (coefficient (m .coef))
     go (isNull e z) = rw (kept-null m [] z) tt
     go (isNot h z) = rw (kept-not m [] z) (l, h, tt)
 onto-rising low m (r ∷ rs) l s =
-    go (same-or-not (m .key) (r .key)) (coefficient (m .coef))
+    go (eq-or-ne (m .key) (r .key)) (coefficient (m .coef))
     (onto-rising low (record { key = m .key; coef = m .coef +ℤ r .coef }) rs l)
     (λ low′ h. onto-rising low′ r rs h (s .1))
   where
@@ -212,10 +205,6 @@ reduced-weakly d v o low [] r a s = tt
 reduced-weakly d v o low (m ∷ ms) r a s =
     (rest-mono d o 8 low (m .key) r (a .0) (omega (arith, s .0)), reduced-weakly d v o (m .key) ms (a .0) (a .1) (s .2))
 
-weakly-zero : (low : ℕ) (ms : List Monomial) → Weakly low ms → Weakly 0 ms
-weakly-zero low [] s = tt
-weakly-zero low (m ∷ ms) s = (omega arith, s .1)
-
 -- putting a number for the lowest variable keeps the order
 pub substituted-rising : (d v : ℕ) → 1 ≤ d → (ms : List Monomial) → AllOrdered d ms → Rising 0 ms → Rising 0 (substituted d v ms)
 unfolding substituted reduced
@@ -240,7 +229,7 @@ module _ (P : ℕ → Type 0) where
   unfolding onto
   onto-keys m [] h a = kept-keys m [] h tt
   onto-keys m (r ∷ rs) h a =
-      go (same-or-not (m .key) (r .key)) (onto-keys (record { key = m .key; coef = m .coef +ℤ r .coef }) rs h (a .1)) (onto-keys r rs (a .0) (a .1))
+      go (eq-or-ne (m .key) (r .key)) (onto-keys (record { key = m .key; coef = m .coef +ℤ r .coef }) rs h (a .1)) (onto-keys r rs (a .0) (a .1))
     where
       go : (m .key ≡ r .key) ⊎ ¬ (m .key ≡ r .key) → Keys (onto (record { key = m .key; coef = m .coef +ℤ r .coef }) rs) → Keys (onto r rs) → Keys (onto m (r ∷ rs))
       go (inl e) p q = rw (onto-like m r rs e) p

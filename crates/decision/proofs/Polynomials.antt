@@ -87,11 +87,27 @@ turn p f c g =
     solve (var 0 ⊗ (var 1 ⊗ (var 2 ⊗ var 3))) (var 3 ⊗ (var 2 ⊗ var 1 ⊗ var 0))
     (nine (record { x = p; y = f; z = c }) (record { x = g; y = g; z = g }) (record { x = g; y = g; z = g })) refl
 
-component-zero : (i : ℕ) → component i (scalarValue (pos 0)) ≡ pos 0
+-- ════ a component of a vector
+
+pub component-zero : (i : ℕ) → component i (scalarValue (pos 0)) ≡ pos 0
 unfolding component
 component-zero zero = refl
 component-zero (suc zero) = refl
 component-zero (suc (suc i)) = refl
+
+component-times : (i : ℕ) (k : ℤ) (v : Vec) → component i (k • v) ≡ k *ℤ component i v
+unfolding component
+component-times zero k v = refl
+component-times (suc zero) k v = refl
+component-times (suc (suc i)) k v = refl
+
+pub component-plus : (i : ℕ) (u v : Vec) → component i (u +v v) ≡ component i u +ℤ component i v
+unfolding component
+component-plus zero u v = refl
+component-plus (suc zero) u v = refl
+component-plus (suc (suc i)) u v = refl
+
+-- ════ keys
 
 -- the key 0 has no variables
 tally-none : (f : ℕ → ℕ) (n : ℕ) → f 0 ≡ 0 → tally f n 0 ≡ 0
@@ -200,18 +216,6 @@ module _ (table : List ℕ) (τ : ℕ → Vec) where
     has-more v s v′ s′ h g [] a = tt
     has-more v s v′ s′ h g (m ∷ ms) a =
         (record { ordered = a .0 .ordered; vectors = N.le-trans (a .0 .vectors) h; scalars = N.le-trans (a .0 .scalars) g; known = a .0 .known }, has-more v s v′ s′ h g ms (a .1))
-
-    component-times : (i : ℕ) (k : ℤ) (v : Vec) → component i (k • v) ≡ k *ℤ component i v
-    unfolding component
-    component-times zero k v = refl
-    component-times (suc zero) k v = refl
-    component-times (suc (suc i)) k v = refl
-
-    component-plus : (i : ℕ) (u v : Vec) → component i (u +v v) ≡ component i u +ℤ component i v
-    unfolding component
-    component-plus zero u v = refl
-    component-plus (suc zero) u v = refl
-    component-plus (suc (suc i)) u v = refl
 
     term-all : (i : ℕ) (sign : ℤ) (t : S.Term) → i < 3 → {kind : ℕ} → Fits kind (monomial t) → MonomialKnown table (monomial t)
         → (total σ (expandTerm i sign t) ≡ sign *ℤ component i (termValue τ t)) × AllHas table 6 2 (expandTerm i sign t)

@@ -5,7 +5,6 @@ use mathlib.Core.Logic.{_⊎_, inl, inr}
 use mathlib.Core.List.{List, [], _∷_}
 use Prim.Native.Nat.{ℕ, zero, suc, _+_, _-_, _*_, _/_, _%_, _≤_, _<_}
 use native.Mathlib.Nat as N
-use native.Mathlib.Numerals.{add-one}
 use native.Mathlib.Omega.{arith}
 use lib.Dec.{T, leb, eqb}
 use borrow.Author.Tests.{eq-eqb, ne-eqb, eqb-true, le-leb, lt-ltb}
@@ -17,16 +16,17 @@ use Rattle.specification.specs.Results.{if_then_else_}
 use Rattle.specification.specs.Lists.{each, all}
 use Rattle.specification.specs.Letters.{scalar, vector, kindOf}
 use Rattle.specification.specs.Records.{partFits}
-use Rattle.specification.specs.Values.{Vec, scalarValue, _•_, _+v_}
+use Rattle.specification.specs.Values.{Vec, scalarValue, _•_}
 use Rattle.specification.specs.Terms as S
 use Rattle.specification.specs.Evaluation.{signedByte, assignment, partValue, termValue, termsValue, value, factorsValue}
 use Rattle.specification.specs.Decision.{letterInRange, Holds, Differs}
-use Rattle.theory.specs.Elements.{All, all-T, T-all, T-each}
+use Rattle.theory.specs.Elements.{All, all-T, T-each}
 use Rattle.theory.specs.Values.Vectors.{by-components}
 use Rattle.theory.specs.Shape.Terms.{term-opens, kindOfPart}
 use Rattle.theory.specs.Shape.Letters.{Known, FactorKnown, AllKnown, known-is, terms-known}
 use Rattle.terms.specs.declared.types.Form.{Form}
 use Rattle.terms.specs.Abstraction.{formOf}
+use Rattle.terms.specs.Valid.{FormValid}
 use Rattle.decision.specs.Monomials.{Monomial, weigh, total, isSome}
 use Rattle.decision.specs.Memory.{monomials}
 use Rattle.decision.specs.Expansion.{Below, TermBelow, difference, Comparable, Compared}
@@ -35,8 +35,8 @@ use Rattle.decision.specs.Values.{component, variables}
 use Rattle.decision.specs.Answers.{Decidable}
 use Rattle.decision.proofs.Bytes.{length-monomials}
 use Rattle.decision.proofs.Contents.{AllHas}
-use Rattle.decision.proofs.Polynomials.{Sound, difference-value}
-use Rattle.decision.proofs.Differences.{few-all, all-modest}
+use Rattle.decision.proofs.Polynomials.{component-zero, component-plus, Sound, difference-value}
+use Rattle.decision.proofs.Differences.{in-shape, few-all, all-modest}
 use Rattle.decision.proofs.Gathered.{gathered-value, gathered-polynomial}
 
 -- ════ assignments in bytes
@@ -95,22 +95,6 @@ variable-value b x h = go (x % 3) refl (omega arith)
 
 -- ════ scalar forms
 
-component-none : (i : ℕ) → component (suc i) (scalarValue (pos 0)) ≡ pos 0
-unfolding component
-component-none zero = refl
-component-none (suc i) = refl
-
-component-sum : (i : ℕ) (u v : Vec) → component (suc i) (u +v v) ≡ component (suc i) u +ℤ component (suc i) v
-unfolding component
-component-sum zero u v = refl
-component-sum (suc i) u v = refl
-
-first-T : {A : Type 0} (f : A → Bool) (x : A) (xs : List A) → T (all f (x ∷ xs)) → T (f x)
-first-T f x xs h = all-T f (x ∷ xs) h .0
-
-rest-T : {A : Type 0} (f : A → Bool) (x : A) (xs : List A) → T (all f (x ∷ xs)) → T (all f xs)
-rest-T f x xs h = T-all f xs (all-T f (x ∷ xs) h .1)
-
 no-part : (τ : ℕ → Vec) (i : ℕ) (t : S.Term) → T (partFits 0 t) → component (suc i) (termValue τ t) ≡ pos 0
 unfolding termValue partValue component partFits S.termKind
 no-part τ i t h =
@@ -126,11 +110,16 @@ no-part τ i t h =
     none (suc i) k = I.*ℤ-zero k
 
 -- the second and third component of terms without a vector part are 0
-no-parts : (τ : ℕ → Vec) (i : ℕ) (ts : List S.Term) → T (all (partFits 0) ts) → component (suc i) (termsValue τ ts) ≡ pos 0
+no-parts : (τ : ℕ → Vec) (i : ℕ) (ts : List S.Term) → All (λ (t : S.Term). T (partFits 0 t)) ts → component (suc i) (termsValue τ ts) ≡ pos 0
 unfolding termsValue
-no-parts τ i [] h = component-none i
+no-parts τ i [] h = component-zero (suc i)
 no-parts τ i (t ∷ ts) h =
-    component-sum i (termValue τ t) (termsValue τ ts) ∙ ap₂ (λ (x y : ℤ). x +ℤ y) (no-part τ i t (first-T (partFits 0) t ts h)) (no-parts τ i ts (rest-T (partFits 0) t ts h))
+    component-plus (suc i) (termValue τ t) (termsValue τ ts) ∙ ap₂ (λ (x y : ℤ). x +ℤ y) (no-part τ i t (h .0)) (no-parts τ i ts (h .1))
+
+-- the terms of a scalar form have none
+scalars : (f : Form) → FormValid f → f .kind ≡ 0 → All (λ (t : S.Term). T (partFits 0 t)) (formOf f .terms)
+unfolding formOf
+scalars f v e = all-T (partFits 0) (formOf f .terms) (subst (λ (y : ℕ). T (all (partFits y) (formOf f .terms))) e (v .inShape .parts))
 
 -- ════ two forms
 
@@ -153,9 +142,9 @@ module _ (table : List ℕ) (f g : Form) (buffer work : List ℕ) (w : Decidable
   terms-below [] k = tt
   terms-below (t ∷ ts) k = (record { factors = factors-below (t .factors) (k .0 .factors); part = letters-below vector (t .part) (k .0 .part) }, terms-below ts (k .1))
 
-  sound : (τ : ℕ → Vec) (ts : List S.Term) → T (all S.termInShape ts) → AllKnown table ts → All (Sound table τ (w .letters)) ts
+  sound : (τ : ℕ → Vec) (ts : List S.Term) → All (λ (t : S.Term). T (S.termInShape t)) ts → AllKnown table ts → All (Sound table τ (w .letters)) ts
   sound τ [] h k = tt
-  sound τ (t ∷ ts) h k = (((kindOfPart (t .part), term-opens t (first-T S.termInShape t ts h) .fits), k .0), sound τ ts (rest-T S.termInShape t ts h) (k .1))
+  sound τ (t ∷ ts) h k = (((kindOfPart (t .part), term-opens t (h .0) .fits), k .0), sound τ ts (h .1) (k .1))
 
   firsts : AllKnown table (formOf f .terms)
   firsts = terms-known table (formOf f .terms) (w .testedFirst)
@@ -168,7 +157,7 @@ module _ (table : List ℕ) (f g : Form) (buffer work : List ℕ) (w : Decidable
 
   values : (τ : ℕ → Vec) (i : ℕ) → i < 3 → (total (variables τ) (es i) ≡ component i (value τ (formOf f)) -ℤ component i (value τ (formOf g))) × AllHas table 6 2 (es i)
   values τ i h =
-      difference-value table τ (w .letters) i (formOf f) (formOf g) h (sound τ (formOf f .terms) (w .validFirst .inShape .terms) firsts) (sound τ (formOf g .terms) (w .validSecond .inShape .terms) seconds)
+      difference-value table τ (w .letters) i (formOf f) (formOf g) h (sound τ (formOf f .terms) (in-shape f (w .validFirst)) firsts) (sound τ (formOf g .terms) (in-shape g (w .validSecond)) seconds)
 
   module _ (now : List ℕ) (same : length now ≡ length work) (i : ℕ) (h : i < 3) where
     pub compare-asks : Comparable f g i (monomials now)
@@ -200,10 +189,7 @@ module _ (table : List ℕ) (f g : Form) (buffer work : List ℕ) (w : Decidable
         few = omega (arith, c .few, c .same, few-all f g i (monomials now) compare-asks, length-monomials now, w .workRoom, same)
 
         some : isSome (take r ns) ≡ true
-        some = go r ns l few
-          where
-            go : (k : ℕ) (l : List Monomial) → 0 < k → k ≤ length l → isSome (take k l) ≡ true
-            go k l p q = some-left k l p q
+        some = some-left r ns l few
 
         pub eliminate-asks : Eliminable table r ns b
         eliminate-asks =
@@ -238,8 +224,7 @@ module _ (table : List ℕ) (f g : Form) (buffer work : List ℕ) (w : Decidable
         go : ((m ≡ 1) × (f .kind ≡ 0)) ⊎ (m ≡ 3) → component (suc i) (value τ (formOf f)) ≡ component (suc i) (value τ (formOf g))
         go (inr e) = same-component τ (suc i) h (omega arith)
         go (inl e) =
-            no-parts τ i (formOf f .terms) (subst (λ (y : ℕ). T (all (partFits y) (formOf f .terms))) (e .1) (w .validFirst .inShape .parts))
-            ∙ sym (no-parts τ i (formOf g .terms) (subst (λ (y : ℕ). T (all (partFits y) (formOf g .terms))) (sym (w .kinds) ∙ e .1) (w .validSecond .inShape .parts)))
+            no-parts τ i (formOf f .terms) (scalars f (w .validFirst) (e .1)) ∙ sym (no-parts τ i (formOf g .terms) (scalars g (w .validSecond) (sym (w .kinds) ∙ e .1)))
 
     first-component : (τ : ℕ → Vec) → component 0 (value τ (formOf f)) ≡ component 0 (value τ (formOf g))
     first-component τ = same-component τ 0 (omega arith) (go k)
@@ -252,15 +237,7 @@ module _ (table : List ℕ) (f g : Form) (buffer work : List ℕ) (w : Decidable
     unfolding component
     equal b e = record { equal = λ τ. by-components (first-component τ) (other-component τ 0 (omega arith)) (other-component τ 1 (omega arith)); bufferStands = e }
 
--- components checked so far
-pub zero-more : (P : ℕ → Type 0) (i : ℕ) → ((j : ℕ) → j < i → P j) → P i → (j : ℕ) → j < i + 1 → P j
-zero-more P i h p j l =
-    elim (N.eq-or-lt-of-le (N.le-of-suc-le-suc (N.le-trans l (N.le-of-eq (add-one i))))) [ inl q ↦ subst P (sym q) p | inr q ↦ h j q ]
-
 -- there are at most three components
 pub three : {m i k : ℕ} → ((m ≡ 1) × (k ≡ 0)) ⊎ (m ≡ 3) → i < m → i < 3
 three (inl e) l = omega (arith, e .0)
 three (inr e) l = omega arith
-
-pub all-zero : {P : ℕ → Type 0} {i m : ℕ} → ((j : ℕ) → j < i → P j) → m ≤ i → (j : ℕ) → j < m → P j
-all-zero h l j k = h j (N.le-trans k l)

@@ -9,8 +9,9 @@ use native.Mathlib.Omega.{arith}
 use borrow.Author.Tests.{eq-eqb, ne-eqb, le-leb, lt-leb}
 use lib.IntN.{ℤ, pos, natAbs, _+ℤ_, _*ℤ_}
 use lib.ListN.{length, getD, take, drop, set, length-set}
-use lib.Seq.{take-suc-set, drop-set-lt, drop-drop, getD-drop}
+use lib.Seq.{take-suc-set, drop-set-lt, getD-drop}
 use Rattle.algebra.specs.Integers.{natAbs-+ℤ, natAbs-*ℤ}
+use Rattle.algebra.specs.Lists.{drop-further}
 use Rattle.specification.specs.Terms.{isZero}
 use Rattle.terms.proofs.Arrays.{rest-at, nothing-left}
 use Rattle.decision.specs.declared.passes.Single.{Single}
@@ -18,7 +19,7 @@ use Rattle.decision.specs.Keys.{rest, exponent, lowest}
 use Rattle.decision.specs.Monomials.{Monomial, size, mass, kept, onto, likeAdded, reduced, substituted, isSome}
 use Rattle.decision.specs.Memory.{mono, none}
 use Rattle.decision.specs.Passes.{singleOf, Fit, Kept, Substituted, lesserOf, leastFrom}
-use Rattle.decision.proofs.Monomials.{onto-like, onto-apart}
+use Rattle.decision.proofs.Monomials.{kept-null, kept-not, onto-like, onto-apart}
 use Rattle.decision.proofs.Digits.{exponent-few}
 
 -- ════ a monomial reduced
@@ -38,22 +39,13 @@ module _ (d v key : ℕ) (y p : ℤ) (e : ℕ) (x : Monomial) (k : key ≡ x .ke
 
 -- ════ the monomials not read yet
 
--- a monomial that is kept, or not
-kept-zero : (m : Monomial) (ms : List Monomial) → isZero (m .coef) ≡ true → kept m ms ≡ ms
-unfolding kept
-kept-zero m ms e = rw e
-
-kept-some : (m : Monomial) (ms : List Monomial) → isZero (m .coef) ≡ false → kept m ms ≡ m ∷ ms
-unfolding kept
-kept-some m ms e = rw e
-
 -- kept in front is kept alone, and the others behind
 kept-front : (m : Monomial) (ms : List Monomial) → kept m ms ≡ kept m [] ++ ms
 kept-front m ms = go (isZero (m .coef)) refl
   where
     go : (b : Bool) → isZero (m .coef) ≡ b → kept m ms ≡ kept m [] ++ ms
-    go true e = rw (kept-zero m ms e, kept-zero m [] e)
-    go false e = rw (kept-some m ms e, kept-some m [] e)
+    go true e = rw (kept-null m ms e, kept-null m [] e)
+    go false e = rw (kept-not m ms e, kept-not m [] e)
 
 -- what is known in a pass: key and c are added up so far, and the monomials from i on are not read yet
 pub record Passing (d v : ℕ) (ms : List Monomial) (front : List Monomial) (i key : ℕ) (c : ℤ) : Type 0 where
@@ -126,14 +118,14 @@ module _ (d v : ℕ) (ms : List Monomial) (n : ℕ) (h : n ≤ length ms) where
           }
 
       pub turn-zero : ¬ (s .key ≡ key) → isZero c ≡ true → Passing d v (take n ms) front (i + 1) (s .key) u
-      turn-zero p z = turn-apart front p (sym (ap (λ (y : List Monomial). front ++ y) (kept-zero (mono key c) [] z) ∙ append-nil front))
+      turn-zero p z = turn-apart front p (sym (ap (λ (y : List Monomial). front ++ y) (kept-null (mono key c) [] z) ∙ append-nil front))
 
       -- one is left in front
       pub turn-some : ¬ (s .key ≡ key) → isZero c ≡ false → front ≡ [] → true ≡ isSome (substituted d v (take n ms))
       unfolding isSome
       turn-some p z r =
           let a = onto-apart (mono key c) (mono (s .key) u) (map (reduced d v) (drop (i + 1) (take n ms))) (λ y. p (sym y)) in
-          ap isSome (sym (kept-some (mono key c) _ z) ∙ sym a ∙ ap (λ (y : List Monomial). y ++ onto (mono key c) (mono (s .key) u ∷ map (reduced d v) (drop (i + 1) (take n ms)))) (sym r) ∙ unread)
+          ap isSome (sym (kept-not (mono key c) _ z) ∙ sym a ∙ ap (λ (y : List Monomial). y ++ onto (mono key c) (mono (s .key) u ∷ map (reduced d v) (drop (i + 1) (take n ms)))) (sym r) ∙ unread)
 
   -- all are read
   module _ (i : ℕ) (l : n ≤ i) (front : List Monomial) (key : ℕ) (c : ℤ) (w : Passing d v (take n ms) front i key c) where
@@ -146,8 +138,8 @@ module _ (d v : ℕ) (ms : List Monomial) (n : ℕ) (h : n ≤ length ms) where
     ends-some r = go (isZero c) refl ∙ ap isSome (ap (λ (y : List Monomial). y ++ kept (mono key c) []) (sym r) ∙ pass-ends)
       where
         go : (b : Bool) → isZero c ≡ b → not b ≡ isSome (kept (mono key c) [])
-        go true z = ap isSome (sym (kept-zero (mono key c) [] z))
-        go false z = ap isSome (sym (kept-some (mono key c) [] z))
+        go true z = ap isSome (sym (kept-null (mono key c) [] z))
+        go false z = ap isSome (sym (kept-not (mono key c) [] z))
 
 -- nothing to read
 pub none-left : (d v : ℕ) (ms : List Monomial) → substituted d v (take 0 ms) ≡ []
@@ -162,13 +154,13 @@ none-some d v n ms e = ap (λ (k : ℕ). isSome (substituted d v (take k ms))) (
 
 pub keep-none : (j key : ℕ) (coef : ℤ) (ms : List Monomial) → isZero coef ≡ true → Kept j key coef j ms ms
 keep-none j key coef ms e =
-    record { front = sym (ap (λ (y : List Monomial). take j ms ++ y) (kept-zero (mono key coef) [] e) ∙ append-nil (take j ms)); behind = refl; few = omega arith; count = refl }
+    record { front = sym (ap (λ (y : List Monomial). take j ms ++ y) (kept-null (mono key coef) [] e) ∙ append-nil (take j ms)); behind = refl; few = omega arith; count = refl }
 
 pub keep-one : (j key : ℕ) (coef : ℤ) (ms ns : List Monomial) → j < length ms → isZero coef ≡ false → (z : ℤ) → z ≡ coef → ns ≡ set ms j (mono key z) → Kept j key coef (j + 1) ms ns
 keep-one j key coef ms ns h e z g q =
     let p : ns ≡ set ms j (mono key coef) = q ∙ ap (λ (y : ℤ). set ms j (mono key y)) g in
     record {
-      front = rw (p, add-one) (take-suc-set ms j (mono key coef) h ∙ ap (λ (y : List Monomial). take j ms ++ y) (sym (kept-some (mono key coef) [] e)));
+      front = rw (p, add-one) (take-suc-set ms j (mono key coef) h ∙ ap (λ (y : List Monomial). take j ms ++ y) (sym (kept-not (mono key coef) [] e)));
       behind = rw p (drop-set-lt (j + 1) ms j (mono key coef) (omega arith));
       few = N.le-refl (j + 1);
       count = ap length p ∙ length-set ms j (mono key coef);
@@ -193,10 +185,10 @@ unfolding lesserOf
 lesser-gt a b h g l = rw (ne-eqb a 0 h, ne-eqb b 0 g, lt-leb a b l)
 
 module _ (ms : List Monomial) (n : ℕ) (h : n ≤ length ms) where
-  pub least-more : (i d key e : ℕ) → i < n → leastFrom d (drop i (take n ms)) ≡ leastFrom 0 (take n ms) → key ≡ getD ms i none .key → (r : ℕ) → r ≡ lesserOf d (lowest 8 key)
+  pub least-more : (i d key : ℕ) → i < n → leastFrom d (drop i (take n ms)) ≡ leastFrom 0 (take n ms) → key ≡ getD ms i none .key → (r : ℕ) → r ≡ lesserOf d (lowest 8 key)
       → leastFrom r (drop (i + 1) (take n ms)) ≡ leastFrom 0 (take n ms)
   unfolding leastFrom
-  least-more i d key e l p q r z =
+  least-more i d key l p q r z =
       ap (λ (y : ℕ). leastFrom y (drop (i + 1) (take n ms))) (z ∙ ap (λ (k : ℕ). lesserOf d (lowest 8 k)) q)
       ∙ ap (leastFrom d) (sym (rest-at ms n i none h l)) ∙ p
 
@@ -213,11 +205,6 @@ pub record Writing (d v n : ℕ) (ms ns : List Monomial) (i j key : ℕ) (c : �
   pub before : j < i
   pub some : i ≤ n
   pub count : length ns ≡ length ms
-
-behind-more : (a b : ℕ) (l m : List Monomial) → a ≤ b → drop a l ≡ drop a m → drop b l ≡ drop b m
-behind-more a b l m h e =
-    let q : b ≡ a + (b - a) = omega arith in
-    rw (q, ← drop-drop (b - a) a l, ← drop-drop (b - a) a m, e)
 
 pub write-starts : (d v n : ℕ) (ms : List Monomial) (key : ℕ) (c : ℤ) → ¬ (n ≡ 0) → Passing d v (take n ms) [] 1 key c → Writing d v n ms ms 1 0 key c
 write-starts d v n ms key c o w = record { passing = w; unread = refl; before = omega arith; some = omega arith; count = refl }
@@ -251,7 +238,7 @@ module _ (d v n : ℕ) (ms ns : List Monomial) (h : n ≤ length ms) (i j key : 
       write-like c′ p r =
           record {
             passing = turn-like d v ms n h i l (take j ns) key c (w .passing) s e′ u q c′ p r;
-            unread = behind-more i (i + 1) ns ms (omega arith) (w .unread);
+            unread = drop-further i (i + 1) ns ms (omega arith) (w .unread);
             before = omega (arith, w .before);
             some = omega arith;
             count = w .count;
@@ -261,7 +248,7 @@ module _ (d v n : ℕ) (ms ns : List Monomial) (h : n ≤ length ms) (i j key : 
       write-apart r os p k =
           record {
             passing = turn-apart d v ms n h i l (take j ns) key c (w .passing) s e′ u q (take r os) p (k .front);
-            unread = behind-more (j + 1) (i + 1) os ns (omega (arith, w .before)) (k .behind) ∙ behind-more i (i + 1) ns ms (omega arith) (w .unread);
+            unread = drop-further (j + 1) (i + 1) os ns (omega (arith, w .before)) (k .behind) ∙ drop-further i (i + 1) ns ms (omega arith) (w .unread);
             before = omega (arith, w .before, k .few);
             some = omega arith;
             count = k .count ∙ w .count;

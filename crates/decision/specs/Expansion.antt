@@ -6,6 +6,7 @@ use Prim.Native.Nat.{ℕ, zero, suc, _+_, _*_, _/_, _%_, _≤_, _<_}
 use lib.Dec.{eqb}
 use lib.IntN.{ℤ, pos, negsuc, natAbs, _*ℤ_}
 use lib.ListN.{length, getD, take, drop}
+use Rattle.algebra.specs.Lists.{tabulated}
 use Rattle.specification.specs.Results.{if_then_else_}
 use Rattle.specification.specs.Lists.{joined}
 use Rattle.specification.specs.Terms as S
@@ -21,7 +22,7 @@ use Rattle.decision.specs.declared.expansion.Block.the-variants.{Zero, O
 use Rattle.decision.specs.Keys.{timesDigit}
 use Rattle.decision.specs.Monomials.{Monomial, Weakly, substituted}
 use Rattle.decision.specs.Sorting.{Reordered}
-use Rattle.decision.specs.Memory.{mono, none, tabulated}
+use Rattle.decision.specs.Memory.{mono, none}
 
 -- ════ polynomials as lists of products
 

@@ -5,6 +5,7 @@ use lib.IntN.{ℤ, pos}
 use lib.ListN.{length, getD}
 use mir.Syntax.{w64}
 use mir.Val.{toZ}
+use Rattle.algebra.specs.Lists.{tabulated}
 use Rattle.decision.specs.Monomials.{Monomial}
 
 -- the n bytes of a number, the lowest first
@@ -34,11 +35,6 @@ none = mono 0 (pos 0)
 -- the monomial number i
 unfoldable pub monomialAt : (l : List ℕ) (i : ℕ) → Monomial
 monomialAt l i = mono (numberOf (eight l (16 * i))) (toZ w64 (numberOf (eight l (16 * i + 8))))
-
--- the values of a function at 0, 1, …, n − 1
-abbrev pub tabulated : {A : Type 0} (n : ℕ) (f : ℕ → A) → List A
-tabulated zero f = []
-tabulated (suc n) f = f 0 ∷ tabulated n (λ i. f (suc i))
 
 -- the monomials that the bytes are
 unfoldable pub monomials : (l : List ℕ) → List Monomial

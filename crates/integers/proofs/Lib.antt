@@ -1,5 +1,6 @@
--- What the proofs of this crate cite: Machine and Over are for its callers too.
+-- What the proofs of this crate cite: Machine, Over and Bits64 are for its callers too.
 pub mod Machine
 pub mod Over
+pub mod Bits64
 mod Bits
 mod Division

@@ -8,6 +8,7 @@ use native.Mathlib.Nat as N
 use native.Mathlib.Omega.{arith}
 use lib.Dec.{T}
 use lib.ListN.{length, getD}
+use Rattle.algebra.specs.Lists.{tabulated}
 use Rattle.specification.specs.Lists.{all, each}
 use Rattle.theory.specs.Tests.{and-both, and-split}
 
@@ -17,6 +18,7 @@ All P [] = Unit {0}
 All P (x ∷ xs) = P x × All P xs
 
 module _ {A : Type 0} where
+  -- two lists joined
   pub all-append : (P : A → Type 0) (xs ys : List A) → All P xs → All P ys → All P (xs ++ ys)
   all-append P [] ys h k = k
   all-append P (x ∷ xs) ys h k = (h .0, all-append P xs ys (h .1) k)
@@ -80,9 +82,20 @@ unfolding each
 T-each f zero h = tt
 T-each f (suc n) h = and-both (each n f) (f n) (T-each f n (λ i l. h i (omega arith))) (h n (N.le-refl (suc n)))
 
+-- what a function gives for each
 pub all-map : {A B : Type 0} (P : A → Type 0) (Q : B → Type 0) (f : A → B) → ((x : A) → P x → Q (f x)) → (xs : List A) → All P xs → All Q (map f xs)
 all-map P Q f g [] h = tt
 all-map P Q f g (x ∷ xs) h = (g x (h .0), all-map P Q f g xs (h .1))
+
+-- and back
+pub all-unmap : {A B : Type 0} (P : B → Type 0) (f : A → B) (xs : List A) → All P (map f xs) → All (λ (x : A). P (f x)) xs
+all-unmap P f [] h = tt
+all-unmap P f (x ∷ xs) h = (h .0, all-unmap P f xs (h .1))
+
+-- the values of a function
+pub all-tabulated : {A : Type 0} (P : A → Type 0) (n : ℕ) (f : ℕ → A) → ((i : ℕ) → i < n → P (f i)) → All P (tabulated n f)
+all-tabulated P zero f h = tt
+all-tabulated P (suc n) f h = (h 0 (omega arith), all-tabulated P n (λ i. f (suc i)) (λ i l. h (suc i) (omega arith)))
 
 -- what each element gives, one list behind the other
 pub all-flatMap : {A B : Type 0} (P : A → Type 0) (Q : B → Type 0) (f : A → List B) → ((x : A) → P x → All Q (f x)) → (xs : List A) → All P xs → All Q (flatMap f xs)

@@ -11,10 +11,11 @@ use mathlib.Core.Logic.{_⊎_, inl, inr, ⊎-elim}
 use native.Mathlib.Nat.{not-suc-le-zero}
 use lib.ListN.{length, drop}
 use lib.IntN.{ℤ, pos}
+use Rattle.algebra.specs.Numbers.{below-more, below-fewer}
 use Rattle.terms.specs.Abstraction.{formOf}
 use Rattle.decision.specs.Expansion.{difference}
 use Rattle.decision.specs.Monomials.{total}
-use Rattle.decision.proofs.Settling.{compare-asks, eliminate-asks, differs, none-left, equal, zero-more, three, all-zero}
+use Rattle.decision.proofs.Settling.{compare-asks, eliminate-asks, differs, none-left, equal, three}
 use Rattle.decision.proofs.settle.Statement.{statement}
 use Rattle.decision.proofs.settle.Tie as tie
 
@@ -56,7 +57,7 @@ loop-less : tie.Need-loop-less Inv-loop μ-loop
 loop-less c = omega arith
 
 loop-again : tie.Need-loop-again Inv-loop μ-loop
-loop-again c = ((c .before .before .before .before .before .before .loop .inv .0), c .before .before .before .compare .kept .0 ∙ (c .before .before .before .before .before .before .loop .inv .1), zero-more (λ (j : ℕ). (σ : ℕ → ℤ) → total σ (difference j _ _) ≡ pos 0) _ (c .before .before .before .before .before .before .loop .inv .2) (none-left _ _ _ _ _ (c .before .before .before .before .before .before .before .before .before .before .before .before .pre) _ (c .before .before .before .before .before .before .loop .inv .1) _ (three (c .before .before .before .before .before .before .loop .inv .3) (c .before .before .before .before .before .loop-test .taken)) _ _ (c .before .before .before .compare .ensures) (c .if2 .left)), (c .before .before .before .before .before .before .loop .inv .3))
+loop-again c = ((c .before .before .before .before .before .before .loop .inv .0), c .before .before .before .compare .kept .0 ∙ (c .before .before .before .before .before .before .loop .inv .1), below-more (λ (j : ℕ). (σ : ℕ → ℤ) → total σ (difference j _ _) ≡ pos 0) _ (c .before .before .before .before .before .before .loop .inv .2) (none-left _ _ _ _ _ (c .before .before .before .before .before .before .before .before .before .before .before .before .pre) _ (c .before .before .before .before .before .before .loop .inv .1) _ (three (c .before .before .before .before .before .before .loop .inv .3) (c .before .before .before .before .before .loop-test .taken)) _ _ (c .before .before .before .compare .ensures) (c .if2 .left)), (c .before .before .before .before .before .before .loop .inv .3))
 
 same-length-3 : tie.Need-same-length-3 Inv-loop μ-loop
 same-length-3 c = ap length (c .before .loop .inv .0)
@@ -66,7 +67,7 @@ same-length-4 c = (c .before .loop .inv .1)
 
 returns-2 : tie.Need-returns-2 Inv-loop μ-loop
 unfolding decisionOf DecidedBy
-returns-2 c = equal _ _ _ _ _ (c .before .before .before .before .before .before .before .pre) _ (c .before .loop .inv .3) (all-zero (c .before .loop .inv .2) (c .loop-test .left)) _ (c .before .loop .inv .0)
+returns-2 c = equal _ _ _ _ _ (c .before .before .before .before .before .before .before .pre) _ (c .before .loop .inv .3) (below-fewer (c .before .loop .inv .2) (c .loop-test .left)) _ (c .before .loop .inv .0)
 
 pub settle-spec : {M : Type 1} → statement M
 settle-spec =

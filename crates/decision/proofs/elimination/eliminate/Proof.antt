@@ -45,7 +45,7 @@ loop-less : tie.Need-loop-less Inv-loop μ-loop
 loop-less c = choose-falls _ _ _ _ _ _ (c .before .before .before .before .before .before .before .before .before .before .loop .inv .2) (c .before .before .before .before .before .before .before .before .before .loop-test .taken) _ (c .before .before .before .before .before .before .before .most .ensures) _ (c .before .before .before .before .before .before .first-number .ensures) (c .before .before .before .before .before .before .before .before .before .before .before .before .before .before .before .before .pre .room) (c .before .before .before .before .before .before .before .before .before .before .before .before .before .before .before .before .pre .letters) _ _ _ _ (c .before .before .before .before .substitute .ensures) refl _ (c .least2 .ensures)
 
 loop-again : tie.Need-loop-again Inv-loop μ-loop
-loop-again c = (c .before .before .before .before .substitute .kept .0 ∙ c .before .before .before .before .before .before .before .before .before .before .loop .inv .0, omega (arith, c .before .before .before .before .before .before .before .before .before .before .loop .inv .1, c .before .before .before .before .substitute .ensures .few, c .before .before .before .before .substitute .ensures .count), choose-on _ _ _ _ _ _ (c .before .before .before .before .before .before .before .before .before .before .loop .inv .2) (c .before .before .before .before .before .before .before .before .before .loop-test .taken) _ (c .before .before .before .before .before .before .before .most .ensures) _ (c .before .before .before .before .before .before .first-number .ensures) (c .before .before .before .before .before .before .before .before .before .before .before .before .before .before .before .before .pre .room) (c .before .before .before .before .before .before .before .before .before .before .before .before .before .before .before .before .pre .letters) _ 0 _ _ _ _ (c .before .before .before .before .substitute .ensures) refl refl _ (c .least2 .ensures))
+loop-again c = (c .before .before .before .before .substitute .kept .0 ∙ c .before .before .before .before .before .before .before .before .before .before .loop .inv .0, omega (arith, c .before .before .before .before .before .before .before .before .before .before .loop .inv .1, c .before .before .before .before .substitute .ensures .few, c .before .before .before .before .substitute .ensures .count), choose-on _ _ _ _ _ _ (c .before .before .before .before .before .before .before .before .before .before .loop .inv .2) (c .before .before .before .before .before .before .before .before .before .loop-test .taken) _ (c .before .before .before .before .before .before .before .most .ensures) _ (c .before .before .before .before .before .before .first-number .ensures) (c .before .before .before .before .before .before .before .before .before .before .before .before .before .before .before .before .pre .room) (c .before .before .before .before .before .before .before .before .before .before .before .before .before .before .before .before .pre .letters) _ _ _ _ _ (c .before .before .before .before .substitute .ensures) refl refl _ (c .least2 .ensures))
 
 same-length : tie.Need-same-length Inv-loop μ-loop
 same-length c = c .before .loop .inv .0

@@ -4,7 +4,7 @@ use mathlib.Core.Path.{ap, sym}
 use lib.IntN.{natAbs}
 use mir.Syntax.{w64}
 use mir.ValLaws.{ofZ-fits}
-use Rattle.decision.proofs.Bits64.{below, below-back, above}
+use Rattle.integers.proofs.Bits64.{below, below-back, above}
 use Rattle.decision.proofs.memory.bits_of.Statement.{statement}
 use Rattle.decision.proofs.memory.bits_of.Tie as tie
 

@@ -2,7 +2,7 @@
 use mir.Syntax.{w64}
 use mir.ValLaws.{toZ-fits}
 use Rattle.integers.proofs.Machine.{back-is}
-use Rattle.decision.proofs.Bits64.{high}
+use Rattle.integers.proofs.Bits64.{high}
 use borrow.Author.Needs.{needs}
 use Rattle.decision.proofs.memory.of_bits.Statement.{statement}
 use Rattle.decision.proofs.memory.of_bits.Tie as tie

@@ -34,7 +34,7 @@ loop-less : tie.Need-loop-less Inv-loop μ-loop
 loop-less c = omega arith
 
 loop-again : tie.Need-loop-again Inv-loop μ-loop
-loop-again c = (omega arith, least-more _ _ (c .before .before .before .before .before .before .pre) _ _ _ 0 (c .before .before .before .loop-test .taken) (c .before .before .before .before .loop .inv .1) (c .before .before .key-at .ensures) _ (c .lesser .ensures ∙ ap (lesserOf _) (c .before .lowest-digit .ensures)))
+loop-again c = (omega arith, least-more _ _ (c .before .before .before .before .before .before .pre) _ _ _ (c .before .before .before .loop-test .taken) (c .before .before .before .before .loop .inv .1) (c .before .before .key-at .ensures) _ (c .lesser .ensures ∙ ap (lesserOf _) (c .before .lowest-digit .ensures)))
 
 returns : tie.Need-returns Inv-loop μ-loop
 returns c = least-ends _ _ (c .before .before .before .pre) _ _ (c .loop-test .left) (c .before .loop .inv .1)

@@ -9,13 +9,15 @@ use borrow.Author.Tests.{le-ltb, ltb-true}
 use mir.Syntax.{w64}
 use mir.Val.{SFits, toZ, ofZ}
 use mir.ValLaws.{toZ-pos}
 use Rattle.integers.proofs.Machine.{back, back-is}
 
+-- −1 − z, where z is below 0
 from-minus-one : (n : ℕ) → negsuc 0 -ℤ negsuc n ≡ pos n
 from-minus-one n =
     let e : suc n - 1 ≡ n = omega arith in
     rw (le-ltb (suc n) 1 (omega arith), e)
 
+-- and where it is not
 minus : (n : ℕ) → negsuc 0 -ℤ pos n ≡ negsuc n
 minus zero = refl
 minus (suc n) = ap negsuc (omega arith)
