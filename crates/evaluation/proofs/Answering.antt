@@ -1,17 +1,18 @@
 -- The value call from its tests, in their order. Assumes nothing.
 use mathlib.Core.Path.{_≡_, sym, _∙_}
-use mathlib.Core.Bool.{Bool, true, false, _&&_}
+use mathlib.Core.Bool.{true, false, _&&_}
 use mathlib.Core.List.{List}
 use Prim.Native.Nat.{ℕ, _*_, _≤_}
-use lib.Dec.{T, leb, eqb, leb→le}
+use lib.Dec.{eqb}
 use lib.ListN.{length}
 use borrow.Author.Tests.{ne-eqb}
-use Rattle.specification.specs.Results.{refused, given, require}
+use Rattle.specification.specs.Results.{refused, given}
 use Rattle.specification.specs.Lists.{all, each}
-use Rattle.specification.specs.Letters.{isKind, goodTable, testTable}
+use Rattle.specification.specs.Letters.{testTable}
 use Rattle.specification.specs.Records.{takeForm}
 use Rattle.specification.specs.Evaluation.{sixOrLess, restIsZero, goodAssignment, assignment, value, valueCall}
-use Rattle.theory.specs.Tests.{is-true, holds, and-split, refused≢given}
+use Rattle.theory.specs.Tests.{is-true, holds, and-split}
+use Rattle.theory.specs.Shape.Letters.{table-good, good-short}
 use Rattle.terms.specs.Abstraction.{formOf}
 use Rattle.records.specs.declared.take.Taken.{Taken}
 use Rattle.records.specs.Reading.{takenOf}
@@ -30,14 +31,6 @@ good-small table s e =
     let r = each (length table) (restIsZero table s) in
     is-true q (and-split p q (and-split (p && q) r (holds (p && q && r) e) .0) .1)
 
--- a good table is short
-good-short : (table : List ℕ) → T (goodTable table) → length table ≤ 24
-unfolding goodTable
-good-short table t =
-    let p = leb 1 (length table) in
-    let q = leb (length table) 24 in
-    leb→le (length table) 24 (and-split p q (and-split (p && q) (all isKind table) t .0) .1)
-
 -- a table that is taken
 module _ (table : List ℕ) (n : ℕ) (e : testOf n ≡ testTable table) (z : n ≡ 0) where
   table-passed : testTable table ≡ given tt
@@ -45,12 +38,7 @@ module _ (table : List ℕ) (n : ℕ) (e : testOf n ≡ testTable table) (z : n 
   table-passed = sym e ∙ rw z
 
   pub table-short : length table ≤ 24
-  unfolding testTable
-  table-short = good-short table (go (goodTable table) table-passed)
-    where
-      go : (b : Bool) → require b 1 ≡ given tt → T b
-      go true p = tt
-      go false p = absurd (refused≢given p)
+  table-short = good-short table (table-good table table-passed)
 
 module _ (table form s : List ℕ) (n : ℕ) (e : testOf n ≡ testTable table) where
   -- 1 ends the call

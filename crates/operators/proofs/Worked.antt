@@ -10,11 +10,11 @@ use lib.Dec.{T, leb, leb→le, eqb}
 use lib.ListN.{length}
 use Rattle.specification.specs.Lists.{all}
 use Rattle.specification.specs.Letters.{scalar, vector}
-use Rattle.specification.specs.Results.{Result, Test, given, refused, _>>=_, _>>_, require}
+use Rattle.specification.specs.Results.{Result, Test, given, _>>=_, _>>_, require}
 use Rattle.specification.specs.Terms.{gather, within}
 use Rattle.specification.specs.Terms as S
 use Rattle.specification.specs.Reduction.{timesParts, dotParts, wedgeParts, pairTerms, pairsOf, pairLettersFit, pairCoefFits, product, timesForms, dotForms, wedgeForms, tripleForms}
-use Rattle.theory.specs.Tests.{and-false, required, refused≢given}
+use Rattle.theory.specs.Tests.{and-false, required, passed}
 use Rattle.theory.specs.Shape.Forms.{AllFit, form-fits}
 use Rattle.theory.specs.Reduction.Products.{product-fits}
 use Rattle.theory.specs.Reduction.Operators.{timesLeft-follows, timesRight-follows, dot-follows, wedge-follows}
@@ -49,10 +49,6 @@ product-tested kind parts f g =
     three true false c r = refl
     three true true false r = refl
     three true true true r = refl
-
-passed : (b : Bool) (n : ℕ) → require b n ≡ given tt → T b
-passed true n e = tt
-passed false n e = absurd (refused≢given e)
 
 module _ (op : Operation) (kind : ℕ) (f g : Form) where
   -- a pair is refused

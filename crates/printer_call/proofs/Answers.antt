@@ -1,6 +1,5 @@
 -- The line that is printed, case by case. Assumes nothing.
 use mathlib.Core.Path.{_≡_, ap, sym, subst, _∙_}
-use mathlib.Core.Bool.{Bool, true, false}
 use mathlib.Core.List.{List}
 use Prim.Native.Nat.{ℕ, _+_, _-_, _≤_, _<_}
 use native.Mathlib.Omega.{arith}
@@ -8,12 +7,11 @@ use borrow.Author.Tests.{le-leb, lt-leb}
 use lib.Dec.{T}
 use lib.ListN.{length, getD, take, drop, length-drop}
 use lib.Seq.{take-all}
-use Rattle.specification.specs.Results.{Test, refused, given, _>>_, require}
+use Rattle.specification.specs.Results.{Test, refused, given, _>>_}
 use Rattle.specification.specs.Letters.{goodTable, testTable}
-use Rattle.specification.specs.Terms as S
 use Rattle.specification.specs.Reduction.{reduced}
 use Rattle.specification.specs.Printing.{printTested, printResult, printCall}
-use Rattle.theory.specs.Tests.{refused≢given}
+use Rattle.theory.specs.Shape.Letters.{table-good}
 use Rattle.theory.specs.Reduction.Work.{reduction-keeps-value}
 use Rattle.terms.specs.Abstraction.{formOf}
 use Rattle.gathering.specs.declared.Closed.{Closed}
@@ -30,20 +28,12 @@ use Rattle.printer_call.specs.Lines.{printReduced}
 written-as : (before after : List ℕ) (n : ℕ) (x y : List ℕ) → x ≡ y → TextWritten before after n x → TextWritten before after n y
 written-as before after n x y e w = subst (TextWritten before after n) e w
 
-good : (table : List ℕ) → testTable table ≡ given tt → T (goodTable table)
-unfolding testTable
-good table e = go (goodTable table) e
-  where
-    go : (b : Bool) → _≡_ {A = Test} (require b 1) (given tt) → T b
-    go true e = tt
-    go false e = absurd (refused≢given e)
-
 -- ════ a table and an expression
 
 -- the form of an expression can be printed
 pub form-printable : (table expr : List ℕ) (c : ℕ) (r : Closed) → testOf c ≡ testTable table → c ≡ 0 → WorkedAs (reduced table expr) r → r .refusal ≡ 0 → Printable (r .form)
 form-printable table expr c r h z worked e =
-    let t : T (goodTable table) = good table (sym h ∙ test-passed c z) in
+    let t : T (goodTable table) = table-good table (sym h ∙ test-passed c z) in
     printable table t (r .form) (worked .valid e) (reduction-keeps-value table expr (formOf (r .form)) t (worked-given (reduced table expr) r worked e) .lettersTested)
 
 module _ (table expr : List ℕ) (c : ℕ) (h : testOf c ≡ testTable table) (before after : List ℕ) (m : ℕ) where

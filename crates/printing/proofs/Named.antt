@@ -1,19 +1,16 @@
 -- Letters of a table have names: a form whose letters are in it can be printed. Assumes nothing.
 use mathlib.Core.Path.{_≡_}
-use mathlib.Core.Bool.{_&&_}
 use mathlib.Core.List.{List, [], _∷_, map}
-use Prim.Native.Nat.{ℕ, _<_, _≤_}
+use Prim.Native.Nat.{ℕ, _<_}
 use native.Mathlib.Omega.{arith}
-use lib.Dec.{T, ltb, leb, eqb, ltb→lt, leb→le}
-use lib.ListN.{length, take}
-use Rattle.specification.specs.Lists.{all}
-use Rattle.specification.specs.Results.{given, require}
-use Rattle.specification.specs.Letters.{isKind, goodTable, kindOf, testLetter}
+use lib.Dec.{T}
+use lib.ListN.{take}
+use Rattle.specification.specs.Results.{given}
+use Rattle.specification.specs.Letters.{goodTable}
 use Rattle.specification.specs.Records.{testTerms}
-use Rattle.theory.specs.Tests.{and-split, required}
 use Rattle.theory.specs.Elements.{All, all-implies}
 use Rattle.theory.specs.Order.{monomial}
-use Rattle.theory.specs.Shape.Letters.{Known, FactorKnown, MonomialKnown, AllKnown, terms-known}
+use Rattle.theory.specs.Shape.Letters.{good-short, Known, FactorKnown, MonomialKnown, AllKnown, known-is, terms-known}
 use Rattle.terms.specs.declared.types.Term.{Term}
 use Rattle.terms.specs.declared.types.Form.{Form}
 use Rattle.terms.specs.Abstraction.{termOf, formOf}
@@ -21,15 +18,8 @@ use Rattle.terms.specs.Valid.{FormValid}
 use Rattle.printing.specs.Printable.{Printed, TermPrinted, Printable}
 
 module _ (table : List ℕ) (good : T (goodTable table)) where
-  table-short : length table ≤ 24
-  unfolding goodTable
-  table-short = leb→le (length table) 24 (and-split (leb 1 (length table)) (leb (length table) 24) (and-split (leb 1 (length table) && leb (length table) 24) (all isKind table) good .0) .1)
-
   letter-named : (kind n : ℕ) → Known table kind n → n < 24
-  unfolding testLetter
-  letter-named kind n k =
-      let h = ltb→lt n (length table) (required (ltb n (length table)) 5 (require (eqb (kindOf table n) kind) 6) tt k .0) in
-      omega (arith, table-short)
+  letter-named kind n k = omega (arith, known-is table kind n k .0, good-short table good)
 
   letters-named : (kind : ℕ) (l : List ℕ) → All (Known table kind) l → Printed l
   letters-named kind l h = all-implies (Known table kind) (λ (n : ℕ). n < 24) (letter-named kind) l h

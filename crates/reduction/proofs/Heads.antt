@@ -3,16 +3,15 @@ use mathlib.Core.Path.{_≡_, refl, ap, sym, subst, _∙_}
 use mathlib.Core.Bool.{Bool, true, false}
 use mathlib.Core.List.{List}
 use Prim.Native.Nat.{ℕ, zero, suc, _+_, _-_, _≤_, _<_}
-use native.Mathlib.Nat as N
 use native.Mathlib.Omega.{arith}
-use borrow.Author.Tests.{lt-ltb, le-ltb, le-leb, lt-leb, eq-eqb, ne-eqb, leb-true}
-use lib.Dec.{ltb, leb, eqb}
+use borrow.Author.Tests.{lt-ltb, le-ltb, le-leb, lt-leb, eq-eqb, ne-eqb}
+use lib.Dec.{ltb, leb, eqb, leb→le}
 use lib.ListN.{length, getD}
 use Rattle.specification.specs.Results.{Result, Test, refused, given, _>>_, require, if_then_else_}
 use Rattle.specification.specs.Letters.{kindOf}
 use Rattle.specification.specs.Records.{fourBytesAt}
 use Rattle.specification.specs.Expressions.{Expr, Letter, Constant, Sum, Difference, Negation, Times, Dot, Wedge, Triple, Token, leaf, one, two, three, tokenBytes, testBytes, readLetter, readToken}
-use Rattle.theory.specs.Tests.{and-false, refused≢given, required}
+use Rattle.theory.specs.Tests.{and-false, required, passed}
 use Rattle.records.specs.Tested.{testOf}
 use Rattle.records.proofs.LetterTests.{test-passed, test-refused}
 use Rattle.reduction.specs.Trees.{operandCount, testToken, testHead}
@@ -140,11 +139,7 @@ pub bytes-passed : (s : List ℕ) (at : ℕ) → testBytes s at ≡ given tt →
 unfolding testBytes
 bytes-passed s at p =
     let w = required (ltb at (length s)) 4 (require (leb (at + tokenBytes (getD s at 0)) (length s)) 4) tt p in
-    go (leb (at + tokenBytes (getD s at 0)) (length s)) refl (w .1)
-  where
-    go : (b : Bool) → leb (at + tokenBytes (getD s at 0)) (length s) ≡ b → _≡_ {A = Test} (require b 4) (given tt) → at + tokenBytes (getD s at 0) ≤ length s
-    go true e h = leb-true (at + tokenBytes (getD s at 0)) (length s) e
-    go false e h = absurd (refused≢given h)
+    leb→le (at + tokenBytes (getD s at 0)) (length s) (passed (leb (at + tokenBytes (getD s at 0)) (length s)) 4 (w .1))
 
 -- as its number says
 pub bytes-there : (n : ℕ) (s : List ℕ) (at : ℕ) → testOf n ≡ testBytes s at → n ≡ 0 → at + tokenBytes (getD s at 0) ≤ length s

@@ -16,7 +16,7 @@ use Rattle.specification.specs.Terms as S
 use Rattle.specification.specs.Rules.{ruleKind, ruleLetters, stepKindsFit, stepTerms, takeStep}
 use Rattle.theory.specs.Elements.{All, all-append}
 use Rattle.theory.specs.Shape.Terms.{kindOfPart, term-opens}
-use Rattle.theory.specs.Tests.{required, refused≢given}
+use Rattle.theory.specs.Tests.{required, passed}
 use Rattle.theory.specs.Shape.Forms.{FormInShape, AllFit, form-gathered, within-given, within-in-shape}
 use Rattle.theory.specs.Gathering.Gathered.{gather-onto}
 use Rattle.theory.specs.Rules.Table.{stepTerms-rule}
@@ -110,11 +110,6 @@ few-factors s v l h =
 in-limit : (t : S.Term) → T (termInShape t) → natAbs (t .coef) ≤ 2147483647
 unfolding coefWithin
 in-limit t h = leb→le (natAbs (t .coef)) 2147483647 (term-opens t h .within)
-
--- a test that passed
-passed : (b : Bool) (n : ℕ) → _≡_ {A = Test} (require b n) (given tt) → T b
-passed true n e = tt
-passed false n e = absurd (refused≢given e)
 
 -- ════ the products
 
