@@ -38,7 +38,16 @@ number-bytes (suc n) x h = rw (number-bytes n (x / 256) (shift-small n x h)) (om
 eight-other : (l : List ℕ) (at : ℕ) (vs : List ℕ) (j : ℕ) → (j + 8 ≤ at) ⊎ (at + length vs ≤ j) → eight (sets l at vs) j ≡ eight l j
 unfolding eight
 eight-other l at vs j h =
-    rw (sets-other l at vs j 0 (elim h [ inl q ↦ inl (omega arith) | inr q ↦ inr (omega arith) ]), s 1 (omega arith), s 2 (omega arith), s 3 (omega arith), s 4 (omega arith), s 5 (omega arith), s 6 (omega arith), s 7 (omega arith))
+    rw (
+      sets-other l at vs j 0 (elim h [ inl q ↦ inl (omega arith) | inr q ↦ inr (omega arith) ]),
+      s 1 (omega arith),
+      s 2 (omega arith),
+      s 3 (omega arith),
+      s 4 (omega arith),
+      s 5 (omega arith),
+      s 6 (omega arith),
+      s 7 (omega arith),
+    )
   where
     s : (i : ℕ) → i < 8 → getD (sets l at vs) (j + i) 0 ≡ getD l (j + i) 0
     s i g = sets-other l at vs (j + i) 0 (elim h [ inl q ↦ inl (omega arith) | inr q ↦ inr (omega arith) ])
@@ -52,7 +61,17 @@ eight-sets l at a b c d e f g h k =
     let q = length-take-le at l (omega arith) in
     let r = vs ++ drop (at + 8) l in
     let m : sets l at vs ≡ take at l ++ r = sets-eq vs l at k ∙ append-assoc (take at l) vs (drop (at + 8) l) in
-    rw (m, getD-at (take at l) a _ 0 at q, getD-second (take at l) r at 1 0 q, getD-second (take at l) r at 2 0 q, getD-second (take at l) r at 3 0 q, getD-second (take at l) r at 4 0 q, getD-second (take at l) r at 5 0 q, getD-second (take at l) r at 6 0 q, getD-second (take at l) r at 7 0 q)
+    rw (
+      m,
+      getD-at (take at l) a _ 0 at q,
+      getD-second (take at l) r at 1 0 q,
+      getD-second (take at l) r at 2 0 q,
+      getD-second (take at l) r at 3 0 q,
+      getD-second (take at l) r at 4 0 q,
+      getD-second (take at l) r at 5 0 q,
+      getD-second (take at l) r at 6 0 q,
+      getD-second (take at l) r at 7 0 q,
+    )
 
 number-there : (l : List ℕ) (at x : ℕ) → at + 8 ≤ length l → x < 2 ^ 64 → numberOf (eight (sets l at (bytesOf 8 x)) at) ≡ x
 number-there l at x h k = ap numberOf (eight-sets l at _ _ _ _ _ _ _ _ h) ∙ number-bytes 8 x k
@@ -99,7 +118,8 @@ module _ (l m n : List ℕ) (i key x : ℕ) (coef : ℤ) (h : i < length (monomi
   here : monomialAt n i ≡ mono key coef
   unfolding monomialAt
   here =
-      let a : numberOf (eight n (16 * i)) ≡ key = rw q (ap numberOf (eight-other m (16 * i + 8) (bytesOf 8 x) (16 * i) (inl (omega arith))) ∙ rw p (number-there l (16 * i) key (omega (arith, within l i h)) k)) in
+      let behind : eight (sets m (16 * i + 8) (bytesOf 8 x)) (16 * i) ≡ eight m (16 * i) = eight-other m (16 * i + 8) (bytesOf 8 x) (16 * i) (inl (omega arith)) in
+      let a : numberOf (eight n (16 * i)) ≡ key = rw q (ap numberOf behind ∙ rw p (number-there l (16 * i) key (omega (arith, within l i h)) k)) in
       let b : numberOf (eight n (16 * i + 8)) ≡ x = rw q (number-there m (16 * i + 8) x (omega (arith, within l i h, length-m)) x-small) in
       ap₂ mono a (ap (toZ w64) (b ∙ e) ∙ toZ-ofZ w64 coef f)
 

@@ -255,7 +255,8 @@ first-found ms d most v l h e = record { few = l; before = h; found = inl (sym e
 pub first-last : (ms : List Monomial) (d most v : ℕ) → v ≤ most → most ≤ v → ((u : ℕ) → u < v → isSome (substituted d u ms) ≡ false) → FirstNumber ms d most v
 first-last ms d most v l k h = record { few = l; before = h; found = inr (omega arith) }
 
-pub first-on : (ms : List Monomial) (d v : ℕ) → ((u : ℕ) → u < v → isSome (substituted d u ms) ≡ false) → isSome (substituted d v ms) ≡ false → (u : ℕ) → u < v + 1 → isSome (substituted d u ms) ≡ false
+pub first-on : (ms : List Monomial) (d v : ℕ) → ((u : ℕ) → u < v → isSome (substituted d u ms) ≡ false) → isSome (substituted d v ms) ≡ false
+    → (u : ℕ) → u < v + 1 → isSome (substituted d u ms) ≡ false
 first-on ms d v h e = below-more (λ (u : ℕ). isSome (substituted d u ms) ≡ false) v h e
 
 -- ════ bytes set to 0

@@ -134,7 +134,9 @@ module _ (table : List ℕ) where
           let c = p .c in
           let u₁ = digit-times σ v s (m .key) w a (q .first) (q .knownFirst) (omega (arith, q .vectors, q .scalars)) in
           let u₂ = digit-times σ (v + vectorDigit table a) (s + scalarDigit table a) (timesDigit a (m .key)) (u₁ .1) b (q .second) (q .knownSecond) (omega (arith, q .vectors, q .scalars)) in
-          let u₃ = digit-times σ (v + vectorDigit table a + vectorDigit table b) (s + scalarDigit table a + scalarDigit table b) (timesDigit b (timesDigit a (m .key))) (u₂ .1) c (q .third) (q .knownThird) (omega (arith, q .vectors, q .scalars)) in
+          let u₃ =
+          digit-times σ (v + vectorDigit table a + vectorDigit table b) (s + scalarDigit table a + scalarDigit table b) (timesDigit b (timesDigit a (m .key))) (u₂ .1)
+          c (q .third) (q .knownThird) (omega (arith, q .vectors, q .scalars)) in
           let x : v + vectorDigit table a + vectorDigit table b + vectorDigit table c ≡ v + dv = omega (arith, q .vectors) in
           let y : s + scalarDigit table a + scalarDigit table b + scalarDigit table c ≡ s + ds = omega (arith, q .scalars) in
           let k = timesDigit c (timesDigit b (timesDigit a (m .key))) in (
@@ -226,7 +228,8 @@ module _ (table : List ℕ) where
     cross-has : (v₃ l m i o c : ℕ) → Known table vector l → Known table vector m → Digit v₃ 0 c → PieceHas (2 + v₃) 0 (crossPiece l m i o c)
     unfolding crossPiece
     cross-has v₃ l m i o c p q r =
-        piece-has 1 0 1 0 v₃ 0 (digitOf l ((i + 1 + o) % 3)) (digitOf m ((i + 2 + 2 * o) % 3)) c (signOf o) (vector-digit l ((i + 1 + o) % 3) p (omega arith)) (vector-digit m ((i + 2 + 2 * o) % 3) q (omega arith)) r
+        piece-has 1 0 1 0 v₃ 0 (digitOf l ((i + 1 + o) % 3)) (digitOf m ((i + 2 + 2 * o) % 3)) c (signOf o)
+        (vector-digit l ((i + 1 + o) % 3) p (omega arith)) (vector-digit m ((i + 2 + 2 * o) % 3) q (omega arith)) r
 
     pub factor-has : (f : List ℕ) → OneToThree f → FactorKnown table f → All (PieceHas (if eqb (length f) 1 then 0 else length f) (if eqb (length f) 1 then 1 else 0)) (pieces (blockOf f))
     unfolding pieces blockOf countOf pieceAt

@@ -111,7 +111,8 @@ module _ (table s t b w : List ℕ) (n : ℕ) (e : testOf n ≡ testTable table)
                           kinds = k;
                         }
 
-                    pub settled : (a : D.Decision) (b′ w′ : List ℕ) → DecidedBy (given (formOf (p .form), formOf (q .form))) table b w a b′ w′ → DecidedBy (decideTested table s t b w) table b w a b′ w′
+                    pub settled : (a : D.Decision) (b′ w′ : List ℕ) → DecidedBy (given (formOf (p .form), formOf (q .form))) table b w a b′ w′
+                        → DecidedBy (decideTested table s t b w) table b w a b′ w′
                     unfolding takeTwoForms formOf
                     settled a b′ w′ h =
                         subst (λ (x : Result (S.Form × S.Form)). DecidedBy x table b w a b′ w′)

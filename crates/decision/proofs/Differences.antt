@@ -109,7 +109,8 @@ module _ (start : ℕ) (f : Form) (i : ℕ) (sign : ℤ) (ms : List Monomial) (w
 pub fill-as : (start : ℕ) (f : Form) (i : ℕ) (z y : ℤ) (ms : List Monomial) → y ≡ z → FormExpandable start f i z ms → FormExpandable start f i y ms
 fill-as start f i z y ms e w = subst (λ (s : ℤ). FormExpandable start f i s ms) (sym e) w
 
-pub filled-as : (start : ℕ) (f : Form) (i : ℕ) (z y : ℤ) (n : ℕ) (ms ns : List Monomial) → y ≡ z → Expanded start (expandTerms i y (formOf f .terms)) n ms ns → Expanded start (expandTerms i z (formOf f .terms)) n ms ns
+pub filled-as : (start : ℕ) (f : Form) (i : ℕ) (z y : ℤ) (n : ℕ) (ms ns : List Monomial) → y ≡ z → Expanded start (expandTerms i y (formOf f .terms)) n ms ns
+    → Expanded start (expandTerms i z (formOf f .terms)) n ms ns
 filled-as start f i z y n ms ns e w = subst (λ (s : ℤ). Expanded start (expandTerms i s (formOf f .terms)) n ms ns) e w
 
 -- ════ bounds
@@ -194,12 +195,13 @@ module _ (f g : Form) (i : ℕ) (ms : List Monomial) (w : Comparable f g i ms) w
 
         pub substitute-asks : (m + r ≤ length ps) × Fit 255 1 (take (m + r) ps)
         substitute-asks =
-            let a : All Modest (take (m + r) ps) = reordered-all Modest (m + r) os (s .reordered) (subst (All Modest) (sym both) all-modest) in (
+            let a : All Modest (take (m + r) ps) = reordered-all Modest (m + r) os (s .reordered) (subst (All Modest) (sym both) all-modest) in
+            let l : length (take (m + r) ps) ≡ m + r = length-take-le (m + r) ps (omega (arith, sort-asks, same-sorted)) in (
               omega (arith, sort-asks, same-sorted),
               record {
                 digit = omega arith;
                 number = omega arith;
-                small = omega (arith, mass-one 255 (take (m + r) ps) a, length-take-le (m + r) ps (omega (arith, sort-asks, same-sorted)), counts-few, N.mul-le-mul-right 2147483647 counts-few, ap (λ (x : ℕ). x * 2147483647) (length-take-le (m + r) ps (omega (arith, sort-asks, same-sorted))));
+                small = omega (arith, mass-one 255 (take (m + r) ps) a, N.mul-le-mul-right 2147483647 counts-few, ap (λ (x : ℕ). x * 2147483647) l);
               },
             )
 

@@ -129,7 +129,8 @@ part-small i (l ∷ []) h b = (b .0, h)
 part-small i (l ∷ m ∷ p) h b = (b .0, b .1 .0, h)
 
 -- factors make no more than their vector letters allow
-factors-few : (fs : List (List ℕ)) (v : ℕ) (ms : List Monomial) → All OneToThree fs → vectorLettersOf fs + v ≤ 6 → length ms * top (vectorLettersOf fs + v) ≤ 36 → length (timesFactors fs ms) * top v ≤ 36
+factors-few : (fs : List (List ℕ)) (v : ℕ) (ms : List Monomial) → All OneToThree fs → vectorLettersOf fs + v ≤ 6 → length ms * top (vectorLettersOf fs + v) ≤ 36
+    → length (timesFactors fs ms) * top v ≤ 36
 unfolding timesFactors vectorLettersOf
 factors-few [] v ms o h r = subst (λ (x : ℕ). length ms * top x ≤ 36) (N.zero-add v) r
 factors-few (f ∷ fs) v ms o h r =
@@ -139,7 +140,13 @@ factors-few (f ∷ fs) v ms o h r =
     let z : vectors f + x ≤ 6 = subst (λ (y : ℕ). y ≤ 6) e h in
     let q : length ms * top (vectors f + x) ≤ 36 = subst (λ (y : ℕ). length ms * top y ≤ 36) e r in
     factors-few fs v (timesBlock (blockOf f) ms) (o .1) (omega (arith, z))
-    (omega (arith, ap (λ (y : ℕ). y * top x) (block-length (blockOf f) ms), ap (λ (y : ℕ). y * top x) (N.mul-comm c (length ms)), N.mul-assoc (length ms) c (top x), N.mul-le-mul-left (length ms) (factor-step f x (o .0) z), q))
+    (omega (
+      arith,
+      ap (λ (y : ℕ). y * top x) (block-length (blockOf f) ms ∙ N.mul-comm c (length ms)),
+      N.mul-assoc (length ms) c (top x),
+      N.mul-le-mul-left (length ms) (factor-step f x (o .0) z),
+      q,
+    ))
 
 -- a component of a term in shape has at most 36 monomials
 pub term-few : (i : ℕ) (sign : ℤ) (t : S.Term) → T (termInShape t) → length (expandTerm i sign t) ≤ 36
@@ -149,7 +156,9 @@ term-few i sign t h =
     let p = t .part in
     let c = countOf (partBlock i p) in
     let l = timesFactors (t .factors) (mono 0 (t .coef *ℤ sign) ∷ []) in
-    let b : length l * top (length p) ≤ 36 = factors-few (t .factors) (length p) (mono 0 (t .coef *ℤ sign) ∷ []) (o .lengths) (o .vectors) (omega (arith, top-most (vectorLettersOf (t .factors) + length p) (o .vectors) .1)) in
+    let b : length l * top (length p) ≤ 36 =
+    factors-few (t .factors) (length p) (mono 0 (t .coef *ℤ sign) ∷ []) (o .lengths) (o .vectors)
+    (omega (arith, top-most (vectorLettersOf (t .factors) + length p) (o .vectors) .1)) in
     omega (arith, block-length (partBlock i p) l, N.mul-comm c (length l), N.mul-le-mul-left (length l) (part-step i p (o .part)), b)
 
 -- ════ a layer behind the first monomials

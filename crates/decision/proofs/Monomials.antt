@@ -49,7 +49,8 @@ module _ (m r : Monomial) (rs : List Monomial) where
   unfolding onto
   onto-like e = go (eqb (m .key) (r .key)) (λ h. eqb-false (m .key) (r .key) h e)
     where
-      go : (b : Bool) → (b ≡ false → ⊥) → (if b then onto (record { key = m .key; coef = m .coef +ℤ r .coef }) rs else kept m (onto r rs)) ≡ onto (record { key = m .key; coef = m .coef +ℤ r .coef }) rs
+      go : (b : Bool) → (b ≡ false → ⊥)
+          → (if b then onto (record { key = m .key; coef = m .coef +ℤ r .coef }) rs else kept m (onto r rs)) ≡ onto (record { key = m .key; coef = m .coef +ℤ r .coef }) rs
       go true h = refl
       go false h = absurd (h refl)
 
@@ -155,7 +156,13 @@ module _ (w : ℕ → ℕ) where
   unfolding size reduced
   reduced-size d v h [] = N.le-refl 0
   reduced-size d v h (m ∷ ms) =
-      omega (arith, reduced-size d v h ms, natAbs-*ℤ (m .coef) (pos (v ^ exponent 8 d (m .key))), N.mul-assoc (natAbs (m .coef)) (v ^ exponent 8 d (m .key)) (w (rest 8 d (m .key))), N.mul-le-mul-left (natAbs (m .coef)) (h (m .key)), ap (λ (z : ℕ). z * w (rest 8 d (m .key))) (natAbs-*ℤ (m .coef) (pos (v ^ exponent 8 d (m .key)))))
+      omega (
+        arith,
+        reduced-size d v h ms,
+        ap (λ (z : ℕ). z * w (rest 8 d (m .key))) (natAbs-*ℤ (m .coef) (pos (v ^ exponent 8 d (m .key)))),
+        N.mul-assoc (natAbs (m .coef)) (v ^ exponent 8 d (m .key)) (w (rest 8 d (m .key))),
+        N.mul-le-mul-left (natAbs (m .coef)) (h (m .key)),
+      )
 
   -- the mass is not above the size where no weight is 0
   pub mass-size : ((k : ℕ) → 1 ≤ w k) → (ms : List Monomial) → mass ms ≤ size w ms

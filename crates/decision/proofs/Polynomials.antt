@@ -150,7 +150,15 @@ module _ (table : List ℕ) (τ : ℕ → Vec) where
   factor-value [] o = absurd (omega (arith, o .0))
   factor-value (a ∷ []) o = rw (zero-value, digit-value a 0 (omega arith)) (single-sum (τ a .x))
   factor-value (a ∷ b ∷ []) o =
-      rw (zero-value, digit-value a 0 (omega arith), digit-value a 1 (omega arith), digit-value a 2 (omega arith), digit-value b 0 (omega arith), digit-value b 1 (omega arith), digit-value b 2 (omega arith))
+      rw (
+        zero-value,
+        digit-value a 0 (omega arith),
+        digit-value a 1 (omega arith),
+        digit-value a 2 (omega arith),
+        digit-value b 0 (omega arith),
+        digit-value b 1 (omega arith),
+        digit-value b 2 (omega arith),
+      )
       (dot-sum (τ a) (τ b))
   factor-value (a ∷ b ∷ c ∷ []) o =
       rw (
@@ -224,12 +232,15 @@ module _ (table : List ℕ) (τ : ℕ → Vec) where
         let m = mono 0 (t .coef *ℤ sign) in
         let u = factors-all (t .factors) (f .lengths) (k .factors) 0 0 (m ∷ []) (has-zero, tt) (omega (arith, f .vectors, f .scalars)) in
         let l = timesFactors (t .factors) (m ∷ []) in
-        let w = pieces-all table σ (0 + vectorLettersOf (t .factors)) (0 + scalarLettersOf (t .factors)) (length (t .part)) 0 (omega (arith, f .vectors, f .scalars)) (pieces (partBlock i (t .part))) (part-has table short i (t .part) h (f .part) (k .part)) l (u .1) in
+        let w =
+        pieces-all table σ (0 + vectorLettersOf (t .factors)) (0 + scalarLettersOf (t .factors)) (length (t .part)) 0 (omega (arith, f .vectors, f .scalars))
+        (pieces (partBlock i (t .part))) (part-has table short i (t .part) h (f .part) (k .part)) l (u .1) in
         let start : total σ (m ∷ []) ≡ t .coef *ℤ sign = I.+ℤ-idr (t .coef *ℤ sign *ℤ keyValue σ 8 0) ∙ ap (λ (z : ℤ). t .coef *ℤ sign *ℤ z) (value-zero σ 8) ∙ R.*ℤ-1 (t .coef *ℤ sign) in (
           w .0 ∙ ap₂ (λ (x y : ℤ). x *ℤ y) (part-value i (t .part) h (f .part)) (u .0 ∙ ap (λ (z : ℤ). factorsValue τ (t .factors) *ℤ z) start)
               ∙ turned (component i (partValue τ (t .part))) (factorsValue τ (t .factors)) (t .coef) sign
               ∙ ap (λ (z : ℤ). sign *ℤ z) (sym (component-times i (t .coef *ℤ factorsValue τ (t .factors)) (partValue τ (t .part)))),
-          has-more (0 + vectorLettersOf (t .factors) + length (t .part)) (0 + scalarLettersOf (t .factors) + 0) 6 2 (omega (arith, f .vectors)) (omega (arith, f .scalars)) (timesBlock (partBlock i (t .part)) l) (w .1),
+          has-more (0 + vectorLettersOf (t .factors) + length (t .part)) (0 + scalarLettersOf (t .factors) + 0) 6 2
+              (omega (arith, f .vectors)) (omega (arith, f .scalars)) (timesBlock (partBlock i (t .part)) l) (w .1),
         )
       where
         turned : (p f c g : ℤ) → p *ℤ (f *ℤ (c *ℤ g)) ≡ g *ℤ (c *ℤ f *ℤ p)

@@ -64,15 +64,25 @@ unfolding letterInRange
 letter-in-range table b n p q r = go (eqb (kindOf table n) scalar) refl
   where
     go : (t : Bool) → eqb (kindOf table n) scalar ≡ t
-        → T (if t then leb (getD b (3 * n) 0) 2 && eqb (getD b (3 * n + 1) 0) 0 && eqb (getD b (3 * n + 2) 0) 0 else leb (getD b (3 * n) 0) 6 && leb (getD b (3 * n + 1) 0) 6 && leb (getD b (3 * n + 2) 0) 6)
+        → T (if t
+        then leb (getD b (3 * n) 0) 2 && eqb (getD b (3 * n + 1) 0) 0 && eqb (getD b (3 * n + 2) 0) 0
+        else leb (getD b (3 * n) 0) 6 && leb (getD b (3 * n + 1) 0) 6 && leb (getD b (3 * n + 2) 0) 6)
     go true e =
         let k = eqb-true (kindOf table n) scalar e in
         let a : limitOf table (3 * n) ≡ 2 = scalar-limit table n k (3 * n) (omega arith) .0 (omega arith) in
         let c : limitOf table (3 * n + 1) ≡ 0 = scalar-limit table n k (3 * n + 1) (omega arith) .1 (λ z. omega arith) in
         let d : limitOf table (3 * n + 2) ≡ 0 = scalar-limit table n k (3 * n + 2) (omega arith) .1 (λ z. omega arith) in
-        rw (le-leb (getD b (3 * n) 0) 2 (omega (arith, p, a)), eq-eqb (getD b (3 * n + 1) 0) 0 (omega (arith, q, c)), eq-eqb (getD b (3 * n + 2) 0) 0 (omega (arith, r, d))) tt
+        rw (
+          le-leb (getD b (3 * n) 0) 2 (omega (arith, p, a)),
+          eq-eqb (getD b (3 * n + 1) 0) 0 (omega (arith, q, c)),
+          eq-eqb (getD b (3 * n + 2) 0) 0 (omega (arith, r, d)),
+        ) tt
     go false e =
-        rw (le-leb (getD b (3 * n) 0) 6 (omega (arith, p, limit-six table (3 * n))), le-leb (getD b (3 * n + 1) 0) 6 (omega (arith, q, limit-six table (3 * n + 1))), le-leb (getD b (3 * n + 2) 0) 6 (omega (arith, r, limit-six table (3 * n + 2)))) tt
+        rw (
+          le-leb (getD b (3 * n) 0) 6 (omega (arith, p, limit-six table (3 * n))),
+          le-leb (getD b (3 * n + 1) 0) 6 (omega (arith, q, limit-six table (3 * n + 1))),
+          le-leb (getD b (3 * n + 2) 0) 6 (omega (arith, r, limit-six table (3 * n + 2))),
+        ) tt
 
 in-range : (table b : List ℕ) → ((x : ℕ) → x < 3 * length table → getD b x 0 ≤ limitOf table x) → T (each (length table) (letterInRange table b))
 in-range table b h = T-each (letterInRange table b) (length table) letter
@@ -197,7 +207,8 @@ module _ (table : List ℕ) (f g : Form) (buffer work : List ℕ) (w : Decidable
               letters = w .letters;
               there = few;
               room = omega (arith, w .room, room);
-              polynomial = gathered-polynomial table (w .letters) (es i) (all-modest f g i (monomials now) compare-asks) (values tau i h .1) (few-all f g i (monomials now) compare-asks) r (monomials now) ns c some;
+              polynomial = gathered-polynomial table (w .letters) (es i) (all-modest f g i (monomials now) compare-asks) (values tau i h .1)
+                  (few-all f g i (monomials now) compare-asks) r (monomials now) ns c some;
               zeros = z;
             }
 
@@ -208,7 +219,9 @@ module _ (table : List ℕ) (f g : Form) (buffer work : List ℕ) (w : Decidable
             record {
               sameLength = e .sameLength ∙ room;
               inRange = in-range table b′ (e .within);
-              unequal = λ q. e .nonzero (variables τ) at (same-value (variables τ) ∙ values τ i h .0 ∙ ap (λ (v : Vec). component i v -ℤ component i (value τ (formOf g))) q ∙ I.+ℤ-invr (component i (value τ (formOf g))));
+              unequal = λ q. e .nonzero (variables τ) at
+                  (same-value (variables τ) ∙ values τ i h .0 ∙ ap (λ (v : Vec). component i v -ℤ component i (value τ (formOf g))) q
+                  ∙ I.+ℤ-invr (component i (value τ (formOf g))));
               restStands = e .behind ∙ d;
             }
 

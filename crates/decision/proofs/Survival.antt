@@ -93,7 +93,8 @@ module _ (d t : ℕ) where
       let q : e ≡ exponent 8 d k = omega arith in
       rw (same-self e (exponent 8 d k) q, units-less (pos v) n (suc e) k (omega arith), I.*ℤ-zero, I.+ℤ-idr, N.pow-zero)
   units-eval v (suc n) e k (suc x) p h =
-      rw (same-other e (exponent 8 d k) (λ q. omega arith), units-eval v n (suc e) k x (omega arith) (omega arith), I.zero-*ℤ, I.+ℤ-idl, N.pow-succ' v x) (sym (R.*ℤ-assoc (pos v) (pos (v ^ x)) (same t (rest 8 d k))))
+      rw (same-other e (exponent 8 d k) (λ q. omega arith), units-eval v n (suc e) k x (omega arith) (omega arith), I.zero-*ℤ, I.+ℤ-idl, N.pow-succ' v x)
+      (sym (R.*ℤ-assoc (pos v) (pos (v ^ x)) (same t (rest 8 d k))))
 
   powers-eval : (v n : ℕ) (ms : List Monomial) → All (λ (m : Monomial). exponent 8 d (m .key) ≤ n) ms
       → eval (pos v) (powers (suc n) 0 ms) ≡ weigh (same t) (substituted d v ms)
