@@ -212,8 +212,10 @@ module _ (table : List ℕ) (f g : Form) (buffer work : List ℕ) (w : Decidable
               zeros = z;
             }
 
-        pub differs : (b′ : List ℕ) → drop (3 * length table) b ≡ drop (3 * length table) buffer → Eliminated table (take r ns) b b′ → Differs table (formOf f) (formOf g) buffer b′
-        differs b′ d e =
+        -- the numbers chosen tell the forms apart; b₀ is the buffer before its first bytes were set to 0
+        pub differs : (b₀ b′ : List ℕ) → b₀ ≡ buffer → drop (3 * length table) b ≡ drop (3 * length table) b₀ → Eliminated table (take r ns) b b′
+            → Differs table (formOf f) (formOf g) buffer b′
+        differs b₀ b′ o d e =
             let τ = assignment b′ in
             let at : (x : ℕ) → x < 3 * length table → variables τ x ≡ pos (getD b′ x 0) = λ x k. variable-value b′ x (N.le-trans (e .within x k) (limit-six table x)) in
             record {
@@ -222,7 +224,7 @@ module _ (table : List ℕ) (f g : Form) (buffer work : List ℕ) (w : Decidable
               unequal = λ q. e .nonzero (variables τ) at
                   (same-value (variables τ) ∙ values τ i h .0 ∙ ap (λ (v : Vec). component i v -ℤ component i (value τ (formOf g))) q
                   ∙ I.+ℤ-invr (component i (value τ (formOf g))));
-              restStands = e .behind ∙ d;
+              restStands = e .behind ∙ d ∙ ap (drop (3 * length table)) o;
             }
 
   -- every component is 0

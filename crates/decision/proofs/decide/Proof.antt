@@ -1,10 +1,10 @@
 -- `decision::decide` meets its contract. Assumes nothing.
-use Rattle.records.specs.Reading.{termsOf}
-use Rattle.terms.specs.Abstraction.{formOf}
-use Rattle.decision.specs.Answers.{decisionOf}
-use Rattle.specification.specs.Decision.{Decided}
-use Rattle.decision.proofs.Deciding.{table-refused, buffer-refused, work-refused, first-refused, second-refused, letters-refused, others-refused, kinds-refused, settle-asks, settled}
 use borrow.Author.Needs.{needs}
+use Rattle.specification.specs.Decision.{Decided}
+use Rattle.terms.specs.Abstraction.{formOf}
+use Rattle.records.specs.Reading.{termsOf}
+use Rattle.decision.specs.Answers.{decisionOf}
+use Rattle.decision.proofs.Deciding.{table-refused, buffer-refused, work-refused, first-refused, second-refused, letters-refused, others-refused, kinds-refused, settle-asks, settled}
 use Rattle.decision.proofs.decide.Statement.{statement}
 use Rattle.decision.proofs.decide.Tie as tie
 
@@ -28,36 +28,76 @@ read-whole-requires c κs = search needs
 
 returns-4 : tie.Need-returns-4
 unfolding Decided decisionOf formOf termsOf
-returns-4 c = first-refused _ _ _ _ _ _ (c .before .before .before .before .before .check-table .ensures) (c .before .before .before .before .if1 .left) (c .before .before .before .if2 .left) (c .before .before .if3 .left) _ (c .before .read-whole .ensures) (c .if4 .taken)
+returns-4 c =
+    first-refused _ _ _ _ _ _ (c .before .before .before .before .before .check-table .ensures) (c .before .before .before .before .if1 .left)
+    (c .before .before .before .if2 .left) (c .before .before .if3 .left) _ (c .before .read-whole .ensures) (c .if4 .taken)
 
 read-whole-requires-2 : tie.Need-read-whole-requires-2
 read-whole-requires-2 c κs = search needs
 
 returns-5 : tie.Need-returns-5
 unfolding Decided decisionOf formOf termsOf
-returns-5 c = second-refused _ _ _ _ _ _ (c .before .before .before .before .before .before .before .check-table .ensures) (c .before .before .before .before .before .before .if1 .left) (c .before .before .before .before .before .if2 .left) (c .before .before .before .before .if3 .left) _ (c .before .before .before .read-whole .ensures) (c .before .before .if4 .left) _ (c .before .read-whole2 .ensures) (c .if5 .taken)
+returns-5 c =
+    second-refused _ _ _ _ _ _ (c .before .before .before .before .before .before .before .check-table .ensures)
+    (c .before .before .before .before .before .before .if1 .left) (c .before .before .before .before .before .if2 .left) (c .before .before .before .before .if3 .left) _
+    (c .before .before .before .read-whole .ensures) (c .before .before .if4 .left) _ (c .before .read-whole2 .ensures) (c .if5 .taken)
 
 test-terms-requires : tie.Need-test-terms-requires
 test-terms-requires c κs = c .before .before .before .before .before .read-whole .ensures .readable
 
 returns-6 : tie.Need-returns-6
 unfolding Decided decisionOf formOf termsOf
-returns-6 c = letters-refused _ _ _ _ _ _ (c .before .before .before .before .before .before .before .before .before .before .before .check-table .ensures) (c .before .before .before .before .before .before .before .before .before .before .if1 .left) (c .before .before .before .before .before .before .before .before .before .if2 .left) (c .before .before .before .before .before .before .before .before .if3 .left) _ (c .before .before .before .before .before .before .before .read-whole .ensures) (c .before .before .before .before .before .before .if4 .left) _ (c .before .before .before .before .before .read-whole2 .ensures) (c .before .before .before .before .if5 .left) _ (c .before .test-terms .ensures) (c .if6 .taken)
+returns-6 c =
+    letters-refused _ _ _ _ _ _ (c .before .before .before .before .before .before .before .before .before .before .before .check-table .ensures)
+    (c .before .before .before .before .before .before .before .before .before .before .if1 .left)
+    (c .before .before .before .before .before .before .before .before .before .if2 .left) (c .before .before .before .before .before .before .before .before .if3 .left)
+    _ (c .before .before .before .before .before .before .before .read-whole .ensures) (c .before .before .before .before .before .before .if4 .left) _
+    (c .before .before .before .before .before .read-whole2 .ensures) (c .before .before .before .before .if5 .left) _ (c .before .test-terms .ensures) (c .if6 .taken)
 
 test-terms-requires-2 : tie.Need-test-terms-requires-2
 test-terms-requires-2 c κs = c .before .before .before .before .before .read-whole2 .ensures .readable
 
 returns-7 : tie.Need-returns-7
 unfolding Decided decisionOf formOf termsOf
-returns-7 c = others-refused _ _ _ _ _ _ (c .before .before .before .before .before .before .before .before .before .before .before .before .before .check-table .ensures) (c .before .before .before .before .before .before .before .before .before .before .before .before .if1 .left) (c .before .before .before .before .before .before .before .before .before .before .before .if2 .left) (c .before .before .before .before .before .before .before .before .before .before .if3 .left) _ (c .before .before .before .before .before .before .before .before .before .read-whole .ensures) (c .before .before .before .before .before .before .before .before .if4 .left) _ (c .before .before .before .before .before .before .before .read-whole2 .ensures) (c .before .before .before .before .before .before .if5 .left) _ (c .before .before .before .test-terms .ensures) (c .before .before .if6 .left) _ (c .before .test-terms2 .ensures) (c .if7 .taken)
+returns-7 c =
+    others-refused _ _ _ _ _ _ (c .before .before .before .before .before .before .before .before .before .before .before .before .before .check-table .ensures)
+    (c .before .before .before .before .before .before .before .before .before .before .before .before .if1 .left)
+    (c .before .before .before .before .before .before .before .before .before .before .before .if2 .left)
+    (c .before .before .before .before .before .before .before .before .before .before .if3 .left) _
+    (c .before .before .before .before .before .before .before .before .before .read-whole .ensures)
+    (c .before .before .before .before .before .before .before .before .if4 .left) _ (c .before .before .before .before .before .before .before .read-whole2 .ensures)
+    (c .before .before .before .before .before .before .if5 .left) _ (c .before .before .before .test-terms .ensures) (c .before .before .if6 .left) _
+    (c .before .test-terms2 .ensures) (c .if7 .taken)
 
 returns-8 : tie.Need-returns-8
 unfolding Decided decisionOf formOf termsOf
-returns-8 c = kinds-refused _ _ _ _ _ _ (c .before .before .before .before .before .before .before .before .before .before .before .before .before .before .before .before .check-table .ensures) (c .before .before .before .before .before .before .before .before .before .before .before .before .before .before .before .if1 .left) (c .before .before .before .before .before .before .before .before .before .before .before .before .before .before .if2 .left) (c .before .before .before .before .before .before .before .before .before .before .before .before .before .if3 .left) _ (c .before .before .before .before .before .before .before .before .before .before .before .before .read-whole .ensures) (c .before .before .before .before .before .before .before .before .before .before .before .if4 .left) _ (c .before .before .before .before .before .before .before .before .before .before .read-whole2 .ensures) (c .before .before .before .before .before .before .before .before .before .if5 .left) _ (c .before .before .before .before .before .before .test-terms .ensures) (c .before .before .before .before .before .if6 .left) _ (c .before .before .before .before .test-terms2 .ensures) (c .before .before .before .if7 .left) (c .if8 .taken)
+returns-8 c =
+    kinds-refused _ _ _ _ _ _
+    (c .before .before .before .before .before .before .before .before .before .before .before .before .before .before .before .before .check-table .ensures)
+    (c .before .before .before .before .before .before .before .before .before .before .before .before .before .before .before .if1 .left)
+    (c .before .before .before .before .before .before .before .before .before .before .before .before .before .before .if2 .left)
+    (c .before .before .before .before .before .before .before .before .before .before .before .before .before .if3 .left) _
+    (c .before .before .before .before .before .before .before .before .before .before .before .before .read-whole .ensures)
+    (c .before .before .before .before .before .before .before .before .before .before .before .if4 .left) _
+    (c .before .before .before .before .before .before .before .before .before .before .read-whole2 .ensures)
+    (c .before .before .before .before .before .before .before .before .before .if5 .left) _ (c .before .before .before .before .before .before .test-terms .ensures)
+    (c .before .before .before .before .before .if6 .left) _ (c .before .before .before .before .test-terms2 .ensures) (c .before .before .before .if7 .left)
+    (c .if8 .taken)
 
 settle-requires : tie.Need-settle-requires
 unfolding formOf termsOf
-settle-requires c κs = settle-asks _ _ _ _ _ _ (c .before .before .before .before .before .before .before .before .before .before .before .before .before .before .before .before .before .before .check-table .ensures) (c .before .before .before .before .before .before .before .before .before .before .before .before .before .before .before .before .before .if1 .left) (c .before .before .before .before .before .before .before .before .before .before .before .before .before .before .before .before .if2 .left) (c .before .before .before .before .before .before .before .before .before .before .before .before .before .before .before .if3 .left) _ (c .before .before .before .before .before .before .before .before .before .before .before .before .before .before .read-whole .ensures) (c .before .before .before .before .before .before .before .before .before .before .before .before .before .if4 .left) _ (c .before .before .before .before .before .before .before .before .before .before .before .before .read-whole2 .ensures) (c .before .before .before .before .before .before .before .before .before .before .before .if5 .left) _ (c .before .before .before .before .before .before .before .before .test-terms .ensures) (c .before .before .before .before .before .before .before .if6 .left) _ (c .before .before .before .before .before .before .test-terms2 .ensures) (c .before .before .before .before .before .if7 .left) (c .before .before .if8 .left)
+settle-requires c κs =
+    settle-asks _ _ _ _ _ _
+    (c .before .before .before .before .before .before .before .before .before .before .before .before .before .before .before .before .before .before .check-table .ensures)
+    (c .before .before .before .before .before .before .before .before .before .before .before .before .before .before .before .before .before .if1 .left)
+    (c .before .before .before .before .before .before .before .before .before .before .before .before .before .before .before .before .if2 .left)
+    (c .before .before .before .before .before .before .before .before .before .before .before .before .before .before .before .if3 .left) _
+    (c .before .before .before .before .before .before .before .before .before .before .before .before .before .before .read-whole .ensures)
+    (c .before .before .before .before .before .before .before .before .before .before .before .before .before .if4 .left) _
+    (c .before .before .before .before .before .before .before .before .before .before .before .before .read-whole2 .ensures)
+    (c .before .before .before .before .before .before .before .before .before .before .before .if5 .left) _
+    (c .before .before .before .before .before .before .before .before .test-terms .ensures) (c .before .before .before .before .before .before .before .if6 .left) _
+    (c .before .before .before .before .before .before .test-terms2 .ensures) (c .before .before .before .before .before .if7 .left) (c .before .before .if8 .left)
 
 same-length : tie.Need-same-length
 same-length c = search needs
@@ -67,7 +107,22 @@ same-length-2 c = search needs
 
 returns-9 : tie.Need-returns-9
 unfolding Decided decisionOf formOf termsOf
-returns-9 c = settled _ _ _ _ _ _ (c .before .before .before .before .before .before .before .before .before .before .before .before .before .before .before .before .before .before .before .before .before .before .before .check-table .ensures) (c .before .before .before .before .before .before .before .before .before .before .before .before .before .before .before .before .before .before .before .before .before .before .if1 .left) (c .before .before .before .before .before .before .before .before .before .before .before .before .before .before .before .before .before .before .before .before .before .if2 .left) (c .before .before .before .before .before .before .before .before .before .before .before .before .before .before .before .before .before .before .before .before .if3 .left) _ (c .before .before .before .before .before .before .before .before .before .before .before .before .before .before .before .before .before .before .before .read-whole .ensures) (c .before .before .before .before .before .before .before .before .before .before .before .before .before .before .before .before .before .before .if4 .left) _ (c .before .before .before .before .before .before .before .before .before .before .before .before .before .before .before .before .before .read-whole2 .ensures) (c .before .before .before .before .before .before .before .before .before .before .before .before .before .before .before .before .if5 .left) _ (c .before .before .before .before .before .before .before .before .before .before .before .before .before .test-terms .ensures) (c .before .before .before .before .before .before .before .before .before .before .before .before .if6 .left) _ (c .before .before .before .before .before .before .before .before .before .before .before .test-terms2 .ensures) (c .before .before .before .before .before .before .before .before .before .before .if7 .left) (c .before .before .before .before .before .before .before .if8 .left) _ _ _ (c .before .before .before .before .settle .ensures)
+returns-9 c =
+    settled _ _ _ _ _ _
+    (c .before .before .before .before .before .before .before .before .before .before .before .before .before .before .before .before .before .before .before .before .before .before .before .check-table .ensures)
+    (c .before .before .before .before .before .before .before .before .before .before .before .before .before .before .before .before .before .before .before .before .before .before .if1 .left)
+    (c .before .before .before .before .before .before .before .before .before .before .before .before .before .before .before .before .before .before .before .before .before .if2 .left)
+    (c .before .before .before .before .before .before .before .before .before .before .before .before .before .before .before .before .before .before .before .before .if3 .left)
+    _
+    (c .before .before .before .before .before .before .before .before .before .before .before .before .before .before .before .before .before .before .before .read-whole .ensures)
+    (c .before .before .before .before .before .before .before .before .before .before .before .before .before .before .before .before .before .before .if4 .left) _
+    (c .before .before .before .before .before .before .before .before .before .before .before .before .before .before .before .before .before .read-whole2 .ensures)
+    (c .before .before .before .before .before .before .before .before .before .before .before .before .before .before .before .before .if5 .left) _
+    (c .before .before .before .before .before .before .before .before .before .before .before .before .before .test-terms .ensures)
+    (c .before .before .before .before .before .before .before .before .before .before .before .before .if6 .left) _
+    (c .before .before .before .before .before .before .before .before .before .before .before .test-terms2 .ensures)
+    (c .before .before .before .before .before .before .before .before .before .before .if7 .left) (c .before .before .before .before .before .before .before .if8 .left)
+    _ _ _ (c .before .before .before .before .settle .ensures)
 
 pub decide-spec : {M : Type 1} → statement M
 decide-spec =

@@ -2,9 +2,9 @@
 use Prim.Native.Nat.{ℕ}
 use denote.Ref.{now}
 use borrow.Author.Tests.{not-true, not-false}
+use borrow.Author.Needs.{needs}
 use Rattle.records.proofs.Takers.{bytes-all}
 use Rattle.decision.proofs.Reading.{whole-unread, whole-not, whole-read}
-use borrow.Author.Needs.{needs}
 use Rattle.decision.proofs.read_whole.Statement.{statement}
 use Rattle.decision.proofs.read_whole.Tie as tie
 
@@ -18,7 +18,10 @@ returns-2 : tie.Need-returns-2
 returns-2 c = whole-not _ _ (c .before .before .before .before .before .read-form-at .ensures) (not-false _ (c .before .before .if1 .left)) (c .if2 .taken)
 
 returns-3 : tie.Need-returns-3
-returns-3 c = whole-read _ _ (c .before .before .before .before .before .read-form-at .ensures) (not-false _ (c .before .before .if1 .left)) (bytes-all (now (c .before .before .before .before .before .before .before .args .s)) (λ (k : ℕ). c .before .before .before .before .before .before .shared-slice-known .given k .fits)) (c .if2 .left)
+returns-3 c =
+    whole-read _ _ (c .before .before .before .before .before .read-form-at .ensures) (not-false _ (c .before .before .if1 .left))
+    (bytes-all (now (c .before .before .before .before .before .before .before .args .s))
+    (λ (k : ℕ). c .before .before .before .before .before .before .shared-slice-known .given k .fits)) (c .if2 .left)
 
 pub read-whole-spec : {M : Type 1} → statement M
 read-whole-spec = tie.close (tie.spec read-form-at-requires returns returns-2 returns-3)

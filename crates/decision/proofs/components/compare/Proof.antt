@@ -1,6 +1,6 @@
 -- `decision::components::compare` meets its contract. Assumes nothing.
-use native.Mathlib.Omega.{arith}
 use mathlib.Core.Path.{_∙_}
+use native.Mathlib.Omega.{arith}
 use Rattle.decision.proofs.Differences.{first-asks, second-asks, counts-few, sort-asks, substitute-asks, compared}
 use Rattle.decision.proofs.components.compare.Statement.{statement}
 use Rattle.decision.proofs.components.compare.Tie as tie
@@ -12,19 +12,37 @@ expand-form-requires-2 : tie.Need-expand-form-requires-2
 expand-form-requires-2 c κs = second-asks _ _ _ _ (c .before .before .before .before .before .before .pre) _ _ (c .before .before .before .expand-form .ensures)
 
 add-n : tie.Need-add-n
-add-n c = omega (arith, counts-few _ _ _ _ (c .before .before .before .before .before .before .before .before .before .pre) _ _ (c .before .before .before .before .before .before .expand-form .ensures) _ _ (c .before .before .expand-form2 .ensures))
+add-n c =
+    omega (
+      arith,
+      counts-few _ _ _ _ (c .before .before .before .before .before .before .before .before .before .pre) _ _
+          (c .before .before .before .before .before .before .expand-form .ensures) _ _ (c .before .before .expand-form2 .ensures),
+    )
 
 sort-requires : tie.Need-sort-requires
-sort-requires c κs = sort-asks _ _ _ _ (c .before .before .before .before .before .before .before .before .before .before .pre) _ _ (c .before .before .before .before .before .before .before .expand-form .ensures) _ _ (c .before .before .before .expand-form2 .ensures)
+sort-requires c κs =
+    sort-asks _ _ _ _ (c .before .before .before .before .before .before .before .before .before .before .pre) _ _
+    (c .before .before .before .before .before .before .before .expand-form .ensures) _ _ (c .before .before .before .expand-form2 .ensures)
 
 substitute-requires : tie.Need-substitute-requires
-substitute-requires c κs = substitute-asks _ _ _ _ (c .before .before .before .before .before .before .before .before .before .before .before .before .before .before .pre) _ _ (c .before .before .before .before .before .before .before .before .before .before .before .expand-form .ensures) _ _ (c .before .before .before .before .before .before .before .expand-form2 .ensures) _ (c .before .before .before .sort .ensures)
+substitute-requires c κs =
+    substitute-asks _ _ _ _ (c .before .before .before .before .before .before .before .before .before .before .before .before .before .before .pre) _ _
+    (c .before .before .before .before .before .before .before .before .before .before .before .expand-form .ensures) _ _
+    (c .before .before .before .before .before .before .before .expand-form2 .ensures) _ (c .before .before .before .sort .ensures)
 
 same-length : tie.Need-same-length
-same-length c = c .before .before .substitute .kept .0 ∙ c .before .before .before .before .before .before .sort .kept .0 ∙ c .before .before .before .before .before .before .before .before .before .before .expand-form2 .kept .0 ∙ c .before .before .before .before .before .before .before .before .before .before .before .before .before .before .expand-form .kept .0
+same-length c =
+    c .before .before .substitute .kept .0
+    ∙ c .before .before .before .before .before .before .sort .kept .0
+    ∙ c .before .before .before .before .before .before .before .before .before .before .expand-form2 .kept .0
+    ∙ c .before .before .before .before .before .before .before .before .before .before .before .before .before .before .expand-form .kept .0
 
 returns : tie.Need-returns
-returns c = compared _ _ _ _ (c .before .before .before .before .before .before .before .before .before .before .before .before .before .before .before .before .before .pre) _ _ (c .before .before .before .before .before .before .before .before .before .before .before .before .before .before .expand-form .ensures) _ _ (c .before .before .before .before .before .before .before .before .before .before .expand-form2 .ensures) _ (c .before .before .before .before .before .before .sort .ensures) _ _ (c .before .before .substitute .ensures)
+returns c =
+    compared _ _ _ _ (c .before .before .before .before .before .before .before .before .before .before .before .before .before .before .before .before .before .pre) _ _
+    (c .before .before .before .before .before .before .before .before .before .before .before .before .before .before .expand-form .ensures) _ _
+    (c .before .before .before .before .before .before .before .before .before .before .expand-form2 .ensures) _
+    (c .before .before .before .before .before .before .sort .ensures) _ _ (c .before .before .substitute .ensures)
 
 pub compare-spec : {M : Type 1} → statement M
 compare-spec =

@@ -1,7 +1,7 @@
 -- `decision::components::expand_form` meets its contract: the terms before k are expanded. Assumes nothing.
-use native.Mathlib.Omega.{arith}
 use mathlib.Core.Path.{_≡_, refl, sym, _∙_}
 use Prim.Native.Nat.{_-_, _≤_}
+use native.Mathlib.Omega.{arith}
 use lib.ListN.{length, length-map}
 use mir.Val.{toZ}
 use mir.Syntax.{w64}
@@ -41,13 +41,28 @@ element-copy-out-t : tie.Need-element-copy-out-t Inv-loop μ-loop
 element-copy-out-t c = omega (arith, c .before .before .before .pre .valid .few)
 
 add-expand-term : tie.Need-add-expand-term Inv-loop μ-loop
-add-expand-term c = omega (arith, sum-fits _ _ _ _ _ (asks (c .before .before .before .before .before)) (few (c .before .before .before .before .before)) _ (c .before .before .loop-test .taken) _ _ (c .before .before .before .loop .inv .1), words (c .before .before .before .before .before .args .work .now))
+add-expand-term c =
+    omega (
+      arith,
+      sum-fits _ _ _ _ _ (asks (c .before .before .before .before .before)) (few (c .before .before .before .before .before)) _ (c .before .before .loop-test .taken) _ _
+          (c .before .before .before .loop .inv .1),
+      words (c .before .before .before .before .before .args .work .now),
+    )
 
 expand-term-requires : tie.Need-expand-term-requires Inv-loop μ-loop
-expand-term-requires c κs = fill-asks _ _ _ _ _ (asks (c .before .before .before .before .before)) (few (c .before .before .before .before .before)) _ (c .before .before .loop-test .taken) _ _ (c .before .before .before .loop .inv .1)
+expand-term-requires c κs =
+    fill-asks _ _ _ _ _ (asks (c .before .before .before .before .before)) (few (c .before .before .before .before .before)) _ (c .before .before .loop-test .taken) _ _
+    (c .before .before .before .loop .inv .1)
 
 add-n : tie.Need-add-n Inv-loop μ-loop
-add-n c = omega (arith, fill-on _ _ _ _ _ (asks (c .before .before .before .before .before .before .before .before)) (few (c .before .before .before .before .before .before .before .before)) _ (c .before .before .before .before .before .loop-test .taken) _ _ (c .before .before .before .before .before .before .loop .inv .1) _ _ (c .before .before .expand-term .ensures) .0, words (c .before .before .before .before .before .before .before .before .args .work .now))
+add-n c =
+    omega (
+      arith,
+      fill-on _ _ _ _ _ (asks (c .before .before .before .before .before .before .before .before))
+          (few (c .before .before .before .before .before .before .before .before)) _ (c .before .before .before .before .before .loop-test .taken) _ _
+          (c .before .before .before .before .before .before .loop .inv .1) _ _ (c .before .before .expand-term .ensures) .0,
+      words (c .before .before .before .before .before .before .before .before .args .work .now),
+    )
 
 add-k : tie.Need-add-k Inv-loop μ-loop
 add-k c = omega (arith, c .before .before .before .before .before .before .before .before .pre .valid .few)
@@ -56,7 +71,12 @@ loop-less : tie.Need-loop-less Inv-loop μ-loop
 loop-less c = omega arith
 
 loop-again : tie.Need-loop-again Inv-loop μ-loop
-loop-again c = (c .before .before .expand-term .kept .0 ∙ c .before .before .before .before .before .before .loop .inv .0, fill-on _ _ _ _ _ (asks (c .before .before .before .before .before .before .before .before)) (few (c .before .before .before .before .before .before .before .before)) _ (c .before .before .before .before .before .loop-test .taken) _ _ (c .before .before .before .before .before .before .loop .inv .1) _ _ (c .before .before .expand-term .ensures) .1)
+loop-again c = (
+  c .before .before .expand-term .kept .0 ∙ c .before .before .before .before .before .before .loop .inv .0,
+  fill-on _ _ _ _ _ (asks (c .before .before .before .before .before .before .before .before))
+      (few (c .before .before .before .before .before .before .before .before)) _ (c .before .before .before .before .before .loop-test .taken) _ _
+      (c .before .before .before .before .before .before .loop .inv .1) _ _ (c .before .before .expand-term .ensures) .1,
+)
 
 same-length : tie.Need-same-length Inv-loop μ-loop
 same-length c = c .before .loop .inv .0

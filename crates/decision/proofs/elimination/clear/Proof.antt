@@ -1,10 +1,10 @@
 -- `decision::elimination::clear` meets its contract: the bytes before i are 0. Assumes nothing.
-use native.Mathlib.Omega.{arith}
 use mathlib.Core.Path.{_≡_, refl, _∙_}
+use Prim.Native.Nat.{ℕ, _-_, _≤_, _<_}
+use native.Mathlib.Omega.{arith}
+use native.Mathlib.Nat.{not-suc-le-zero}
 use lib.Seq.{drop-set-lt}
 use lib.ListN.{length, getD, drop, length-set}
-use native.Mathlib.Nat.{not-suc-le-zero}
-use Prim.Native.Nat.{ℕ, _-_, _≤_, _<_}
 use Rattle.decision.proofs.Choices.{cleared-more}
 use Rattle.decision.proofs.elimination.clear.Statement.{statement}
 use Rattle.decision.proofs.elimination.clear.Tie as tie
@@ -28,7 +28,12 @@ loop-less : tie.Need-loop-less Inv-loop μ-loop
 loop-less c = omega arith
 
 loop-again : tie.Need-loop-again Inv-loop μ-loop
-loop-again c = (length-set (c .before .loop .buffer) (c .before .loop .i) 0 ∙ c .before .loop .inv .0, omega arith, cleared-more (c .before .loop .buffer) (c .before .loop .i) (omega (arith, c .before .loop .inv .0, c .before .before .pre)) (c .before .loop .inv .2), drop-set-lt _ (c .before .loop .buffer) (c .before .loop .i) 0 (c .loop-test .taken) ∙ c .before .loop .inv .3)
+loop-again c = (
+  length-set (c .before .loop .buffer) (c .before .loop .i) 0 ∙ c .before .loop .inv .0,
+  omega arith,
+  cleared-more (c .before .loop .buffer) (c .before .loop .i) (omega (arith, c .before .loop .inv .0, c .before .before .pre)) (c .before .loop .inv .2),
+  drop-set-lt _ (c .before .loop .buffer) (c .before .loop .i) 0 (c .loop-test .taken) ∙ c .before .loop .inv .3,
+)
 
 same-length : tie.Need-same-length Inv-loop μ-loop
 same-length c = c .before .loop .inv .0

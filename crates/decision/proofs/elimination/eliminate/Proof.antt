@@ -1,15 +1,16 @@
 -- `decision::elimination::eliminate` meets its contract: the numbers chosen keep the value. Assumes nothing.
-use native.Mathlib.Omega.{arith}
 use mathlib.Core.Path.{_≡_, refl, _∙_}
-use lib.ListN.{length, take}
 use Prim.Native.Nat.{_≤_}
+use native.Mathlib.Omega.{arith}
+use lib.ListN.{length, take}
 use Rattle.decision.specs.Memory.{monomials}
 use Rattle.decision.proofs.Choices.{Choosing, choose-starts, choose-on, choose-ends, choose-falls, fallOf, letter-there, most-six, fits, number-small, byte-there}
 use Rattle.decision.proofs.elimination.eliminate.Statement.{statement}
 use Rattle.decision.proofs.elimination.eliminate.Tie as tie
 
 abbrev Inv-loop : tie.InvT-loop
-Inv-loop table work₀ n buffer₀ m₀ d₀ work buffer m d = (length work ≡ length work₀) × (m ≤ length (monomials work)) × Choosing table (take n (monomials work₀)) (take m (monomials work)) d buffer₀ buffer
+Inv-loop table work₀ n buffer₀ m₀ d₀ work buffer m d =
+    (length work ≡ length work₀) × (m ≤ length (monomials work)) × Choosing table (take n (monomials work₀)) (take m (monomials work)) d buffer₀ buffer
 
 abbrev μ-loop : tie.MeasureT-loop
 μ-loop table work₀ n buffer₀ m₀ d₀ work buffer m d = fallOf d
@@ -27,25 +28,70 @@ most-requires : tie.Need-most-requires Inv-loop μ-loop
 most-requires c κs = letter-there _ _ _ _ _ _ (c .before .before .loop .inv .2) (c .before .loop-test .taken)
 
 first-number-requires : tie.Need-first-number-requires Inv-loop μ-loop
-first-number-requires c κs = (c .before .before .before .loop .inv .1, most-six _ _ _ _ _ _ (c .before .before .before .loop .inv .2) (c .before .before .loop-test .taken) _ (c .most .ensures), fits _ _ _ _ _ _ (c .before .before .before .loop .inv .2) (c .before .before .loop-test .taken) _ (c .most .ensures))
+first-number-requires c κs = (
+  c .before .before .before .loop .inv .1,
+  most-six _ _ _ _ _ _ (c .before .before .before .loop .inv .2) (c .before .before .loop-test .taken) _ (c .most .ensures),
+  fits _ _ _ _ _ _ (c .before .before .before .loop .inv .2) (c .before .before .loop-test .taken) _ (c .most .ensures),
+)
 
 substitute-requires : tie.Need-substitute-requires Inv-loop μ-loop
-substitute-requires c κs = (c .before .before .before .before .before .loop .inv .1, fits _ _ _ _ _ _ (c .before .before .before .before .before .loop .inv .2) (c .before .before .before .before .loop-test .taken) _ (c .before .before .most .ensures) _ (c .before .first-number .ensures .few))
+substitute-requires c κs = (
+  c .before .before .before .before .before .loop .inv .1,
+  fits _ _ _ _ _ _ (c .before .before .before .before .before .loop .inv .2) (c .before .before .before .before .loop-test .taken) _
+      (c .before .before .most .ensures) _ (c .before .first-number .ensures .few),
+)
 
 cast-buffer : tie.Need-cast-buffer Inv-loop μ-loop
-cast-buffer c = omega (arith, number-small _ _ _ _ _ _ (c .before .before .before .before .before .before .before .before .loop .inv .2) (c .before .before .before .before .before .before .before .loop-test .taken) _ (c .before .before .before .before .before .most .ensures) _ (c .before .before .before .before .first-number .ensures))
+cast-buffer c =
+    omega (
+      arith,
+      number-small _ _ _ _ _ _ (c .before .before .before .before .before .before .before .before .loop .inv .2)
+          (c .before .before .before .before .before .before .before .loop-test .taken) _ (c .before .before .before .before .before .most .ensures) _
+          (c .before .before .before .before .first-number .ensures),
+    )
 
 slice-write-buffer : tie.Need-slice-write-buffer Inv-loop μ-loop
-slice-write-buffer c = byte-there _ _ _ _ _ _ (c .before .before .before .before .before .before .before .before .loop .inv .2) (c .before .before .before .before .before .before .before .loop-test .taken) _ (c .before .before .before .before .before .most .ensures) _ (c .before .before .before .before .first-number .ensures) (c .before .before .before .before .before .before .before .before .before .before .before .before .before .before .pre .room) (c .before .before .before .before .before .before .before .before .before .before .before .before .before .before .pre .letters)
+slice-write-buffer c =
+    byte-there _ _ _ _ _ _ (c .before .before .before .before .before .before .before .before .loop .inv .2)
+    (c .before .before .before .before .before .before .before .loop-test .taken) _ (c .before .before .before .before .before .most .ensures) _
+    (c .before .before .before .before .first-number .ensures)
+    (c .before .before .before .before .before .before .before .before .before .before .before .before .before .before .pre .room)
+    (c .before .before .before .before .before .before .before .before .before .before .before .before .before .before .pre .letters)
 
 least-requires-2 : tie.Need-least-requires-2 Inv-loop μ-loop
-least-requires-2 c κs = omega (arith, c .before .before .before .before .before .before .before .before .before .loop .inv .1, c .before .before .before .substitute .ensures .few, c .before .before .before .substitute .ensures .count)
+least-requires-2 c κs =
+    omega (
+      arith,
+      c .before .before .before .before .before .before .before .before .before .loop .inv .1,
+      c .before .before .before .substitute .ensures .few,
+      c .before .before .before .substitute .ensures .count,
+    )
 
 loop-less : tie.Need-loop-less Inv-loop μ-loop
-loop-less c = choose-falls _ _ _ _ _ _ (c .before .before .before .before .before .before .before .before .before .before .loop .inv .2) (c .before .before .before .before .before .before .before .before .before .loop-test .taken) _ (c .before .before .before .before .before .before .before .most .ensures) _ (c .before .before .before .before .before .before .first-number .ensures) (c .before .before .before .before .before .before .before .before .before .before .before .before .before .before .before .before .pre .room) (c .before .before .before .before .before .before .before .before .before .before .before .before .before .before .before .before .pre .letters) _ _ _ _ (c .before .before .before .before .substitute .ensures) refl _ (c .least2 .ensures)
+loop-less c =
+    choose-falls _ _ _ _ _ _ (c .before .before .before .before .before .before .before .before .before .before .loop .inv .2)
+    (c .before .before .before .before .before .before .before .before .before .loop-test .taken) _
+    (c .before .before .before .before .before .before .before .most .ensures) _ (c .before .before .before .before .before .before .first-number .ensures)
+    (c .before .before .before .before .before .before .before .before .before .before .before .before .before .before .before .before .pre .room)
+    (c .before .before .before .before .before .before .before .before .before .before .before .before .before .before .before .before .pre .letters) _ _ _ _
+    (c .before .before .before .before .substitute .ensures) refl _ (c .least2 .ensures)
 
 loop-again : tie.Need-loop-again Inv-loop μ-loop
-loop-again c = (c .before .before .before .before .substitute .kept .0 ∙ c .before .before .before .before .before .before .before .before .before .before .loop .inv .0, omega (arith, c .before .before .before .before .before .before .before .before .before .before .loop .inv .1, c .before .before .before .before .substitute .ensures .few, c .before .before .before .before .substitute .ensures .count), choose-on _ _ _ _ _ _ (c .before .before .before .before .before .before .before .before .before .before .loop .inv .2) (c .before .before .before .before .before .before .before .before .before .loop-test .taken) _ (c .before .before .before .before .before .before .before .most .ensures) _ (c .before .before .before .before .before .before .first-number .ensures) (c .before .before .before .before .before .before .before .before .before .before .before .before .before .before .before .before .pre .room) (c .before .before .before .before .before .before .before .before .before .before .before .before .before .before .before .before .pre .letters) _ _ _ _ _ (c .before .before .before .before .substitute .ensures) refl refl _ (c .least2 .ensures))
+loop-again c = (
+  c .before .before .before .before .substitute .kept .0 ∙ c .before .before .before .before .before .before .before .before .before .before .loop .inv .0,
+  omega (
+    arith,
+    c .before .before .before .before .before .before .before .before .before .before .loop .inv .1,
+    c .before .before .before .before .substitute .ensures .few,
+    c .before .before .before .before .substitute .ensures .count,
+  ),
+  choose-on _ _ _ _ _ _ (c .before .before .before .before .before .before .before .before .before .before .loop .inv .2)
+      (c .before .before .before .before .before .before .before .before .before .loop-test .taken) _
+      (c .before .before .before .before .before .before .before .most .ensures) _ (c .before .before .before .before .before .before .first-number .ensures)
+      (c .before .before .before .before .before .before .before .before .before .before .before .before .before .before .before .before .pre .room)
+      (c .before .before .before .before .before .before .before .before .before .before .before .before .before .before .before .before .pre .letters) _ _ _ _ _
+      (c .before .before .before .before .substitute .ensures) refl refl _ (c .least2 .ensures),
+)
 
 same-length : tie.Need-same-length Inv-loop μ-loop
 same-length c = c .before .loop .inv .0

@@ -1,10 +1,10 @@
 -- `decision::elimination::first_number` meets its contract: no number below v leaves a monomial. Assumes nothing.
-use native.Mathlib.Omega.{arith}
 use mathlib.Core.Path.{_≡_, sym, _∙_}
 use mathlib.Core.Bool.{false}
-use lib.ListN.{take}
-use native.Mathlib.Nat.{not-suc-le-zero}
 use Prim.Native.Nat.{ℕ, _-_, _≤_, _<_}
+use native.Mathlib.Omega.{arith}
+use native.Mathlib.Nat.{not-suc-le-zero}
+use lib.ListN.{take}
 use Rattle.decision.specs.Monomials.{substituted, isSome}
 use Rattle.decision.specs.Memory.{monomials}
 use Rattle.decision.proofs.Choices.{first-asks, first-found, first-on, first-last}

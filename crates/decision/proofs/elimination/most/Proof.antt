@@ -1,6 +1,6 @@
 -- `decision::elimination::most` meets its contract. Assumes nothing.
-use Rattle.decision.proofs.Choices.{most-vector, most-scalar}
 use borrow.Author.Needs.{needs}
+use Rattle.decision.proofs.Choices.{most-vector, most-scalar}
 use Rattle.decision.proofs.elimination.most.Statement.{statement}
 use Rattle.decision.proofs.elimination.most.Tie as tie
 

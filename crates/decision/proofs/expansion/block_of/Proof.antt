@@ -1,6 +1,6 @@
 -- `decision::expansion::block_of` meets its contract. Assumes nothing.
-use Rattle.decision.proofs.Pieces.{block-one, block-two, block-three}
 use borrow.Author.Needs.{needs}
+use Rattle.decision.proofs.Pieces.{block-one, block-two, block-three}
 use Rattle.decision.proofs.expansion.block_of.Statement.{statement}
 use Rattle.decision.proofs.expansion.block_of.Tie as tie
 
@@ -29,7 +29,9 @@ low-requires-6 : tie.Need-low-requires-6
 low-requires-6 c κs = search needs
 
 returns-3 : tie.Need-returns-3
-returns-3 c = block-three _ _ _ _ (c .before .before .before .if2 .left) (c .before .before .before .before .before .pre) (c .before .before .low4 .ensures) (c .before .low5 .ensures) (c .low6 .ensures)
+returns-3 c =
+    block-three _ _ _ _ (c .before .before .before .if2 .left) (c .before .before .before .before .before .pre) (c .before .before .low4 .ensures)
+    (c .before .low5 .ensures) (c .low6 .ensures)
 
 pub block-of-spec : {M : Type 1} → statement M
 block-of-spec =

@@ -1,7 +1,7 @@
 -- `decision::expansion::count` meets its contract. Assumes nothing.
 use mathlib.Core.Path.{ap, sym}
-use Rattle.decision.specs.Expansion.{countOf}
 use borrow.Author.Needs.{needs}
+use Rattle.decision.specs.Expansion.{countOf}
 use Rattle.decision.proofs.expansion.count.Statement.{statement}
 use Rattle.decision.proofs.expansion.count.Tie as tie
 

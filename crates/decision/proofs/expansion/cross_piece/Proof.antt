@@ -1,8 +1,8 @@
 -- `decision::expansion::cross_piece` meets its contract. Assumes nothing.
 use mathlib.Core.Path.{_∙_}
+use borrow.Author.Needs.{needs}
 use Rattle.integers.proofs.Machine.{back-is}
 use Rattle.decision.proofs.Pieces.{cross-is}
-use borrow.Author.Needs.{needs}
 use Rattle.decision.proofs.expansion.cross_piece.Statement.{statement}
 use Rattle.decision.proofs.expansion.cross_piece.Tie as tie
 

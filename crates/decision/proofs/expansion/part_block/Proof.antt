@@ -1,6 +1,6 @@
 -- `decision::expansion::part_block` meets its contract. Assumes nothing.
-use Rattle.decision.proofs.Pieces.{part-one, part-zero, part-single, part-cross}
 use borrow.Author.Needs.{needs}
+use Rattle.decision.proofs.Pieces.{part-one, part-zero, part-single, part-cross}
 use Rattle.decision.proofs.expansion.part_block.Statement.{statement}
 use Rattle.decision.proofs.expansion.part_block.Tie as tie
 

@@ -1,7 +1,7 @@
 -- `decision::expansion::piece_at` meets its contract. Assumes nothing.
 use native.Mathlib.Omega.{arith}
-use Rattle.decision.proofs.Pieces.{small-single, small-cross, few-dot, few-triple, few-cross, piece-zero, piece-one, piece-single, piece-dot, piece-triple, piece-cross}
 use borrow.Author.Needs.{needs}
+use Rattle.decision.proofs.Pieces.{small-single, small-cross, few-dot, few-triple, few-cross, piece-zero, piece-one, piece-single, piece-dot, piece-triple, piece-cross}
 use Rattle.decision.proofs.expansion.piece_at.Statement.{statement}
 use Rattle.decision.proofs.expansion.piece_at.Tie as tie
 

@@ -1,11 +1,9 @@
 -- `decision::expansion::put_product` meets its contract. Assumes nothing.
-use Rattle.decision.specs.Memory.{monomials}
--- `decision::expansion::put_product` meets its contract. Assumes nothing.
 use mathlib.Core.Path.{_∙_}
-use Rattle.decision.proofs.Pieces.{product-asks, product-made, product-put}
--- `decision::expansion::put_product` meets its contract. Assumes nothing.
-use Rattle.integers.proofs.Machine.{back-is}
 use borrow.Author.Needs.{needs}
+use Rattle.integers.proofs.Machine.{back-is}
+use Rattle.decision.specs.Memory.{monomials}
+use Rattle.decision.proofs.Pieces.{product-asks, product-made, product-put}
 use Rattle.decision.proofs.expansion.put_product.Statement.{statement}
 use Rattle.decision.proofs.expansion.put_product.Tie as tie
 
@@ -25,7 +23,10 @@ coef-at-requires : tie.Need-coef-at-requires
 coef-at-requires c κs = search needs
 
 mul-requires : tie.Need-mul-requires
-mul-requires c κs = product-asks _ _ _ _ (c .before .before .before .before .before .before .before .before .before .pre .2) (back-is (record { sfits = c .coef-at .ok }) ∙ c .coef-at .ensures) (back-is (record { sfits = c .before .before .before .before .before .before .before .struct-told .given .1 .1 .1 .0 .1 }))
+mul-requires c κs =
+    product-asks _ _ _ _ (c .before .before .before .before .before .before .before .before .before .pre .2)
+    (back-is (record { sfits = c .coef-at .ok }) ∙ c .coef-at .ensures)
+    (back-is (record { sfits = c .before .before .before .before .before .before .before .struct-told .given .1 .1 .1 .0 .1 }))
 
 put-requires : tie.Need-put-requires
 put-requires c κs = search needs
@@ -34,7 +35,16 @@ same-length : tie.Need-same-length
 same-length c = search needs
 
 returns : tie.Need-returns
-returns c = let w = c .before .before .before .before .before .before .before .before .before .before .before .before .before .before in product-put (w .args .p) _ _ _ _ (monomials (w .args .work .now)) _ (w .args .to) (c .before .before .put .ensures) (back-is (record { sfits = c .before .before .before .before .mul .ok })) (product-made (w .args .p) _ _ _ _ _ _ _ _ (c .before .before .before .before .before .before .before .before .before .before .key-at .ensures) (c .before .before .before .before .before .before .before .before .before .times .ensures) (c .before .before .before .before .before .before .before .before .times2 .ensures) (c .before .before .before .before .before .before .before .times3 .ensures) (back-is (record { sfits = c .before .before .before .before .before .coef-at .ok }) ∙ c .before .before .before .before .before .coef-at .ensures) (back-is (record { sfits = c .before .before .before .before .before .before .before .before .before .before .before .before .struct-told .given .1 .1 .1 .0 .1 })) (c .before .before .before .before .mul .ensures))
+returns c =
+    let w = c .before .before .before .before .before .before .before .before .before .before .before .before .before .before in
+    product-put (w .args .p) _ _ _ _ (monomials (w .args .work .now)) _ (w .args .to) (c .before .before .put .ensures)
+    (back-is (record { sfits = c .before .before .before .before .mul .ok }))
+    (product-made (w .args .p) _ _ _ _ _ _ _ _ (c .before .before .before .before .before .before .before .before .before .before .key-at .ensures)
+    (c .before .before .before .before .before .before .before .before .before .times .ensures)
+    (c .before .before .before .before .before .before .before .before .times2 .ensures) (c .before .before .before .before .before .before .before .times3 .ensures)
+    (back-is (record { sfits = c .before .before .before .before .before .coef-at .ok }) ∙ c .before .before .before .before .before .coef-at .ensures)
+    (back-is (record { sfits = c .before .before .before .before .before .before .before .before .before .before .before .before .struct-told .given .1 .1 .1 .0 .1 }))
+    (c .before .before .before .before .mul .ensures))
 
 pub put-product-spec : {M : Type 1} → statement M
 put-product-spec =

@@ -1,9 +1,9 @@
 -- `decision::expansion::spread` meets its contract: i monomials are written. Assumes nothing.
-use native.Mathlib.Omega.{arith}
 use mathlib.Core.Path.{_≡_, refl, _∙_}
 use mathlib.Core.List.{map}
-use lib.ListN.{length, take, drop}
 use Prim.Native.Nat.{_-_, _≤_}
+use native.Mathlib.Omega.{arith}
+use lib.ListN.{length, take, drop}
 use Rattle.integers.specs.Over.{over}
 use Rattle.decision.specs.Expansion.{timesPiece}
 use Rattle.decision.specs.Memory.{monomials}
@@ -22,13 +22,27 @@ loop-holds : tie.Need-loop-holds Inv-loop μ-loop
 loop-holds c = (refl, omega arith, spread-starts _ _ _ _ _ (c .before .pre))
 
 add-put-product : tie.Need-add-put-product Inv-loop μ-loop
-add-put-product c = omega (arith, spread-from _ _ _ _ _ (c .before .before .before .before .pre) _ _ (c .before .before .loop .inv .2) (c .before .loop-test .taken), within _ _ (spread-from _ _ _ _ _ (c .before .before .before .before .pre) _ _ (c .before .before .loop .inv .2) (c .before .loop-test .taken)))
+add-put-product c =
+    omega (
+      arith,
+      spread-from _ _ _ _ _ (c .before .before .before .before .pre) _ _ (c .before .before .loop .inv .2) (c .before .loop-test .taken),
+      within _ _ (spread-from _ _ _ _ _ (c .before .before .before .before .pre) _ _ (c .before .before .loop .inv .2) (c .before .loop-test .taken)),
+    )
 
 add-put-product-2 : tie.Need-add-put-product-2 Inv-loop μ-loop
-add-put-product-2 c = omega (arith, spread-to _ _ _ _ _ (c .before .before .before .before .pre) _ _ (c .before .before .loop .inv .2) (c .before .loop-test .taken), within _ _ (spread-to _ _ _ _ _ (c .before .before .before .before .pre) _ _ (c .before .before .loop .inv .2) (c .before .loop-test .taken)))
+add-put-product-2 c =
+    omega (
+      arith,
+      spread-to _ _ _ _ _ (c .before .before .before .before .pre) _ _ (c .before .before .loop .inv .2) (c .before .loop-test .taken),
+      within _ _ (spread-to _ _ _ _ _ (c .before .before .before .before .pre) _ _ (c .before .before .loop .inv .2) (c .before .loop-test .taken)),
+    )
 
 put-product-requires : tie.Need-put-product-requires Inv-loop μ-loop
-put-product-requires c κs = (spread-from _ _ _ _ _ (c .before .before .before .before .pre) _ _ (c .before .before .loop .inv .2) (c .before .loop-test .taken), spread-to _ _ _ _ _ (c .before .before .before .before .pre) _ _ (c .before .before .loop .inv .2) (c .before .loop-test .taken), spread-fits _ _ _ _ _ (c .before .before .before .before .pre) _ _ (c .before .before .loop .inv .2) (c .before .loop-test .taken))
+put-product-requires c κs = (
+  spread-from _ _ _ _ _ (c .before .before .before .before .pre) _ _ (c .before .before .loop .inv .2) (c .before .loop-test .taken),
+  spread-to _ _ _ _ _ (c .before .before .before .before .pre) _ _ (c .before .before .loop .inv .2) (c .before .loop-test .taken),
+  spread-fits _ _ _ _ _ (c .before .before .before .before .pre) _ _ (c .before .before .loop .inv .2) (c .before .loop-test .taken),
+)
 
 add-i : tie.Need-add-i Inv-loop μ-loop
 add-i c = omega arith
@@ -37,7 +51,12 @@ loop-less : tie.Need-loop-less Inv-loop μ-loop
 loop-less c = omega arith
 
 loop-again : tie.Need-loop-again Inv-loop μ-loop
-loop-again c = (c .before .before .put-product .kept .0 ∙ c .before .before .before .before .before .loop .inv .0, omega arith, spread-on _ _ _ _ _ (c .before .before .before .before .before .before .before .pre) _ _ (c .before .before .before .before .before .loop .inv .2) (c .before .before .before .before .loop-test .taken) _ (c .before .before .put-product .ensures))
+loop-again c = (
+  c .before .before .put-product .kept .0 ∙ c .before .before .before .before .before .loop .inv .0,
+  omega arith,
+  spread-on _ _ _ _ _ (c .before .before .before .before .before .before .before .pre) _ _ (c .before .before .before .before .before .loop .inv .2)
+      (c .before .before .before .before .loop-test .taken) _ (c .before .before .put-product .ensures),
+)
 
 same-length : tie.Need-same-length Inv-loop μ-loop
 same-length c = c .before .loop .inv .0

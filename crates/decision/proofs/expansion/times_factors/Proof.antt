@@ -1,7 +1,7 @@
 -- `decision::expansion::times_factors` meets its contract: the monomials after k factors stand from `start` on. Assumes nothing.
-use native.Mathlib.Omega.{arith}
 use mathlib.Core.Path.{_≡_, refl, _∙_}
 use Prim.Native.Nat.{_-_, _≤_}
+use native.Mathlib.Omega.{arith}
 use lib.ListN.{length}
 use borrow.Author.Needs.{needs}
 use Rattle.decision.specs.Memory.{monomials}
@@ -36,10 +36,14 @@ element-copy-out-block-of : tie.Need-element-copy-out-block-of Inv-loop μ-loop
 element-copy-out-block-of c = omega (arith, c .before .before .before .before .pre .valid .counted .few)
 
 block-of-requires : tie.Need-block-of-requires Inv-loop μ-loop
-block-of-requires c κs = number-small _ _ _ (c .before .before .before .before .before .pre) (few (c .before .before .before .before .before)) _ (c .before .before .loop-test .taken) _ _ (c .before .before .before .loop .inv .1)
+block-of-requires c κs =
+    number-small _ _ _ (c .before .before .before .before .before .pre) (few (c .before .before .before .before .before)) _ (c .before .before .loop-test .taken) _ _
+    (c .before .before .before .loop .inv .1)
 
 multiply-requires : tie.Need-multiply-requires Inv-loop μ-loop
-multiply-requires c κs = turn-asks _ _ _ (c .before .before .before .before .before .before .pre) (few (c .before .before .before .before .before .before)) _ (c .before .before .before .loop-test .taken) _ _ (c .before .before .before .before .loop .inv .1) _ (c .block-of .ensures)
+multiply-requires c κs =
+    turn-asks _ _ _ (c .before .before .before .before .before .before .pre) (few (c .before .before .before .before .before .before)) _
+    (c .before .before .before .loop-test .taken) _ _ (c .before .before .before .before .loop .inv .1) _ (c .block-of .ensures)
 
 add-k : tie.Need-add-k Inv-loop μ-loop
 add-k c = omega (arith, c .before .before .before .before .before .before .before .before .before .pre .valid .counted .few)
@@ -48,7 +52,13 @@ loop-less : tie.Need-loop-less Inv-loop μ-loop
 loop-less c = omega arith
 
 loop-again : tie.Need-loop-again Inv-loop μ-loop
-loop-again c = (c .before .before .multiply .kept .0 ∙ c .before .before .before .before .before .before .before .loop .inv .0, turn-on _ _ _ (c .before .before .before .before .before .before .before .before .before .pre) (few (c .before .before .before .before .before .before .before .before .before)) _ (c .before .before .before .before .before .before .loop-test .taken) _ _ (c .before .before .before .before .before .before .before .loop .inv .1) _ (c .before .before .before .block-of .ensures) _ _ (c .before .before .multiply .ensures))
+loop-again c = (
+  c .before .before .multiply .kept .0 ∙ c .before .before .before .before .before .before .before .loop .inv .0,
+  turn-on _ _ _ (c .before .before .before .before .before .before .before .before .before .pre)
+      (few (c .before .before .before .before .before .before .before .before .before)) _ (c .before .before .before .before .before .before .loop-test .taken) _ _
+      (c .before .before .before .before .before .before .before .loop .inv .1) _ (c .before .before .before .block-of .ensures) _ _
+      (c .before .before .multiply .ensures),
+)
 
 same-length : tie.Need-same-length Inv-loop μ-loop
 same-length c = c .before .loop .inv .0

@@ -1,11 +1,11 @@
 -- `decision::memory::coef_at` meets its contract. Assumes nothing.
-use native.Mathlib.Omega.{arith}
 use mathlib.Core.Path.{ap, _∙_}
+use native.Mathlib.Omega.{arith}
 use mir.Syntax.{w64}
 use mir.Val.{toZ}
+use borrow.Author.Needs.{needs}
 use Rattle.integers.proofs.Machine.{back-is}
 use Rattle.decision.proofs.Bytes.{within, coef-read}
-use borrow.Author.Needs.{needs}
 use Rattle.decision.proofs.memory.coef_at.Statement.{statement}
 use Rattle.decision.proofs.memory.coef_at.Tie as tie
 

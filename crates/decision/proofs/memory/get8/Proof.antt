@@ -1,7 +1,7 @@
 -- `decision::memory::get8` meets its contract. Assumes nothing.
 use native.Mathlib.Omega.{arith}
-use Rattle.decision.specs.Memory.{eight}
 use borrow.Author.Needs.{needs}
+use Rattle.decision.specs.Memory.{eight}
 use Rattle.decision.proofs.memory.get8.Statement.{statement}
 use Rattle.decision.proofs.memory.get8.Tie as tie
 

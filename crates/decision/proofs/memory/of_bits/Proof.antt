@@ -1,9 +1,9 @@
 -- `decision::memory::of_bits` meets its contract. Assumes nothing.
 use mir.Syntax.{w64}
 use mir.ValLaws.{toZ-fits}
+use borrow.Author.Needs.{needs}
 use Rattle.integers.proofs.Machine.{back-is}
 use Rattle.integers.proofs.Bits64.{high}
-use borrow.Author.Needs.{needs}
 use Rattle.decision.proofs.memory.of_bits.Statement.{statement}
 use Rattle.decision.proofs.memory.of_bits.Tie as tie
 

@@ -1,11 +1,11 @@
 -- `decision::memory::put` meets its contract. Assumes nothing.
-use native.Mathlib.Omega.{arith}
 use mathlib.Core.Path.{ap, _∙_}
+use native.Mathlib.Omega.{arith}
 use mir.Syntax.{w64}
 use mir.Val.{ofZ}
+use borrow.Author.Needs.{needs}
 use Rattle.integers.proofs.Machine.{back-is}
 use Rattle.decision.proofs.Bytes.{within, monomial-put}
-use borrow.Author.Needs.{needs}
 use Rattle.decision.proofs.memory.put.Statement.{statement}
 use Rattle.decision.proofs.memory.put.Tie as tie
 
@@ -28,7 +28,11 @@ same-length : tie.Need-same-length
 same-length c = search needs
 
 returns : tie.Need-returns
-returns c = let w = c .before .before .before .before .before .before .before .before .before .before in monomial-put (w .args .work .now) _ _ (w .args .i) (w .args .key) _ _ (w .pre) (w .fits .key .fits) (w .fits .coef) (c .before .before .before .before .before .before .before .put8 .ensures) (c .before .before .put82 .ensures) (c .before .before .before .bits-of .ensures ∙ ap (ofZ w64) (back-is (w .fits .coef)))
+returns c =
+    let w = c .before .before .before .before .before .before .before .before .before .before in
+    monomial-put (w .args .work .now) _ _ (w .args .i) (w .args .key) _ _ (w .pre) (w .fits .key .fits) (w .fits .coef)
+    (c .before .before .before .before .before .before .before .put8 .ensures) (c .before .before .put82 .ensures)
+    (c .before .before .before .bits-of .ensures ∙ ap (ofZ w64) (back-is (w .fits .coef)))
 
 pub put-spec : {M : Type 1} → statement M
 put-spec =

@@ -1,8 +1,8 @@
 -- `decision::memory::put8` meets its contract. Assumes nothing.
 use native.Mathlib.Omega.{arith}
 use lib.ListN.{length-set}
-use Rattle.decision.proofs.Bytes.{stores}
 use borrow.Author.Needs.{needs}
+use Rattle.decision.proofs.Bytes.{stores}
 use Rattle.decision.proofs.memory.put8.Statement.{statement}
 use Rattle.decision.proofs.memory.put8.Tie as tie
 
@@ -79,7 +79,12 @@ same-length : tie.Need-same-length
 same-length c = simp length-set
 
 returns : tie.Need-returns
-returns c = let a = c .before .before .before .before .before .before .before .before .before .args in stores (a .work .now) (a .at) (c .before .before .before .before .before .before .before .narrow .ensures) (c .before .before .before .before .before .before .narrow2 .ensures) (c .before .before .before .before .before .narrow3 .ensures) (c .before .before .before .before .narrow4 .ensures) (c .before .before .before .narrow5 .ensures) (c .before .before .narrow6 .ensures) (c .before .narrow7 .ensures) (c .narrow8 .ensures)
+returns c =
+    let a = c .before .before .before .before .before .before .before .before .before .args in
+    stores (a .work .now) (a .at) (c .before .before .before .before .before .before .before .narrow .ensures)
+    (c .before .before .before .before .before .before .narrow2 .ensures) (c .before .before .before .before .before .narrow3 .ensures)
+    (c .before .before .before .before .narrow4 .ensures) (c .before .before .before .narrow5 .ensures) (c .before .before .narrow6 .ensures)
+    (c .before .narrow7 .ensures) (c .narrow8 .ensures)
 
 pub put8-spec : {M : Type 1} → statement M
 put8-spec =

@@ -1,11 +1,11 @@
 -- `decision::passes::keep` meets its contract. Assumes nothing.
-use native.Mathlib.Omega.{arith}
 use mathlib.Core.Path.{ap, sym, _∙_}
-use Rattle.integers.proofs.Machine.{back-is}
+use native.Mathlib.Omega.{arith}
+use borrow.Author.Needs.{needs}
 use Rattle.specification.specs.Terms.{isZero}
+use Rattle.integers.proofs.Machine.{back-is}
 use Rattle.decision.proofs.Bytes.{within}
 use Rattle.decision.proofs.Turns.{keep-none, keep-one}
-use borrow.Author.Needs.{needs}
 use Rattle.decision.proofs.passes.keep.Statement.{statement}
 use Rattle.decision.proofs.passes.keep.Tie as tie
 
@@ -25,7 +25,11 @@ same-length : tie.Need-same-length
 same-length c = search needs
 
 returns-2 : tie.Need-returns-2
-returns-2 c = keep-one _ _ _ _ _ (c .before .before .before .before .before .before .before .pre) (ap isZero (sym (back-is (c .before .before .before .before .before .before .before .fits .coef))) ∙ sym (c .before .before .before .before .before .is-zero .ensures) ∙ c .before .before .before .before .if1 .left) _ (back-is (c .before .before .before .before .before .before .before .fits .coef)) (c .before .before .put .ensures)
+returns-2 c =
+    keep-one _ _ _ _ _ (c .before .before .before .before .before .before .before .pre)
+    (ap isZero (sym (back-is (c .before .before .before .before .before .before .before .fits .coef)))
+    ∙ sym (c .before .before .before .before .before .is-zero .ensures)
+    ∙ c .before .before .before .before .if1 .left) _ (back-is (c .before .before .before .before .before .before .before .fits .coef)) (c .before .before .put .ensures)
 
 pub keep-spec : {M : Type 1} → statement M
 keep-spec =

@@ -1,7 +1,7 @@
 -- `decision::passes::least` meets its contract: d is the least digit of the keys passed. Assumes nothing.
-use native.Mathlib.Omega.{arith}
 use mathlib.Core.Path.{_≡_, refl, ap, _∙_}
 use Prim.Native.Nat.{_-_, _≤_}
+use native.Mathlib.Omega.{arith}
 use lib.ListN.{take, drop}
 use Rattle.decision.specs.Memory.{monomials}
 use Rattle.decision.specs.Passes.{lesserOf, leastFrom}
@@ -34,7 +34,11 @@ loop-less : tie.Need-loop-less Inv-loop μ-loop
 loop-less c = omega arith
 
 loop-again : tie.Need-loop-again Inv-loop μ-loop
-loop-again c = (omega arith, least-more _ _ (c .before .before .before .before .before .before .pre) _ _ _ (c .before .before .before .loop-test .taken) (c .before .before .before .before .loop .inv .1) (c .before .before .key-at .ensures) _ (c .lesser .ensures ∙ ap (lesserOf _) (c .before .lowest-digit .ensures)))
+loop-again c = (
+  omega arith,
+  least-more _ _ (c .before .before .before .before .before .before .pre) _ _ _ (c .before .before .before .loop-test .taken)
+      (c .before .before .before .before .loop .inv .1) (c .before .before .key-at .ensures) _ (c .lesser .ensures ∙ ap (lesserOf _) (c .before .lowest-digit .ensures)),
+)
 
 returns : tie.Need-returns Inv-loop μ-loop
 returns c = least-ends _ _ (c .before .before .before .pre) _ _ (c .loop-test .left) (c .before .loop .inv .1)

@@ -1,8 +1,7 @@
 -- `decision::variables::cut_off` meets its contract: so much is cut, and the digits `k` are left. Assumes nothing.
-use Rattle.decision.proofs.Digits.{Cutting, cut-starts, cut-none, cut-same, cut-other, cut-last, cut-kept, count-few, product-most, place-most, counted-as}
--- `decision::variables::cut_off` meets its contract: so much is cut, and the digits `k` are left. Assumes nothing.
-use native.Mathlib.Omega.{arith}
 use mathlib.Core.Logic.{⊎-elim}
+use native.Mathlib.Omega.{arith}
+use Rattle.decision.proofs.Digits.{Cutting, cut-starts, cut-none, cut-same, cut-other, cut-last, cut-kept, count-few, product-most, place-most, counted-as}
 use Rattle.decision.proofs.variables.cut_off.Statement.{statement}
 use Rattle.decision.proofs.variables.cut_off.Tie as tie
 
@@ -31,7 +30,9 @@ loop-less : tie.Need-loop-less Inv-loop μ-loop
 loop-less c = omega arith
 
 loop-again : tie.Need-loop-again Inv-loop μ-loop
-loop-again c = ⊎-elim (λ w. counted-as (w .2) (cut-same _ _ _ _ _ (c .before .before .loop .inv) (c .before .loop-test .taken) (w .0 .taken) (w .1 .left))) (λ w. counted-as (w .1) (cut-none _ _ _ _ _ (c .before .before .loop .inv) (c .before .loop-test .taken) (w .0 .left))) (c .if1 .came)
+loop-again c =
+    ⊎-elim (λ w. counted-as (w .2) (cut-same _ _ _ _ _ (c .before .before .loop .inv) (c .before .loop-test .taken) (w .0 .taken) (w .1 .left)))
+    (λ w. counted-as (w .1) (cut-none _ _ _ _ _ (c .before .before .loop .inv) (c .before .loop-test .taken) (w .0 .left))) (c .if1 .came)
 
 add-f : tie.Need-add-f Inv-loop μ-loop
 add-f c = omega (arith, count-few _ _ _ _ _ (c .before .before .loop .inv))

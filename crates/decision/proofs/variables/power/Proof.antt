@@ -1,10 +1,9 @@
 -- `decision::variables::power` meets its contract: p is v to the power i. Assumes nothing.
-use Rattle.decision.proofs.Digits.{power-small, power-more, suc-most, power-fits, power-is}
--- `decision::variables::power` meets its contract: p is v to the power i. Assumes nothing.
-use native.Mathlib.Omega.{arith}
-use native.Mathlib.Nat.{pow-zero}
 use mathlib.Core.Path.{_≡_, sym}
 use Prim.Native.Nat.{_-_, _^_, _≤_}
+use native.Mathlib.Omega.{arith}
+use native.Mathlib.Nat.{pow-zero}
+use Rattle.decision.proofs.Digits.{power-small, power-more, suc-most, power-fits, power-is}
 use Rattle.decision.proofs.variables.power.Statement.{statement}
 use Rattle.decision.proofs.variables.power.Tie as tie
 
