@@ -35,6 +35,7 @@ number-bytes : (n x : ℕ) → x < 256 ^ n → numberOf (bytesOf n x) ≡ x
 number-bytes zero x h = omega arith
 number-bytes (suc n) x h = rw (number-bytes n (x / 256) (shift-small n x h)) (omega arith)
 
+-- eight bytes apart from those set stand
 eight-other : (l : List ℕ) (at : ℕ) (vs : List ℕ) (j : ℕ) → (j + 8 ≤ at) ⊎ (at + length vs ≤ j) → eight (sets l at vs) j ≡ eight l j
 unfolding eight
 eight-other l at vs j h =
@@ -73,6 +74,7 @@ eight-sets l at a b c d e f g h k =
       getD-second (take at l) r at 7 0 q,
     )
 
+-- a number that was put is read back
 number-there : (l : List ℕ) (at x : ℕ) → at + 8 ≤ length l → x < 2 ^ 64 → numberOf (eight (sets l at (bytesOf 8 x)) at) ≡ x
 number-there l at x h k = ap numberOf (eight-sets l at _ _ _ _ _ _ _ _ h) ∙ number-bytes 8 x k
 
@@ -87,6 +89,7 @@ length-monomials l = length-tabulated (length l / 16) (monomialAt l)
 pub within : (l : List ℕ) (i : ℕ) → i < length (monomials l) → 16 * i + 16 ≤ length l
 within l i h = omega (arith, length-monomials l)
 
+-- the monomial number i is the one at its 16 bytes
 getD-monomials : (l : List ℕ) (i : ℕ) → i < length (monomials l) → getD (monomials l) i none ≡ monomialAt l i
 unfolding monomials
 getD-monomials l i h = getD-tabulated (length l / 16) (monomialAt l) i none (omega (arith, length-tabulated (length l / 16) (monomialAt l)))
@@ -96,6 +99,7 @@ pub key-read : (l : List ℕ) (i x : ℕ) → i < length (monomials l) → x ≡
 unfolding monomialAt
 key-read l i x h e = e ∙ sym (ap (λ (m : Monomial). m .key) (getD-monomials l i h))
 
+-- and the coefficient
 pub coef-read : (l : List ℕ) (i : ℕ) (z : ℤ) → i < length (monomials l) → z ≡ toZ w64 (numberOf (eight l (16 * i + 8))) → z ≡ getD (monomials l) i none .coef
 unfolding monomialAt
 coef-read l i z h e = e ∙ sym (ap (λ (m : Monomial). m .coef) (getD-monomials l i h))
@@ -134,6 +138,7 @@ module _ (l m n : List ℕ) (i key x : ℕ) (coef : ℤ) (h : i < length (monomi
       side : (j : ℕ) → ¬ (j ≡ i) → (b : ℕ) → b ≤ 8 → (16 * j + b + 8 ≤ 16 * i) ⊎ (16 * i + 16 ≤ 16 * j + b)
       side j g b w = elim (lt-or-le j i) [ inl u ↦ inl (omega arith) | inr u ↦ inr (elim (eq-or-lt-of-le u) [ inl z ↦ absurd (g (sym z)) | inr z ↦ omega arith ]) ]
 
+  -- the monomials afterwards: the one number i is put, the others stand
   pub monomial-put : monomials n ≡ set (monomials l) i (mono key coef)
   monomial-put =
       ext-getD none (monomials n) (set (monomials l) i (mono key coef)) (same-count ∙ sym (length-set (monomials l) i (mono key coef)))

@@ -50,14 +50,17 @@ module _ (table : List ℕ) where
       go true e = isVector (rw e) (rw e) (rw e) (rw e)
       go false e = isScalar (rw e) (rw e) (rw e) (λ z. rw (e, eq-eqb (x % 3) 0 z))
 
+  -- the largest number for a component of a vector
   pub most-vector : (x : ℕ) → kindOf table (x / 3) ≡ 1 → 6 ≡ mostOf table x
   unfolding mostOf
   most-vector x e = rw (eq-eqb (kindOf table (x / 3)) 1 e)
 
+  -- and for a scalar letter
   pub most-scalar : (x : ℕ) → ¬ (kindOf table (x / 3) ≡ 1) → 2 ≡ mostOf table x
   unfolding mostOf
   most-scalar x e = rw (ne-eqb (kindOf table (x / 3)) 1 e)
 
+  -- none is above 6
   most-few : (x : ℕ) → mostOf table x ≤ 6
   most-few x = go (kind x)
     where
@@ -94,6 +97,7 @@ module _ (table : List ℕ) where
   unfolding strangeDigit
   zero-strange = refl
 
+  -- no key weighs 0
   pub weight-some : (k : ℕ) → 1 ≤ weight table k
   unfolding weight
   weight-some k =
@@ -149,6 +153,7 @@ lowest-some : (n k : ℕ) → ¬ (k % 256 ≡ 0) → lowest (suc n) k ≡ k % 25
 unfolding lowest
 lowest-some n k h = rw (ne-eqb (k % 256) 0 h)
 
+-- a key whose lowest digit is at least r is in order from r on
 lowest-raise : (low n r k : ℕ) → 1 ≤ low → Ordered low n k → (lowest n k ≡ 0) ⊎ (r ≤ lowest n k) → Ordered r n k
 unfolding lowest
 lowest-raise low zero r k o w h = w
@@ -163,6 +168,7 @@ lowest-raise low (suc n) r k o (inr f) h = inr (go h, f .1)
     go (inl e) = absurd (omega (arith, e, is, f .0))
     go (inr l) = omega (arith, l, is)
 
+-- a key in order from `low` on is 0, or its lowest digit is at least `low`
 lowest-least : (low n k : ℕ) → 1 ≤ low → Ordered low n k → ((lowest n k ≡ 0) × (k ≡ 0)) ⊎ (low ≤ lowest n k)
 unfolding lowest
 lowest-least low zero k o w = inl (refl, w)
@@ -173,6 +179,7 @@ lowest-least low (suc n) k o (inl w) = go (lowest-least low n (k / 256) o (w .1)
     go (inl u) = inl (lowest-none n k (w .0) ∙ u .0, omega (arith, u .1, w .0))
     go (inr u) = inr (omega (arith, u, lowest-none n k (w .0)))
 
+-- the lowest digit is among those that are summed
 lowest-tally : (f : ℕ → ℕ) (n k : ℕ) → f 0 ≡ 0 → f (lowest n k) ≤ tally f n k
 unfolding lowest tally
 lowest-tally f zero k z = N.le-of-eq z
@@ -215,6 +222,7 @@ lesser-most a b = go (eqb a 0) (eqb b 0) (leb a b) refl refl refl
     go false false true p q r = (inr (N.le-refl a), inr (leb-true a b r))
     go false false false p q r = (inr (N.le-of-lt (leb-false a b r)), inr (N.le-refl b))
 
+-- where the least digit is 0, no key has another
 least-zero : (d : ℕ) (ms : List Monomial) → leastFrom d ms ≡ 0 → (d ≡ 0) × All (λ (m : Monomial). lowest 8 (m .key) ≡ 0) ms
 unfolding leastFrom
 least-zero d [] e = (e, tt)
@@ -223,6 +231,7 @@ least-zero d (m ∷ ms) e =
     let u = lesser-zero d (lowest 8 (m .key)) (w .0) in
     (u .0, (u .1, w .1))
 
+-- no key has a lowest digit below the least
 least-all : (d : ℕ) (ms : List Monomial) → ((d ≡ 0) ⊎ (leastFrom d ms ≤ d)) × All (λ (m : Monomial). (lowest 8 (m .key) ≡ 0) ⊎ (leastFrom d ms ≤ lowest 8 (m .key))) ms
 unfolding leastFrom
 least-all d [] = (inr (N.le-refl d), tt)
@@ -239,6 +248,7 @@ least-all d (m ∷ ms) =
     under a (inr h) z (inl e) = inl e
     under a (inr h) z (inr k) = inr (N.le-trans h k)
 
+-- what holds of d and of every lowest digit holds of the least
 least-one : (P : ℕ → Type 0) (d : ℕ) (ms : List Monomial) → P d → All (λ (m : Monomial). P (lowest 8 (m .key))) ms → P (leastFrom d ms)
 unfolding leastFrom
 least-one P d [] h a = h
@@ -246,21 +256,26 @@ least-one P d (m ∷ ms) h a = least-one P (lesserOf d (lowest 8 (m .key))) ms (
 
 -- ════ the first number
 
+-- every number up to the largest can be tried
 pub first-asks : (ms : List Monomial) (d most v : ℕ) → v < most → ((u : ℕ) → u ≤ most → Fit d u ms) → Fit d v ms
 first-asks ms d most v l h = h v (N.le-of-lt l)
 
+-- a number that leaves a monomial ends the search
 pub first-found : (ms : List Monomial) (d most v : ℕ) → v ≤ most → ((u : ℕ) → u < v → isSome (substituted d u ms) ≡ false) → true ≡ isSome (substituted d v ms) → FirstNumber ms d most v
 first-found ms d most v l h e = record { few = l; before = h; found = inl (sym e) }
 
+-- the largest number ends it too
 pub first-last : (ms : List Monomial) (d most v : ℕ) → v ≤ most → most ≤ v → ((u : ℕ) → u < v → isSome (substituted d u ms) ≡ false) → FirstNumber ms d most v
 first-last ms d most v l k h = record { few = l; before = h; found = inr (omega arith) }
 
+-- one more number leaves none
 pub first-on : (ms : List Monomial) (d v : ℕ) → ((u : ℕ) → u < v → isSome (substituted d u ms) ≡ false) → isSome (substituted d v ms) ≡ false
     → (u : ℕ) → u < v + 1 → isSome (substituted d u ms) ≡ false
 first-on ms d v h e = below-more (λ (u : ℕ). isSome (substituted d u ms) ≡ false) v h e
 
 -- ════ bytes set to 0
 
+-- one more byte is 0
 pub cleared-more : (l : List ℕ) (i : ℕ) → i < length l → ((x : ℕ) → x < i → getD l x 0 ≡ 0) → (x : ℕ) → x < i + 1 → getD (set l i 0) x 0 ≡ 0
 cleared-more l i h g =
     below-more (λ (x : ℕ). getD (set l i 0) x 0 ≡ 0) i (λ x k. getD-set-other l i x 0 0 (λ e. omega arith) ∙ g x k) (getD-set-same l i 0 0 h)
@@ -294,6 +309,7 @@ pub record Choosing (table : List ℕ) (ms rs : List Monomial) (d : ℕ) (b₀ b
   pub behind : drop (3 * length table) b ≡ drop (3 * length table) b₀
   pub same : length b ≡ length b₀
 
+-- nothing is chosen yet
 pub choose-starts : (table : List ℕ) (n : ℕ) (ms : List Monomial) (b : List ℕ) (d : ℕ) → Eliminable table n ms b → d ≡ leastFrom 0 (take n ms) → Choosing table (take n ms) (take n ms) d b b
 choose-starts table n ms b d w e =
     record {
@@ -326,6 +342,7 @@ module _ (table : List ℕ) (ms rs : List Monomial) (d : ℕ) (b₀ b : List ℕ
       go (inl u) = u .1
       go (inr u) = absurd (omega (arith, u, a .0, w .lowSome))
 
+  -- no variable is left: what was chosen keeps the polynomial from being 0
   pub choose-ends : d ≡ 0 → Eliminated table ms b₀ b
   choose-ends z =
       record {
@@ -339,6 +356,7 @@ module _ (table : List ℕ) (ms rs : List Monomial) (d : ℕ) (b₀ b : List ℕ
 
   -- a variable is left
   module _ (h : ¬ (d ≡ 0)) where
+    -- d is the digit of the variable d − 1
     pub isDigit : d ≡ suc (d - 1)
     isDigit = omega arith
 
@@ -352,6 +370,7 @@ module _ (table : List ℕ) (ms rs : List Monomial) (d : ℕ) (b₀ b : List ℕ
     known : (d - 1 < 3 * length table) × (mostOf table (d - 1) ≡ limitOf table (d - 1))
     known = known-digit table (d - 1) (subst (λ (y : ℕ). strangeDigit table y ≡ 0) isDigit strange)
 
+    -- it is a variable of the table
     pub letter-there : (d - 1) / 3 < length table
     letter-there = omega (arith, known .0)
 
@@ -372,6 +391,7 @@ module _ (table : List ℕ) (ms rs : List Monomial) (d : ℕ) (b₀ b : List ℕ
     some = omega arith
 
     module _ (m : ℕ) (e : m ≡ mostOf table (d - 1)) where
+      -- its largest number is at most 6
       pub most-six : m ≤ 6
       most-six = omega (arith, e, most-few table (d - 1))
 
@@ -380,6 +400,7 @@ module _ (table : List ℕ) (ms rs : List Monomial) (d : ℕ) (b₀ b : List ℕ
           subst (λ (y : ℕ). v ^ exponent 8 y k * weight table (rest 8 y k) ≤ weight table k) (sym isDigit)
           (weight-step table (d - 1) v k (N.le-trans l (N.le-of-eq e)))
 
+      -- no number for it leaves 64 bits
       pub fits : (v : ℕ) → v ≤ m → Fit d v rs
       fits v l =
           record {
@@ -394,6 +415,7 @@ module _ (table : List ℕ) (ms rs : List Monomial) (d : ℕ) (b₀ b : List ℕ
           (λ t u. subst (λ (y : ℕ). exponent 8 y (t .key) ≤ m) (sym isDigit) (N.le-trans (exponent-limit table (d - 1) (t .key) u) (N.le-of-eq (sym e)))) rs (w .polynomial .has)
 
       module _ (v : ℕ) (f : FirstNumber rs d m v) where
+        -- the number chosen leaves a monomial
         survived : isSome (substituted d v rs) ≡ true
         survived =
             elim (f .found) [
@@ -402,6 +424,7 @@ module _ (table : List ℕ) (ms rs : List Monomial) (d : ℕ) (b₀ b : List ℕ
                   (survives d m some rs (w .polynomial .some) (w .polynomial .rising) ordered-d exponents (λ y l. f .before y (N.le-trans l (N.le-of-eq (sym u)))))
             ]
 
+        -- it is at most 6
         pub number-small : v ≤ 6
         number-small = N.le-trans (f .few) most-six
 
@@ -421,6 +444,7 @@ module _ (table : List ℕ) (ms rs : List Monomial) (d : ℕ) (b₀ b : List ℕ
             }
 
         module _ (room : 72 ≤ length b₀) (letters : length table ≤ 24) where
+          -- it has a place in the buffer
           pub byte-there : d - 1 < length b
           byte-there = omega (arith, w .same, known .0)
 
@@ -438,6 +462,7 @@ module _ (table : List ℕ) (ms rs : List Monomial) (d : ℕ) (b₀ b : List ℕ
               w .value σ (λ y l. g y (omega (arith, l, low-least)) ∙ ap pos (getD-set-other b (d - 1) y v 0 (λ q. omega (arith, q, l, low-least))))
               ∙ sym (substituted-value σ d v (at-digit σ d (d - 1) v isDigit (g (d - 1) (omega arith) ∙ ap pos (getD-set-same b (d - 1) v 0 byte-there))) rs)
 
+          -- one number is chosen and written
           pub choose-on : (r : ℕ) (os ns : List Monomial) (k : ℕ) (b′ : List ℕ) → Substituted d v k r os ns → rs ≡ take k os → b′ ≡ set b (d - 1) v → (d′ : ℕ) → d′ ≡ leastFrom 0 (take r ns)
               → Choosing table ms (take r ns) d′ b₀ b′
           choose-on r os ns k b′ s q p d′ z =

@@ -44,6 +44,7 @@ unfolding normalising among
 shuffled m g c b a k =
     solve (var 0 ⊗ var 1 ⊗ (var 2 ⊗ (var 3 ⊗ (var 4 ⊗ var 5)))) (var 1 ⊗ (var 2 ⊗ (var 3 ⊗ var 4)) ⊗ (var 0 ⊗ var 5)) (among m g c b a k) refl
 
+-- a sum over digits of two numbers for each
 tally-sum : (f g : ℕ → ℕ) (n k : ℕ) → tally (λ d. f d + g d) n k ≡ tally f n k + tally g n k
 unfolding tally
 tally-sum f g zero k = omega arith
@@ -157,6 +158,7 @@ module _ (table : List ℕ) where
           let w = piece-all p q ms (a .1) in
           (ap₂ (λ (x y : ℤ). x +ℤ y) (u .0) (w .0) ∙ sym (R.*ℤ-+ℤ (pieceValue p) (m .coef *ℤ keyValue σ 8 (m .key)) (total σ ms)), (u .1, w .1))
 
+      -- a sum of products
       pub pieces-all : (ps : List Piece) → All (PieceHas dv ds) ps → (ms : List Monomial) → AllHas v s ms
           → (total σ (timesPieces ps ms) ≡ piecesValue ps *ℤ total σ ms) × AllHas (v + dv) (s + ds) (timesPieces ps ms)
       unfolding timesPieces joined weigh
@@ -231,6 +233,7 @@ module _ (table : List ℕ) where
         piece-has 1 0 1 0 v₃ 0 (digitOf l ((i + 1 + o) % 3)) (digitOf m ((i + 2 + 2 * o) % 3)) c (signOf o)
         (vector-digit l ((i + 1 + o) % 3) p (omega arith)) (vector-digit m ((i + 2 + 2 * o) % 3) q (omega arith)) r
 
+    -- the products of a factor have its letters
     pub factor-has : (f : List ℕ) → OneToThree f → FactorKnown table f → All (PieceHas (if eqb (length f) 1 then 0 else length f) (if eqb (length f) 1 then 1 else 0)) (pieces (blockOf f))
     unfolding pieces blockOf countOf pieceAt
     factor-has [] o k = absurd (omega (arith, o .0))
@@ -245,6 +248,7 @@ module _ (table : List ℕ) where
         one j h = cross-has 1 a b (j / 2) (j % 2) (digitOf c (j / 2)) (k .0) (k .1 .0) (vector-digit c (j / 2) (k .1 .1 .0) (omega arith))
     factor-has (a ∷ b ∷ c ∷ d ∷ f) o k = absurd (omega (arith, o .1))
 
+    -- and those of a vector part
     pub part-has : (i : ℕ) (p : List ℕ) → i < 3 → length p ≤ 2 → All (Known table vector) p → All (PieceHas (length p) 0) (pieces (partBlock i p))
     unfolding pieces partBlock countOf pieceAt
     part-has i [] h o k = go (eqb i 0)

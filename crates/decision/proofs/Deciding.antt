@@ -35,6 +35,7 @@ unfolding DecidedBy
 refused-so r n table b w e = subst (λ (x : Result (S.Form × S.Form)). DecidedBy x table b w (undecided n) b w) (sym e) (refl, record { bufferStands = refl; workStands = refl })
 
 module _ (table s t b w : List ℕ) (n : ℕ) (e : testOf n ≡ testTable table) where
+  -- 1: the table
   pub table-refused : ¬ (n ≡ 0) → DecidedBy (decideTested table s t b w) table b w (undecided n) b w
   unfolding decideTested
   table-refused h = refused-so (decideTested table s t b w) n table b w (rw (sym e ∙ test-refused n h))
@@ -43,11 +44,13 @@ module _ (table s t b w : List ℕ) (n : ℕ) (e : testOf n ≡ testTable table)
     table-passed : testTable table ≡ given tt
     table-passed = sym e ∙ test-passed n z
 
+    -- 2: the buffer
     pub buffer-refused : length b < 72 → DecidedBy (decideTested table s t b w) table b w (undecided 2) b w
     unfolding decideTested
     buffer-refused h = refused-so (decideTested table s t b w) 2 table b w (rw (table-passed, lt-leb 72 (length b) h))
 
     module _ (lb : 72 ≤ length b) where
+      -- 2: the work bytes
       pub work-refused : length w < 55296 → DecidedBy (decideTested table s t b w) table b w (undecided 2) b w
       unfolding decideTested
       work-refused h = refused-so (decideTested table s t b w) 2 table b w (rw (table-passed, le-leb 72 (length b) lb, lt-leb 55296 (length w) h))
@@ -58,6 +61,7 @@ module _ (table s t b w : List ℕ) (n : ℕ) (e : testOf n ≡ testTable table)
         lengths-passed = rw (table-passed, le-leb 72 (length b) lb, le-leb 55296 (length w) lw)
 
         module _ (p : Taken) (ep : WholeRead (readForm s) p) where
+          -- 11: the first form
           pub first-refused : ¬ (p .refusal ≡ 0) → DecidedBy (decideTested table s t b w) table b w (undecided (p .refusal)) b w
           unfolding takeTwoForms
           first-refused h = refused-so (decideTested table s t b w) (p .refusal) table b w (lengths-passed ∙ rw (form-refused p (readForm s) (ep .is) h))
@@ -66,6 +70,7 @@ module _ (table s t b w : List ℕ) (n : ℕ) (e : testOf n ≡ testTable table)
             first-passed : readForm s ≡ given (formOf (p .form))
             first-passed = form-passed p (readForm s) (ep .is) zp
 
+            -- 11: the second form
             pub second-refused : ¬ (q .refusal ≡ 0) → DecidedBy (decideTested table s t b w) table b w (undecided (q .refusal)) b w
             unfolding takeTwoForms
             second-refused h = refused-so (decideTested table s t b w) (q .refusal) table b w (lengths-passed ∙ rw (first-passed, form-refused q (readForm t) (eq .is) h))
@@ -74,6 +79,7 @@ module _ (table s t b w : List ℕ) (n : ℕ) (e : testOf n ≡ testTable table)
               second-passed : readForm t ≡ given (formOf (q .form))
               second-passed = form-passed q (readForm t) (eq .is) zq
 
+              -- 5 or 6: letters of the first form
               pub letters-refused : ¬ (c ≡ 0) → DecidedBy (decideTested table s t b w) table b w (undecided c) b w
               unfolding takeTwoForms
               letters-refused h = refused-so (decideTested table s t b w) c table b w (lengths-passed ∙ rw (first-passed, second-passed, sym ec ∙ test-refused c h))
@@ -82,6 +88,7 @@ module _ (table s t b w : List ℕ) (n : ℕ) (e : testOf n ≡ testTable table)
                 letters-passed : testTerms table (formOf (p .form) .terms) ≡ given tt
                 letters-passed = sym ec ∙ test-passed c zc
 
+                -- 5 or 6: letters of the second form
                 pub others-refused : ¬ (d ≡ 0) → DecidedBy (decideTested table s t b w) table b w (undecided d) b w
                 unfolding takeTwoForms
                 others-refused h =
@@ -91,6 +98,7 @@ module _ (table s t b w : List ℕ) (n : ℕ) (e : testOf n ≡ testTable table)
                   others-passed : testTerms table (formOf (q .form) .terms) ≡ given tt
                   others-passed = sym ed ∙ test-passed d zd
 
+                  -- 6: unlike kinds
                   pub kinds-refused : ¬ (p .form .kind ≡ q .form .kind) → DecidedBy (decideTested table s t b w) table b w (undecided 6) b w
                   unfolding takeTwoForms formOf
                   kinds-refused h =
@@ -98,6 +106,7 @@ module _ (table s t b w : List ℕ) (n : ℕ) (e : testOf n ≡ testTable table)
                       (lengths-passed ∙ rw (first-passed, second-passed, letters-passed, others-passed, ne-eqb (p .form .kind) (q .form .kind) h))
 
                   module _ (k : p .form .kind ≡ q .form .kind) where
+                    -- every test is passed
                     pub settle-asks : Decidable table (p .form) (q .form) b w
                     settle-asks =
                         record {
@@ -111,6 +120,7 @@ module _ (table s t b w : List ℕ) (n : ℕ) (e : testOf n ≡ testTable table)
                           kinds = k;
                         }
 
+                    -- what is decided then is what the call says
                     pub settled : (a : D.Decision) (b′ w′ : List ℕ) → DecidedBy (given (formOf (p .form), formOf (q .form))) table b w a b′ w′
                         → DecidedBy (decideTested table s t b w) table b w a b′ w′
                     unfolding takeTwoForms formOf

@@ -32,6 +32,7 @@ use Rattle.decision.proofs.Orders.{reordered-all, reordered-length}
 
 -- ════ one term more
 
+-- the monomials of one term more stand behind those of the others
 expand-more : (i : ℕ) (sign : ℤ) (ts : List S.Term) (t : S.Term) → expandTerms i sign (ts ++ t ∷ []) ≡ expandTerms i sign ts ++ expandTerm i sign t
 unfolding expandTerms joined
 expand-more i sign ts t =
@@ -48,6 +49,7 @@ pub record Filled (start : ℕ) (f : Form) (i : ℕ) (sign : ℤ) (k n : ℕ) (m
   pub most : k ≤ f .count
 
 module _ (start : ℕ) (f : Form) (i : ℕ) (sign : ℤ) (ms : List Monomial) (w : FormExpandable start f i sign ms) where
+  -- no term is expanded yet
   pub fill-starts : Filled start f i sign 0 0 ms ms
   unfolding expandTerms joined
   fill-starts =
@@ -65,6 +67,7 @@ module _ (start : ℕ) (f : Form) (i : ℕ) (sign : ℤ) (ms : List Monomial) (w
     unfolding formOf
     below = all-at (λ (x : Term). TermBelow (termOf x)) (f .terms) (f .count) k noTerm places l (all-unmap TermBelow termOf (take (f .count) (f .terms)) (w .below))
 
+    -- there is room for the next one
     pub fill-asks : Expandable (start + n) t i sign ns
     fill-asks =
         record {
@@ -79,6 +82,7 @@ module _ (start : ℕ) (f : Form) (i : ℕ) (sign : ℤ) (ms : List Monomial) (w
     pub sum-fits : start + n ≤ length ms
     sum-fits = omega (arith, w .room, s .few, N.mul-le-mul-left 36 l)
 
+    -- it is expanded
     pub fill-on : (r : ℕ) (os : List Monomial) → Expanded (start + n) (expandTerm i sign (termOf t)) r ns os → (n + r ≤ length ms) × Filled start f i sign (k + 1) (n + r) ms os
     fill-on r os e =
         let es = expandTerms i sign (map termOf (take k (f .terms))) in
@@ -99,6 +103,7 @@ module _ (start : ℕ) (f : Form) (i : ℕ) (sign : ℤ) (ms : List Monomial) (w
           },
         )
 
+  -- all terms are
   pub fill-ends : (k : ℕ) → f .count ≤ k → (n : ℕ) (ns : List Monomial) → Filled start f i sign k n ms ns → Expanded start (expandTerms i sign (formOf f .terms)) n ms ns
   unfolding formOf
   fill-ends k l n ns s =
@@ -109,18 +114,21 @@ module _ (start : ℕ) (f : Form) (i : ℕ) (sign : ℤ) (ms : List Monomial) (w
 pub fill-as : (start : ℕ) (f : Form) (i : ℕ) (z y : ℤ) (ms : List Monomial) → y ≡ z → FormExpandable start f i z ms → FormExpandable start f i y ms
 fill-as start f i z y ms e w = subst (λ (s : ℤ). FormExpandable start f i s ms) (sym e) w
 
+-- and what is promised
 pub filled-as : (start : ℕ) (f : Form) (i : ℕ) (z y : ℤ) (n : ℕ) (ms ns : List Monomial) → y ≡ z → Expanded start (expandTerms i y (formOf f .terms)) n ms ns
     → Expanded start (expandTerms i z (formOf f .terms)) n ms ns
 filled-as start f i z y n ms ns e w = subst (λ (s : ℤ). Expanded start (expandTerms i s (formOf f .terms)) n ms ns) e w
 
 -- ════ bounds
 
+-- 36 monomials a term
 terms-few : (i : ℕ) (sign : ℤ) (ts : List S.Term) → All (λ (t : S.Term). T (S.termInShape t)) ts → length (expandTerms i sign ts) ≤ 36 * length ts
 unfolding expandTerms joined
 terms-few i sign [] h = omega arith
 terms-few i sign (t ∷ ts) h =
     omega (arith, length-append (expandTerm i sign t) (expandTerms i sign ts), term-few i sign t (h .0), terms-few i sign ts (h .1))
 
+-- with coefficients of terms
 terms-modest : (i : ℕ) (sign : ℤ) (ts : List S.Term) → i < 3 → natAbs sign ≤ 1 → All (λ (t : S.Term). T (S.termInShape t)) ts → All TermBelow ts → All Modest (expandTerms i sign ts)
 unfolding expandTerms joined S.coefWithin
 terms-modest i sign [] l u h b = tt
@@ -149,6 +157,7 @@ module _ (f g : Form) (i : ℕ) (ms : List Monomial) (w : Comparable f g i ms) w
   abbrev seconds : List Monomial
   seconds = expandTerms i (negsuc 0) (formOf g .terms)
 
+  -- the first form is expanded from the start on
   pub first-asks : FormExpandable 0 f i (pos 1) ms
   first-asks = record { room = omega (arith, w .room, w .validFirst .few); valid = w .validFirst; below = w .belowFirst; component = w .component; unit = N.le-refl 1 }
 
@@ -158,10 +167,12 @@ module _ (f g : Form) (i : ℕ) (ms : List Monomial) (w : Comparable f g i ms) w
   few-seconds : length seconds ≤ 1728
   few-seconds = omega (arith, terms-few i (negsuc 0) (formOf g .terms) (in-shape g (w .validSecond)), N.mul-le-mul-left 36 (w .validSecond .inShape .count))
 
+  -- both have at most 3,456 monomials
   pub few-all : length (difference i (formOf f) (formOf g)) ≤ 3456
   unfolding difference
   few-all = omega (arith, length-append firsts seconds, few-firsts, few-seconds)
 
+  -- with coefficients of terms
   pub all-modest : All Modest (difference i (formOf f) (formOf g))
   unfolding difference
   all-modest =
@@ -170,11 +181,13 @@ module _ (f g : Form) (i : ℕ) (ms : List Monomial) (w : Comparable f g i ms) w
       (terms-modest i (negsuc 0) (formOf g .terms) (w .component) (N.le-refl 1) (in-shape g (w .validSecond)) (w .belowSecond))
 
   module _ (m : ℕ) (ns : List Monomial) (e : Expanded 0 firsts m ms ns) where
+    -- the second form is expanded behind the first
     pub second-asks : FormExpandable m g i (negsuc 0) ns
     second-asks =
         record { room = omega (arith, w .room, w .validSecond .few, e .count, e .same, few-firsts); valid = w .validSecond; below = w .belowSecond; component = w .component; unit = N.le-refl 1 }
 
     module _ (r : ℕ) (os : List Monomial) (d : Expanded m seconds r ns os) where
+      -- so many there are
       pub counts : m + r ≡ length (difference i (formOf f) (formOf g))
       unfolding difference
       counts = omega (arith, e .count, d .count, length-append firsts seconds)
@@ -186,6 +199,7 @@ module _ (f g : Form) (i : ℕ) (ms : List Monomial) (w : Comparable f g i ms) w
       unfolding difference
       both = d .front ∙ ap (λ (l : List Monomial). l ++ seconds) (ap (λ (k : ℕ). take k ns) (sym (N.zero-add m)) ∙ e .front)
 
+      -- all are in memory
       pub sort-asks : m + r ≤ length os
       sort-asks = omega (arith, counts-few, w .room, e .same, d .same)
 
@@ -193,6 +207,7 @@ module _ (f g : Form) (i : ℕ) (ms : List Monomial) (w : Comparable f g i ms) w
         same-sorted : length ps ≡ length os
         same-sorted = reordered-length (m + r) os (s .reordered)
 
+        -- like ones can be added
         pub substitute-asks : (m + r ≤ length ps) × Fit 255 1 (take (m + r) ps)
         substitute-asks =
             let a : All Modest (take (m + r) ps) = reordered-all Modest (m + r) os (s .reordered) (subst (All Modest) (sym both) all-modest) in
@@ -205,6 +220,7 @@ module _ (f g : Form) (i : ℕ) (ms : List Monomial) (w : Comparable f g i ms) w
               },
             )
 
+        -- what is left is the difference, gathered
         pub compared : (q : ℕ) (qs : List Monomial) → Substituted 255 1 (m + r) q ps qs → Compared (difference i (formOf f) (formOf g)) q ms qs
         compared q qs u =
             record {

@@ -19,6 +19,7 @@ use Rattle.decision.proofs.Keys.{rest-none, rest-same, rest-other, expo
 
 -- ════ a variable put in
 
+-- a number with a digit put in is not less than the digit
 placed-some : (n d k : ℕ) → d ≤ placed n d k
 unfolding placed
 placed-some zero d k = N.le-refl d
@@ -28,6 +29,7 @@ placed-some (suc n) d k = go (leb d (k % 256)) (placed-some n d (k / 256))
     go true ih = omega arith
     go false ih = omega arith
 
+-- and has one digit more
 placed-small : (n d k : ℕ) → d < 256 → k < 256 ^ n → placed n d k < 256 ^ suc n
 unfolding placed
 placed-small zero d k h l = h
@@ -53,6 +55,7 @@ module _ (whole low place n d left : ℕ) (o : 1 ≤ d) (small : whole < 1844674
     unfolding placed
     put-here = rw (le-leb d (left % 256) h)
 
+    -- low, then what is left with the digit put in: the whole
     pub put-ends : low + place * (256 * left + d) ≡ whole
     put-ends = ap (λ (z : ℕ). low + place * z) (sym put-here) ∙ p .is
 
@@ -87,11 +90,13 @@ module _ (whole low place n d left : ℕ) (o : 1 ≤ d) (small : whole < 1844674
     pub goes-place : place * 256 < 18446744073709551616
     goes-place = omega (arith, sums, N.mul-le-mul-left (place * 256) (N.le-trans o (placed-some n d (left / 256))))
 
+    -- one digit is passed
     pub put-goes : Put whole (low + place * (left % 256)) (place * 256) n d (left / 256)
     put-goes = record { is = omega (arith, sums); some = omega (arith, p .some) }
 
 -- nothing is left
 module _ (whole low place d left : ℕ) (small : whole < 18446744073709551616) (p : Put whole low place 0 d left) where
+  -- low, then the digit: the whole
   pub put-last : low + place * d ≡ whole
   unfolding placed
   put-last = p .is
@@ -111,13 +116,16 @@ put-none whole low place i d left h p =
     let e : 7 - i ≡ 0 = omega arith in
     subst (λ (n : ℕ). Put whole low place n d left) e p
 
+-- no digit is passed yet
 pub put-starts : (d key : ℕ) → Put (placed 7 d (key / 256)) 0 1 7 d (key / 256)
 put-starts d key = record { is = omega arith; some = N.le-refl 1 }
 
+-- the digit 0 is no variable
 pub times-none : (d key : ℕ) → d ≡ 0 → key ≡ timesDigit d key
 unfolding timesDigit
 times-none d key e = rw (eq-eqb d 0 e)
 
+-- any other is put in
 pub times-some : (d key : ℕ) → ¬ (d ≡ 0) → placed 7 d (key / 256) ≡ timesDigit d key
 unfolding timesDigit
 times-some d key e = rw (ne-eqb d 0 e)
@@ -133,6 +141,7 @@ pub record Cutting (d key k place e : ℕ) : Type 0 where
   pub whole : place * k ≤ key
   pub some : 1 ≤ place
 
+-- a variable stands at most as often as there are digits
 pub exponent-few : (n d k : ℕ) → exponent n d k ≤ n
 unfolding exponent
 exponent-few zero d k = N.le-refl 0
@@ -149,6 +158,7 @@ two-digits zero k h l = absurd (omega (arith, N.pow-zero 256))
 two-digits (suc m) k h l = (m, refl)
 
 module _ (d key k place e : ℕ) (w : Cutting d key k place e) where
+  -- at most 8 are counted
   pub count-few : e ≤ 8
   count-few = omega (arith, w .counts, exponent-few 8 d key)
 
@@ -182,6 +192,7 @@ module _ (d key k place e : ℕ) (w : Cutting d key k place e) where
     product : (x : ℕ) → place * (256 * x) ≡ place * 256 * x
     product x = sym (N.mul-assoc place 256 x)
 
+    -- a digit 0 is passed
     pub cut-none : k % 256 ≡ 0 → Cutting d key (k / 256) (place * 256) e
     cut-none z =
         record {
@@ -193,6 +204,7 @@ module _ (d key k place e : ℕ) (w : Cutting d key k place e) where
           some = omega (arith, w .some);
         }
 
+    -- the variable is cut off
     pub cut-same : ¬ (k % 256 ≡ 0) → k % 256 ≡ d → Cutting d key (k / 256) (place * 256) (e + 1)
     cut-same h z =
         record {
@@ -204,11 +216,13 @@ module _ (d key k place e : ℕ) (w : Cutting d key k place e) where
           some = omega (arith, w .some);
         }
 
+    -- another variable ends it
     pub cut-other : ¬ (k % 256 ≡ 0) → ¬ (k % 256 ≡ d) → (place * k ≡ rest 8 d key) × (e ≡ exponent 8 d key)
     cut-other h g = (sym (rests′ ∙ ap (λ (x : ℕ). place * x) (rest-other m d k h g)), omega (arith, counts′, exponent-other m d k h g))
 
   -- one digit is left
   module _ (l : k < 256) where
+    -- the variable is the last digit
     pub cut-last : 1 ≤ d → k ≡ d → (0 ≡ rest 8 d key) × (e + 1 ≡ exponent 8 d key)
     cut-last o z = go (w .n) (w .small) (w .rests) (w .counts)
       where
@@ -222,6 +236,7 @@ module _ (d key k place e : ℕ) (w : Cutting d key k place e) where
             let b : exponent (suc n) d k ≡ 1 = exponent-same n d k u x ∙ ap (λ (t : ℕ). suc (exponent n d t)) y ∙ ap suc (exponent-zero n d) in
             (sym (p ∙ ap (λ (t : ℕ). place * t) a ∙ N.mul-zero place), omega (arith, q, b))
 
+    -- or the last digit stays
     pub cut-kept : ¬ (k ≡ d) → (place * k ≡ rest 8 d key) × (e ≡ exponent 8 d key)
     cut-kept z = go (w .n) (w .small) (w .rests) (w .counts)
       where
@@ -239,6 +254,7 @@ module _ (d key k place e : ℕ) (w : Cutting d key k place e) where
         go : (n : ℕ) → k < 256 ^ n → rest 8 d key ≡ place * rest n d k → exponent 8 d key ≡ e + exponent n d k → (place * k ≡ rest 8 d key) × (e ≡ exponent 8 d key)
         go n s p q = (sym (p ∙ ap (λ (x : ℕ). place * x) (both n s .0)), omega (arith, q, both n s .1))
 
+-- nothing is cut yet
 pub cut-starts : (d key : ℕ) → key < 2 ^ 64 → Cutting d key key 1 0
 cut-starts d key h =
     record { n = 8; small = h; rests = omega arith; counts = omega arith; whole = omega arith; some = N.le-refl 1 }
@@ -256,10 +272,12 @@ unfolding lowest
 lowest-none zero = refl
 lowest-none (suc n) = lowest-none n
 
+-- no digit is passed yet
 pub seek-starts : (key : ℕ) → key < 2 ^ 64 → Seeking key key
 seek-starts key h = record { n = 8; small = h; is = refl }
 
 module _ (key k : ℕ) (w : Seeking key k) where
+  -- a digit 0 is passed
   pub seek-on : ¬ (k ≡ 0) → k % 256 ≡ 0 → Seeking key (k / 256)
   unfolding lowest
   seek-on h z = go (w .n) (w .small) (w .is)
@@ -268,6 +286,7 @@ module _ (key k : ℕ) (w : Seeking key k) where
       go zero s p = absurd (h (omega (arith, N.pow-zero 256)))
       go (suc n) s p = record { n = n; small = shift-small n k s; is = p ∙ rw (eq-eqb (k % 256) 0 z) }
 
+  -- another is the lowest
   pub seek-found : ¬ (k % 256 ≡ 0) → k % 256 ≡ lowest 8 key
   unfolding lowest
   seek-found z = go (w .n) (w .small) (w .is)
@@ -276,11 +295,13 @@ module _ (key k : ℕ) (w : Seeking key k) where
       go zero s p = let t : k ≡ 0 = omega (arith, N.pow-zero 256) in absurd (z (omega arith))
       go (suc n) s p = sym (p ∙ rw (ne-eqb (k % 256) 0 z))
 
+  -- no digit is left
   pub seek-nothing : k ≡ 0 → 0 ≡ lowest 8 key
   seek-nothing z = sym (w .is ∙ ap (lowest (w .n)) z ∙ lowest-none (w .n))
 
 -- ════ powers
 
+-- 6 to the power 8 is the largest
 pub power-small : (v i : ℕ) → v ≤ 6 → i ≤ 8 → v ^ i ≤ 1679616
 power-small v i h l = N.le-trans (N.pow-le-pow-left h i) (N.pow-le-pow-right {n = 6} (omega arith) l)
 
@@ -300,8 +321,10 @@ pub counted-as : {d key k place e e′ : ℕ} → e ≡ e′ → Cutting d key k
 counted-as {d} {key} {k} {place} p w = subst (λ (x : ℕ). Cutting d key k place x) (sym p) w
 
 module _ (v e : ℕ) (h : v ≤ 6) (l : e ≤ 8) (p i : ℕ) where
+  -- it fits 64 bits
   pub power-fits : i ≤ e → p ≡ v ^ i → SFits w64 (pos p)
   power-fits g q = record { sfits = omega (arith, power-small v i h (N.le-trans g l)) }
 
+  -- and is the power once all factors are there
   pub power-is : e ≤ i → i ≤ e → p ≡ v ^ i → toZ w64 (ofZ w64 (pos p)) ≡ pos (v ^ e)
   power-is f g q = let z : i ≡ e = omega arith in back-is (power-fits g q) ∙ ap pos (q ∙ ap (λ (x : ℕ). v ^ x) z)

@@ -39,6 +39,7 @@ use Rattle.decision.proofs.Layers.{piece-small}
 abbrev vectors : List ℕ → ℕ
 vectors f = if eqb (length f) 1 then 0 else length f
 
+-- a dot makes three monomials of one, and takes two letters
 dot-step : (v : ℕ) → v ≤ 4 → 3 * top v ≤ top (2 + v)
 unfolding top
 dot-step zero h = omega arith
@@ -48,6 +49,7 @@ dot-step (suc (suc (suc zero))) h = omega arith
 dot-step (suc (suc (suc (suc zero)))) h = omega arith
 dot-step (suc (suc (suc (suc (suc v))))) h = absurd (omega arith)
 
+-- a triple makes six, and takes three
 triple-step : (v : ℕ) → v ≤ 3 → 6 * top v ≤ top (3 + v)
 unfolding top
 triple-step zero h = omega arith
@@ -56,6 +58,7 @@ triple-step (suc (suc zero)) h = omega arith
 triple-step (suc (suc (suc zero))) h = omega arith
 triple-step (suc (suc (suc (suc v)))) h = absurd (omega arith)
 
+-- a factor makes no more than its letters allow
 factor-step : (f : List ℕ) (v : ℕ) → OneToThree f → vectors f + v ≤ 6 → countOf (blockOf f) * top v ≤ top (vectors f + v)
 unfolding countOf blockOf
 factor-step [] v o h = absurd (omega (arith, o .0))
@@ -64,6 +67,7 @@ factor-step (a ∷ b ∷ []) v o h = dot-step v (omega arith)
 factor-step (a ∷ b ∷ c ∷ []) v o h = triple-step v (omega arith)
 factor-step (a ∷ b ∷ c ∷ d ∷ f) v o h = absurd (omega (arith, o .1))
 
+-- nor does a vector part
 part-step : (i : ℕ) (p : List ℕ) → length p ≤ 2 → countOf (partBlock i p) ≤ top (length p)
 unfolding top countOf partBlock
 part-step i [] h = go (eqb i 0)
@@ -87,12 +91,14 @@ top-most (suc (suc (suc (suc (suc (suc n)))))) h = (omega arith, omega arith)
 
 -- ════ what a polynomial does to monomials
 
+-- a product for each piece and each monomial
 pub times-length : (ps : List Piece) (ms : List Monomial) → length (timesPieces ps ms) ≡ length ps * length ms
 unfolding timesPieces joined
 times-length [] ms = omega arith
 times-length (p ∷ ps) ms =
     length-append (map (timesPiece p) ms) (timesPieces ps ms) ∙ omega (arith, length-map ms (timesPiece p), times-length ps ms, N.add-mul 1 (length ps) (length ms))
 
+-- so a polynomial makes as many of each monomial as it has
 pub block-length : (f : Block) (ms : List Monomial) → length (timesBlock f ms) ≡ countOf f * length ms
 unfolding timesBlock pieces
 block-length f ms = times-length (pieces f) ms ∙ ap (λ (n : ℕ). n * length ms) (length-tabulated (countOf f) (pieceAt f))
@@ -107,10 +113,12 @@ pieces-modest [] ms s h = tt
 pieces-modest (p ∷ ps) ms s h =
     all-append Modest (map (timesPiece p) ms) (timesPieces ps ms) (all-map Modest Modest (timesPiece p) (piece-modest p (s .0)) ms h) (pieces-modest ps ms (s .1) h)
 
+-- no coefficient grows
 pub block-modest : (f : Block) (ms : List Monomial) → Small f → All Modest ms → All Modest (timesBlock f ms)
 unfolding timesBlock pieces
 block-modest f ms s h = pieces-modest (pieces f) ms (all-tabulated PieceSmall (countOf f) (pieceAt f) (λ j l. piece-small f j s l)) h
 
+-- the letters of a factor are below 24
 pub block-small : (f : List ℕ) → Below f → Small (blockOf f)
 unfolding blockOf
 block-small [] b = tt
@@ -118,6 +126,7 @@ block-small (l ∷ []) b = (b .0, omega arith)
 block-small (l ∷ m ∷ []) b = (b .0, b .1 .0)
 block-small (l ∷ m ∷ k ∷ f) b = (b .0, b .1 .0, b .1 .1 .0)
 
+-- those of a vector part too
 pub part-small : (i : ℕ) (p : List ℕ) → i < 3 → Below p → Small (partBlock i p)
 unfolding partBlock
 part-small i [] h b = go (eqb i 0)
@@ -174,10 +183,12 @@ module _ (start n : ℕ) (ms ns layer : List Monomial) (w : Layer start n ms ns 
       sym (take-take start (start + n) ns (omega arith)) ∙ ap (take start) (w .front) ∙ take-at (take start ms) layer start (length-take-le start ms (omega arith))
 
   module _ (f : Block) (s : Small f) (room : start + countOf f * n ≤ length ms) where
+    -- it can be multiplied in place
     pub layer-asks : Multiplying start n f ns
     layer-asks =
         record { there = omega (arith, w .same); room = omega (arith, w .same); small = s; modest = subst (All Modest) (sym is-layer) (w .modest) }
 
+    -- it is multiplied
     pub layer-on : (r : ℕ) (os : List Monomial) → Multiplied start n f r ns os → Layer start r ms os (timesBlock f layer)
     layer-on r os m =
         let xs = timesBlock f layer in
@@ -216,6 +227,7 @@ pub record Turned (start : ℕ) (t : Term) (ms : List Monomial) (k n : ℕ) (ns 
   pub below : All Below (later t k)
 
 module _ (start : ℕ) (t : Term) (ms : List Monomial) (w : Factorable start t ms) where
+  -- no factor is multiplied by yet
   pub turn-starts : Turned start t ms 0 1 ms
   unfolding termOf
   turn-starts =
@@ -237,6 +249,7 @@ module _ (start : ℕ) (t : Term) (ms : List Monomial) (w : Factorable start t m
     next : later t k ≡ f ∷ later t (k + 1)
     next = ap (map lettersOf) (rest-at (t .factors) (t .«factor_count») k 0 places l)
 
+    -- the number of the next factor is that of a factor
     pub number-small : getD (t .factors) k 0 < 16843008
     number-small = all-at (λ (x : ℕ). x < 16843008) (t .factors) (t .«factor_count») k 0 places l (w .valid .counted .small)
 
@@ -279,9 +292,11 @@ module _ (start : ℕ) (t : Term) (ms : List Monomial) (w : Factorable start t m
       enough : start + countOf b * n ≤ length ms
       enough = subst (λ (x : Block). start + countOf x * n ≤ length ms) (sym e) (omega (arith, w .room, product-few))
 
+      -- its polynomial can be multiplied by
       pub turn-asks : Multiplying start n b ns
       turn-asks = layer-asks start n ms ns (s .layer) (s .stands) there b small enough
 
+      -- it is, and the next factor follows
       pub turn-on : (r : ℕ) (os : List Monomial) → Multiplied start n b r ns os → Turned start t ms (k + 1) r os
       unfolding timesFactors
       turn-on r os m =
@@ -295,6 +310,7 @@ module _ (start : ℕ) (t : Term) (ms : List Monomial) (w : Factorable start t m
             below = letters .1;
           }
 
+  -- all factors are multiplied by
   pub turn-ends : t .«factor_count» ≤ length (t .factors) → (k : ℕ) → t .«factor_count» ≤ k → (n : ℕ) (ns : List Monomial) → Turned start t ms k n ns → Factored start t n ms ns
   unfolding timesFactors vectorLettersOf termOf
   turn-ends places k l n ns s =
@@ -306,6 +322,7 @@ module _ (start : ℕ) (t : Term) (ms : List Monomial) (w : Factorable start t m
 -- ════ a component of a term
 
 module _ (start : ℕ) (t : Term) (i : ℕ) (sign : ℤ) (ms : List Monomial) (w : Expandable start t i sign ms) where
+  -- the coefficient times the sign fits 64 bits
   pub first-asks : (y z : ℤ) → y ≡ t .coef → z ≡ sign → natAbs y * natAbs z < 2 ^ 63
   first-asks y z p q = omega (arith, coef-size t (w .valid), w .unit, N.mul-le-mul (N.le-of-eq (ap natAbs p)) (N.le-trans (N.le-of-eq (ap natAbs q)) (w .unit)), ap natAbs p)
 
@@ -325,6 +342,7 @@ module _ (start : ℕ) (t : Term) (i : ℕ) (sign : ℤ) (ms : List Monomial) (w
     first-front : take start ns ≡ take start ms
     first-front = ap (take start) put-is ∙ take-set-le start ms start (mono 0 (t .coef *ℤ sign)) (N.le-refl start)
 
+    -- the coefficient is written, the factors follow
     pub factors-ask : Factorable start t ns
     factors-ask =
         record {
@@ -350,9 +368,11 @@ module _ (start : ℕ) (t : Term) (i : ℕ) (sign : ℤ) (ms : List Monomial) (w
         part-fits : Small c
         part-fits = subst Small (sym u) (part-small i (termOf t .part) (w .component) (w .part))
 
+        -- then the vector part
         pub part-asks : Multiplying start n c os
         part-asks = layer-asks start n ns os _ (f .stands) (omega (arith, w .room, few-there, first-same)) c part-fits (omega (arith, w .room, last-few, first-same))
 
+        -- the component is expanded
         pub expand-ends : (r : ℕ) (qs : List Monomial) → Multiplied start n c r os qs → Expanded start (expandTerm i sign (termOf t)) r ms qs
         unfolding expandTerm termOf
         expand-ends r qs m =

@@ -21,6 +21,7 @@ pub data Digit (d a : ℕ) : Type 0 where
   same : ¬ (a ≡ 0) → a ≡ d → Digit d a
   other : ¬ (a ≡ 0) → ¬ (a ≡ d) → Digit d a
 
+-- every digit is one of the three
 pub digit : (d a : ℕ) → Digit d a
 digit d a = go (eqb a 0) (eqb a d) refl refl
   where
@@ -70,16 +71,19 @@ module _ (n d k : ℕ) where
 
 -- ════ the key 0
 
+-- nothing is taken out of it
 pub rest-zero : (n d : ℕ) → rest n d 0 ≡ 0
 unfolding rest
 rest-zero zero d = refl
 rest-zero (suc n) d = rest-none n d 0 refl ∙ ap (λ (z : ℕ). 256 * z) (rest-zero n d)
 
+-- no variable stands in it
 pub exponent-zero : (n d : ℕ) → exponent n d 0 ≡ 0
 unfolding exponent
 exponent-zero zero d = refl
 exponent-zero (suc n) d = exponent-none n d 0 refl ∙ exponent-zero n d
 
+-- its value is 1
 pub value-zero : (σ : ℕ → ℤ) (n : ℕ) → keyValue σ n 0 ≡ pos 1
 unfolding keyValue digitValue
 value-zero σ zero = refl
@@ -88,6 +92,7 @@ value-zero σ (suc n) = R.one-*ℤ (keyValue σ n 0) ∙ value-zero σ n
 -- ════ a variable put in
 
 module _ (σ : ℕ → ℤ) where
+  -- the value of a key that ends with a digit
   keyValue-digit : (n a q : ℕ) → a < 256 → keyValue σ (suc n) (a + 256 * q) ≡ digitValue σ a *ℤ keyValue σ n q
   unfolding keyValue
   keyValue-digit n a q h =
@@ -95,6 +100,7 @@ module _ (σ : ℕ → ℤ) where
       let g : (a + 256 * q) / 256 ≡ q = omega arith in
       rw (e, g)
 
+  -- the value of digits with one put in
   placed-value : (n d k : ℕ) → d < 256 → keyValue σ (suc n) (placed n d k) ≡ digitValue σ d *ℤ keyValue σ n k
   unfolding placed keyValue
   placed-value zero d k h = let e : d % 256 ≡ d = omega arith in rw e
@@ -150,6 +156,7 @@ placed-zero : (n d k : ℕ) → k % 256 ≡ 0 → 1 ≤ d → placed (suc n) d k
 unfolding placed
 placed-zero n d k e h = rw (lt-leb d (k % 256) (omega arith), e) (omega arith)
 
+-- a digit put in keeps the order
 placed-ordered : (low n d k : ℕ) → d < 256 → 1 ≤ low → low ≤ d → Ordered low n k → Ordered low (suc n) (placed n d k)
 placed-ordered low zero d k h o l r = inr (placed-from low zero d k h l r)
 placed-ordered low (suc n) d k h o l (inr r) = inr (placed-from low (suc n) d k h l r)
@@ -177,6 +184,7 @@ times-ordered d k h e o = go (eqb d 0) refl o
 -- ════ sums over digits
 
 module _ (f : ℕ → ℕ) where
+  -- the sum of a key that ends with a digit
   tally-digit : (n a q : ℕ) → a < 256 → tally f (suc n) (a + 256 * q) ≡ f a + tally f n q
   unfolding tally
   tally-digit n a q h =
@@ -184,6 +192,7 @@ module _ (f : ℕ → ℕ) where
       let g : (a + 256 * q) / 256 ≡ q = omega arith in
       rw (e, g)
 
+  -- the sum of digits with one put in
   placed-tally : (n d k : ℕ) → d < 256 → tally f (suc n) (placed n d k) ≡ f d + tally f n k
   unfolding placed tally
   placed-tally zero d k h = let e : d % 256 ≡ d = omega arith in rw e
@@ -194,6 +203,7 @@ module _ (f : ℕ → ℕ) where
       go true ih = ap (tally f (suc (suc n))) (N.add-comm (256 * k) d) ∙ tally-digit (suc n) d k h
       go false ih = tally-digit (suc n) (k % 256) (placed n d (k / 256)) (omega arith) ∙ omega (arith, ih)
 
+  -- the sum of a key times a variable
   pub times-tally : (d k : ℕ) → d < 256 → k % 256 ≡ 0 → f 0 ≡ 0 → tally f 8 (timesDigit d k) ≡ f d + tally f 8 k
   unfolding timesDigit tally
   times-tally d k h e z = go (eqb d 0) refl
@@ -232,6 +242,7 @@ module _ (σ : ℕ → ℤ) (d v : ℕ) (at : digitValue σ d ≡ pos v) where
   power-suc : (e : ℕ) → pos (v ^ suc e) ≡ pos v *ℤ pos (v ^ e)
   power-suc e = ap pos (N.pow-succ' v e)
 
+  -- the value of a key is that of its rest times the power of the variable
   pub rest-value : (n k : ℕ) → keyValue σ n k ≡ pos (v ^ exponent n d k) *ℤ keyValue σ n (rest n d k)
   unfolding keyValue digitValue exponent rest
   rest-value zero k = simp (N.pow-zero)
@@ -298,6 +309,7 @@ module _ (d : ℕ) (o : 1 ≤ d) where
       go (same p e) ih = rw (rest-same n d k p e) (zeroed ih)
       go (other p g) ih = rw (rest-other n d k p g) (inr (omega (arith, f .0), f .1))
 
+  -- the same of a key with zeros at its end
   pub rest-ordered : (n k : ℕ) → Ordered d n k → Ordered (suc d) n (rest n d k)
   unfolding rest
   rest-ordered zero k r = r

@@ -54,6 +54,7 @@ module _ (from n to : ℕ) (p : Piece) (ms : List Monomial) (w : Spreading from 
           go (inl e) = getD-behind ms to (written i) (from + i) none (omega (arith, length-written i (omega arith))) (omega (arith, w .there))
           go (inr k) = getD-before ms to (written i) (from + i) none (omega arith) (omega (arith, w .there))
 
+      -- the next monomial can be multiplied
       pub spread-fits : PieceFit p (getD ns (from + i) none)
       spread-fits =
           record {
@@ -62,6 +63,7 @@ module _ (from n to : ℕ) (p : Piece) (ms : List Monomial) (w : Spreading from 
                 (all-at Modest (drop from ms) n i none (omega (arith, length-drop from ms, enough)) l (w .modest));
           }
 
+      -- it is multiplied and written
       pub spread-on : (os : List Monomial) → os ≡ set ns (to + i) (timesPiece p (getD ns (from + i) none)) → os ≡ over ms to (written (i + 1))
       spread-on os e =
           let x = timesPiece p (getD ms (from + i) none) in
@@ -76,9 +78,11 @@ module _ (from n to : ℕ) (p : Piece) (ms : List Monomial) (w : Spreading from 
           ∙ over-more ms to (written i) x (omega (arith, length-written i (omega arith), w .there))
           ∙ ap (over ms to) (sym more)
 
+  -- nothing is written yet
   pub spread-starts : ms ≡ over ms to (written 0)
   spread-starts = over-nil ms to
 
+  -- all are written
   pub spread-ends : (i : ℕ) (ns : List Monomial) → n ≤ i → i ≤ n → ns ≡ over ms to (written i) → Spread from n to p ms ns
   spread-ends i ns l k is = let e : i ≡ n = omega arith in record { is = is ∙ ap (λ (j : ℕ). over ms to (written j)) e }
 
@@ -98,6 +102,7 @@ module _ where
   unfolding crossPiece
   cross-small l m i o c h k z = record { first = digit-small l ((i + 1 + o) % 3) h (omega arith); second = digit-small m ((i + 2 + 2 * o) % 3) k (omega arith); third = z; unit = sign-unit o }
 
+  -- the digits of each product of a polynomial are small, and its sign is a unit
   pub piece-small : (f : Block) (j : ℕ) → Small f → j < countOf f → PieceSmall (pieceAt f j)
   unfolding pieceAt countOf
   piece-small Zero j s h = record { first = omega arith; second = omega arith; third = omega arith; unit = N.le-refl 1 }
@@ -132,6 +137,7 @@ module _ (start n : ℕ) (f : Block) (ms : List Monomial) (w : Multiplying start
   unfolding timesPieces joined
   left-on j l = ap (λ (ps : List Piece). timesPieces ps layer) (pieces-at j l)
 
+  -- what is left to multiply by makes so many
   left-length : (n′ j : ℕ) → n′ + j ≡ countOf f → length (left j) ≡ n′ * n
   unfolding timesPieces joined pieces
   left-length zero j e =
@@ -141,6 +147,7 @@ module _ (start n : ℕ) (f : Block) (ms : List Monomial) (w : Multiplying start
       ap length (left-on j (omega arith)) ∙ length-append (map (timesPiece (pieceAt f j)) layer) (left (suc j))
       ∙ omega (arith, length-map layer (timesPiece (pieceAt f j)), layer-length, left-length n′ (suc j) (omega arith), N.add-mul 1 n′ n)
 
+  -- nothing is multiplied by yet
   pub multiply-starts : ms ≡ over ms (start + countOf f * n) (left (countOf f))
   unfolding timesPieces joined pieces
   multiply-starts =
@@ -160,11 +167,13 @@ module _ (start n : ℕ) (f : Block) (ms : List Monomial) (w : Multiplying start
     pub place-fits : start + j * n ≤ length ms
     place-fits = most j (omega arith)
 
+    -- the monomials to multiply stand as they were
     pub same-layer : take n (drop start ns) ≡ layer
     same-layer =
         ap (λ (x : List Monomial). take n (drop start x)) is
         ∙ window-before ms (start + (j + 1) * n) (left (j + 1)) start n (omega (arith, N.add-mul j 1 n)) ends
 
+    -- they can be multiplied by the product number j
     pub spreadable : Spreading start n (start + j * n) (pieceAt f j) ns
     spreadable =
         record {
@@ -178,6 +187,7 @@ module _ (start n : ℕ) (f : Block) (ms : List Monomial) (w : Multiplying start
         go zero = inl (omega arith)
         go (suc j) = inr (omega (arith, N.add-mul 1 j n))
 
+    -- they are multiplied by it
     pub multiply-on : (os : List Monomial) → Spread start n (start + j * n) (pieceAt f j) ns os → os ≡ over ms (start + j * n) (left j)
     multiply-on os s =
         let xs = map (timesPiece (pieceAt f j)) layer in
@@ -188,6 +198,7 @@ module _ (start n : ℕ) (f : Block) (ms : List Monomial) (w : Multiplying start
         ∙ over-front ms (start + j * n) xs (left (suc j)) (omega (arith, most (j + 1) (omega arith)))
         ∙ ap (over ms (start + j * n)) (sym (left-on j l))
 
+  -- they are multiplied by all products
   pub multiply-ends : (ns : List Monomial) (m r : ℕ) → ns ≡ over ms (start + 0 * n) (left 0) → m ≡ countOf f → r ≡ m * n → Multiplied start n f r ms ns
   unfolding timesBlock
   multiply-ends ns m r is e g =
@@ -215,14 +226,17 @@ module _ (start n : ℕ) (f : Block) (ms : List Monomial) (w : Multiplying start
       pub multiply-back : (os : List Monomial) → Spread start n (start + (j - 1) * n) p ns os → os ≡ over ms (start + (j - 1) * n) (left (j - 1))
       multiply-back os s = multiply-on (j - 1) below ns earlier os (subst (λ (q : Piece). Spread start n (start + (j - 1) * n) q ns os) e s)
 
+  -- the same with another name for the count
   pub multiply-first : (m : ℕ) → m ≡ countOf f → ms ≡ over ms (start + m * n) (left m)
   multiply-first m e = multiply-starts ∙ ap (λ (i : ℕ). over ms (start + i * n) (left i)) (sym e)
 
+  -- and at the end
   pub multiply-last : (ns : List Monomial) (j m r : ℕ) → j ≡ 0 → ns ≡ over ms (start + j * n) (left j) → m ≡ countOf f → r ≡ m * n → Multiplied start n f r ms ns
   multiply-last ns j m r z is = multiply-ends ns m r (is ∙ ap (λ (i : ℕ). over ms (start + i * n) (left i)) z)
 
   pub count-fits : (m : ℕ) → m ≡ countOf f → m * n ≤ length ms
   count-fits m e = omega (arith, ap (λ (i : ℕ). i * n) e, w .room)
 
+-- there are fewer monomials than bytes
 pub words : (l : List ℕ) → length (monomials l) ≤ length l
 words l = omega (arith, length-monomials l)

@@ -35,10 +35,12 @@ coefficient (pos (suc n)) = isNot (pos-nonzero n) refl
 coefficient (negsuc n) = isNot (negsuc-nonzero n) refl
 
 module _ (m : Monomial) (ms : List Monomial) where
+  -- a coefficient 0 is dropped
   pub kept-null : isZero (m .coef) ≡ true → kept m ms ≡ ms
   unfolding kept
   kept-null e = rw e
 
+  -- any other stands
   pub kept-not : isZero (m .coef) ≡ false → kept m ms ≡ m ∷ ms
   unfolding kept
   kept-not e = rw e
@@ -54,6 +56,7 @@ module _ (m r : Monomial) (rs : List Monomial) where
       go true h = refl
       go false h = absurd (h refl)
 
+  -- another key: the one in front is kept
   pub onto-apart : ¬ (m .key ≡ r .key) → onto m (r ∷ rs) ≡ kept m (onto r rs)
   unfolding onto
   onto-apart e = go (eqb (m .key) (r .key)) (λ h. e (eqb-true (m .key) (r .key) h))
@@ -65,6 +68,7 @@ module _ (m r : Monomial) (rs : List Monomial) where
 -- ════ values
 
 module _ (w : ℕ → ℤ) where
+  -- neither changes the sum
   kept-weigh : (m : Monomial) (ms : List Monomial) → weigh w (kept m ms) ≡ m .coef *ℤ w (m .key) +ℤ weigh w ms
   unfolding weigh
   kept-weigh m ms = go (coefficient (m .coef))
@@ -92,12 +96,14 @@ module _ (w : ℕ → ℤ) where
   like-weigh [] = refl
   like-weigh (m ∷ ms) = onto-weigh m ms
 
+  -- a number put for a variable changes the weights
   pub reduced-weigh : (d v : ℕ) (ms : List Monomial) → weigh w (map (reduced d v) ms) ≡ weigh (λ k. pos (v ^ exponent 8 d k) *ℤ w (rest 8 d k)) ms
   unfolding weigh reduced
   reduced-weigh d v [] = refl
   reduced-weigh d v (m ∷ ms) =
       λ i. R.*ℤ-assoc (m .coef) (pos (v ^ exponent 8 d (m .key))) (w (rest 8 d (m .key))) i +ℤ reduced-weigh d v ms i
 
+  -- also with like neighbours added
   pub substituted-weigh : (d v : ℕ) (ms : List Monomial) → weigh w (substituted d v ms) ≡ weigh (λ k. pos (v ^ exponent 8 d k) *ℤ w (rest 8 d k)) ms
   unfolding substituted
   substituted-weigh d v ms = like-weigh (map (reduced d v) ms) ∙ reduced-weigh d v ms
@@ -114,6 +120,7 @@ substituted-value σ d v e ms =
     substituted-weigh (keyValue σ 8) d v ms
     ∙ weigh-agree (λ k. pos (v ^ exponent 8 d k) *ℤ keyValue σ 8 (rest 8 d k)) (keyValue σ 8) (λ k. sym (rest-value σ d v e 8 k)) ms
 
+-- the sum over two lists joined
 pub weigh-append : (w : ℕ → ℤ) (ms ns : List Monomial) → weigh w (ms ++ ns) ≡ weigh w ms +ℤ weigh w ns
 unfolding weigh
 weigh-append w [] ns = sym (I.+ℤ-idl (weigh w ns))
@@ -170,6 +177,7 @@ module _ (w : ℕ → ℕ) where
   mass-size h [] = N.le-refl 0
   mass-size h (m ∷ ms) = omega (arith, mass-size h ms, N.mul-le-mul-left (natAbs (m .coef)) (h (m .key)))
 
+  -- the size of two lists joined
   pub size-append : (ms ns : List Monomial) → size w (ms ++ ns) ≡ size w ms + size w ns
   unfolding size
   size-append [] ns = omega arith
@@ -242,6 +250,7 @@ module _ (P : ℕ → Type 0) where
       go (inl e) p q = rw (onto-like m r rs e) p
       go (inr e) p q = rw (onto-apart m r rs e) (kept-keys m (onto r rs) h q)
 
+  -- adding like neighbours brings in no key
   pub like-keys : (ms : List Monomial) → Keys ms → Keys (likeAdded ms)
   unfolding likeAdded
   like-keys [] a = tt
@@ -253,5 +262,6 @@ unfolding substituted reduced
 substituted-keys P Q d v h ms a =
     like-keys Q (map (reduced d v) ms) (all-map (λ (m : Monomial). P (m .key)) (λ (m : Monomial). Q (m .key)) (reduced d v) (λ m p. h (m .key) p) ms a)
 
+-- the keys are then in order from the next digit on
 pub substituted-ordered : (d v : ℕ) → 1 ≤ d → (ms : List Monomial) → AllOrdered d ms → AllOrdered (suc d) (substituted d v ms)
 substituted-ordered d v o ms a = substituted-keys (Ordered d 8) (Ordered (suc d) 8) d v (rest-ordered d o 8) ms a

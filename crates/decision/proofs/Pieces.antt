@@ -26,6 +26,7 @@ use Rattle.decision.specs.Expansion.{digitOf, signOf, crossPiece, pieceA
 abbrev make : (a b c : ℕ) (sign : ℤ) → Piece
 make a b c sign = record { a = a; b = b; c = c; sign = sign }
 
+-- the sign of a product of a wedge
 pub sign-plus : (o : ℕ) → o ≡ 0 → pos 1 ≡ signOf o
 unfolding signOf
 sign-plus o e = rw (eq-eqb o 0 e)
@@ -34,11 +35,13 @@ pub sign-minus : (o : ℕ) → ¬ (o ≡ 0) → negsuc 0 ≡ signOf o
 unfolding signOf
 sign-minus o h = rw (ne-eqb o 0 h)
 
+-- one of the two products of a component of a wedge
 pub cross-is : (l m i o c a b : ℕ) (z : ℤ) → a ≡ digitOf l ((i + 1 + o) % 3) → b ≡ digitOf m ((i + 2 + 2 * o) % 3) → z ≡ signOf o → make a b c z ≡ crossPiece l m i o c
 unfolding crossPiece
 cross-is l m i o c a b z p q r = λ t. make (p t) (q t) c (r t)
 
 module _ (f : Block) (j : ℕ) where
+  -- the product number j of each kind of polynomial
   pub piece-zero : f ≡ Zero → make 0 0 0 (pos 1) ≡ pieceAt f j
   unfolding pieceAt
   piece-zero e = ap (λ (g : Block). pieceAt g j) (sym e)
@@ -77,6 +80,7 @@ module _ (f : Block) (j : ℕ) where
     unfolding countOf
     few-cross l m i e = subst (λ (g : Block). j < countOf g) e h
 
+  -- components are below 3
   pub small-single : (l i : ℕ) → Small f → f ≡ Single l i → i < 3
   small-single l i s e = subst Small e s .1
 
@@ -86,40 +90,49 @@ module _ (f : Block) (j : ℕ) where
 -- ════ polynomials
 
 module _ (k : ℕ) where
+  -- the polynomial of a scalar letter
   pub block-one : (a : ℕ) → k < 256 → a ≡ k % 256 → Single a 0 ≡ blockOf (lettersOf k)
   unfolding blockOf
   block-one a h e = let q : a ≡ k = omega arith in ap (λ (x : ℕ). Single x 0) q ∙ ap blockOf (sym (one-is k h))
 
+  -- of a dot
   pub block-two : (a b : ℕ) → 256 ≤ k → k < 65792 → a ≡ (k - 256) / 256 % 256 → b ≡ (k - 256) % 256 → Dot a b ≡ blockOf (lettersOf k)
   unfolding blockOf
   block-two a b h g p q = ap blockOf (sym (two-bytes k a b h g p q))
 
+  -- of a triple
   pub block-three : (a b c : ℕ) → 65792 ≤ k → k < 16843008 → a ≡ (k - 65792) / 65536 % 256 → b ≡ (k - 65792) / 256 % 256 → c ≡ (k - 65792) % 256 → Triple a b c ≡ blockOf (lettersOf k)
   unfolding blockOf
   block-three a b c h g p q r = ap blockOf (sym (three-bytes k a b c h g p q r))
 
 module _ (p : Part) (i : ℕ) where
+  -- no vector part: 1 in the first component
   pub part-one : p ≡ Nothing → i ≡ 0 → One ≡ partBlock i (partOf p)
   unfolding partBlock
   part-one e z = sym (ap (partBlock i) (nothing-is p e) ∙ rw (eq-eqb i 0 z))
 
+  -- and 0 in the others
   pub part-zero : p ≡ Nothing → ¬ (i ≡ 0) → Zero ≡ partBlock i (partOf p)
   unfolding partBlock
   part-zero e z = sym (ap (partBlock i) (nothing-is p e) ∙ rw (ne-eqb i 0 z))
 
+  -- a letter
   pub part-single : (l : ℕ) → p ≡ Letter l → Single l i ≡ partBlock i (partOf p)
   unfolding partBlock
   part-single l e = sym (ap (partBlock i) (letter-is p l e))
 
+  -- a wedge
   pub part-cross : (l m : ℕ) → p ≡ Wedge l m → Cross l m i ≡ partBlock i (partOf p)
   unfolding partBlock
   part-cross l m e = sym (ap (partBlock i) (wedge-is p l m e))
 
 -- ════ a monomial times a product
 
+-- the coefficient of a product fits 64 bits
 pub product-asks : (p : Piece) (m : Monomial) (y z : ℤ) → PieceFit p m → y ≡ m .coef → z ≡ p .sign → natAbs y * natAbs z < 2 ^ 63
 product-asks p m y z f e g = omega (arith, ap natAbs e, ap natAbs g, f .modest, N.mul-le-mul (N.le-of-eq (ap natAbs e)) (N.le-trans (N.le-of-eq (ap natAbs g)) (f .small .unit)))
 
+-- a product as the code makes it
 pub product-made : (p : Piece) (m : Monomial) (k k₁ k₂ k₃ : ℕ) (y z r : ℤ) → k ≡ m .key → k₁ ≡ timesDigit (p .a) k → k₂ ≡ timesDigit (p .b) k₁ → k₃ ≡ timesDigit (p .c) k₂
     → y ≡ m .coef → z ≡ p .sign → r ≡ y *ℤ z → mono k₃ r ≡ timesPiece p m
 unfolding timesPiece

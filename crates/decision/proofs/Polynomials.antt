@@ -54,6 +54,7 @@ one = lit (pos 1)
 abbrev none : Ex
 none = lit (pos 0)
 
+-- the products of a dot, as they are multiplied out
 dot-sum : (a b : Vec) → pos 1 *ℤ (pos 1 *ℤ (b .x *ℤ a .x)) +ℤ (pos 1 *ℤ (pos 1 *ℤ (b .y *ℤ a .y)) +ℤ (pos 1 *ℤ (pos 1 *ℤ (b .z *ℤ a .z)) +ℤ pos 0)) ≡ dot a b
 unfolding normalising nine
 dot-sum a b =
@@ -64,6 +65,7 @@ dot-sum a b =
 abbrev minus : ℤ
 minus = negsuc 0
 
+-- of a triple
 triple-sum : (a b c : Vec) → pos 1 *ℤ (c .x *ℤ (b .z *ℤ a .y)) +ℤ (minus *ℤ (c .x *ℤ (b .y *ℤ a .z)) +ℤ (pos 1 *ℤ (c .y *ℤ (b .x *ℤ a .z)) +ℤ (minus *ℤ (c .y *ℤ (b .z *ℤ a .x))
     +ℤ (pos 1 *ℤ (c .z *ℤ (b .y *ℤ a .x)) +ℤ (minus *ℤ (c .z *ℤ (b .x *ℤ a .y)) +ℤ pos 0))))) ≡ triple a b c
 unfolding normalising nine
@@ -72,12 +74,14 @@ triple-sum a b c =
     ⊕ (product (pos 1) (var 8) (var 4) (var 0) ⊕ (product minus (var 8) (var 3) (var 1) ⊕ none))))))
     ((var 1 ⊗ var 5 ⊖ var 2 ⊗ var 4) ⊗ var 6 ⊕ (var 2 ⊗ var 3 ⊖ var 0 ⊗ var 5) ⊗ var 7 ⊕ (var 0 ⊗ var 4 ⊖ var 1 ⊗ var 3) ⊗ var 8) (nine a b c) refl
 
+-- of a component of a wedge
 cross-sum : (p q r s : ℤ) → pos 1 *ℤ (pos 1 *ℤ (q *ℤ p)) +ℤ (minus *ℤ (pos 1 *ℤ (s *ℤ r)) +ℤ pos 0) ≡ p *ℤ q -ℤ r *ℤ s
 unfolding normalising nine
 cross-sum p q r s =
     solve (product (pos 1) one (var 1) (var 0) ⊕ (product minus one (var 3) (var 2) ⊕ none)) (var 0 ⊗ var 1 ⊖ var 2 ⊗ var 3)
     (nine (record { x = p; y = q; z = r }) (record { x = s; y = s; z = s }) (record { x = s; y = s; z = s })) refl
 
+-- of a letter
 single-sum : (p : ℤ) → pos 1 *ℤ (pos 1 *ℤ (pos 1 *ℤ p)) +ℤ pos 0 ≡ p
 single-sum p = simp (I.+ℤ-idr, R.one-*ℤ)
 
@@ -89,18 +93,21 @@ turn p f c g =
 
 -- ════ a component of a vector
 
+-- the components of 0
 pub component-zero : (i : ℕ) → component i (scalarValue (pos 0)) ≡ pos 0
 unfolding component
 component-zero zero = refl
 component-zero (suc zero) = refl
 component-zero (suc (suc i)) = refl
 
+-- of a multiple of a vector
 component-times : (i : ℕ) (k : ℤ) (v : Vec) → component i (k • v) ≡ k *ℤ component i v
 unfolding component
 component-times zero k v = refl
 component-times (suc zero) k v = refl
 component-times (suc (suc i)) k v = refl
 
+-- of a sum of two
 pub component-plus : (i : ℕ) (u v : Vec) → component i (u +v v) ≡ component i u +ℤ component i v
 unfolding component
 component-plus zero u v = refl
@@ -225,6 +232,7 @@ module _ (table : List ℕ) (τ : ℕ → Vec) where
     has-more v s v′ s′ h g (m ∷ ms) a =
         (record { ordered = a .0 .ordered; vectors = N.le-trans (a .0 .vectors) h; scalars = N.le-trans (a .0 .scalars) g; known = a .0 .known }, has-more v s v′ s′ h g ms (a .1))
 
+    -- a component of a term has its value, with keys of forms
     term-all : (i : ℕ) (sign : ℤ) (t : S.Term) → i < 3 → {kind : ℕ} → Fits kind (monomial t) → MonomialKnown table (monomial t)
         → (total σ (expandTerm i sign t) ≡ sign *ℤ component i (termValue τ t)) × AllHas table 6 2 (expandTerm i sign t)
     unfolding expandTerm termValue timesBlock weigh
@@ -250,6 +258,7 @@ module _ (table : List ℕ) (τ : ℕ → Vec) where
     abbrev pub Sound : S.Term → Type 0
     Sound t = ((kind : ℕ) × Fits kind (monomial t)) × MonomialKnown table (monomial t)
 
+    -- and so have terms
     pub terms-all : (i : ℕ) (sign : ℤ) (ts : List S.Term) → i < 3 → All Sound ts
         → (total σ (expandTerms i sign ts) ≡ sign *ℤ component i (termsValue τ ts)) × AllHas table 6 2 (expandTerms i sign ts)
     unfolding expandTerms joined termsValue weigh

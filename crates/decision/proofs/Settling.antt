@@ -41,6 +41,7 @@ use Rattle.decision.proofs.Gathered.{gathered-value, gathered-polynomia
 
 -- ════ assignments in bytes
 
+-- no number is above 6
 limit-six : (table : List ℕ) (x : ℕ) → limitOf table x ≤ 6
 unfolding limitOf
 limit-six table x = go (eqb (kindOf table (x / 3)) vector) (eqb (x % 3) 0)
@@ -58,6 +59,7 @@ module _ (table : List ℕ) (n : ℕ) (e : kindOf table n ≡ scalar) where
       let k : eqb (kindOf table (x / 3)) vector ≡ false = ne-eqb (kindOf table (x / 3)) vector (λ z. omega (arith, z, ap (kindOf table) q, e)) in
       (λ z. rw (k, eq-eqb (x % 3) 0 z), λ z. rw (k, ne-eqb (x % 3) 0 z))
 
+-- the three numbers of a letter, each within its limit
 letter-in-range : (table b : List ℕ) (n : ℕ) → getD b (3 * n) 0 ≤ limitOf table (3 * n) → getD b (3 * n + 1) 0 ≤ limitOf table (3 * n + 1) → getD b (3 * n + 2) 0 ≤ limitOf table (3 * n + 2)
     → T (letterInRange table b n)
 unfolding letterInRange
@@ -84,12 +86,14 @@ letter-in-range table b n p q r = go (eqb (kindOf table n) scalar) refl
           le-leb (getD b (3 * n + 2) 0) 6 (omega (arith, r, limit-six table (3 * n + 2))),
         ) tt
 
+-- numbers within their limits are in range
 in-range : (table b : List ℕ) → ((x : ℕ) → x < 3 * length table → getD b x 0 ≤ limitOf table x) → T (each (length table) (letterInRange table b))
 in-range table b h = T-each (letterInRange table b) (length table) letter
   where
     letter : (n : ℕ) → n < length table → T (letterInRange table b n)
     letter n l = letter-in-range table b n (h (3 * n) (omega arith)) (h (3 * n + 1) (omega arith)) (h (3 * n + 2) (omega arith))
 
+-- a byte up to 6 is the value of its variable
 variable-value : (b : List ℕ) (x : ℕ) → getD b x 0 ≤ 6 → variables (assignment b) x ≡ pos (getD b x 0)
 unfolding variables assignment component signedByte
 variable-value b x h = go (x % 3) refl (omega arith)
@@ -105,6 +109,7 @@ variable-value b x h = go (x % 3) refl (omega arith)
 
 -- ════ scalar forms
 
+-- a term without a vector part has 0 in the second and third component
 no-part : (τ : ℕ → Vec) (i : ℕ) (t : S.Term) → T (partFits 0 t) → component (suc i) (termValue τ t) ≡ pos 0
 unfolding termValue partValue component partFits S.termKind
 no-part τ i t h =
@@ -133,6 +138,7 @@ scalars f v e = all-T (partFits 0) (formOf f .terms) (subst (λ (y : ℕ). T (al
 
 -- ════ two forms
 
+-- the first k of a list are some
 some-left : (k : ℕ) (l : List Monomial) → 0 < k → k ≤ length l → isSome (take k l) ≡ true
 unfolding isSome
 some-left zero l p q = absurd (omega arith)
@@ -165,11 +171,13 @@ module _ (table : List ℕ) (f g : Form) (buffer work : List ℕ) (w : Decidable
   abbrev es : ℕ → List Monomial
   es i = difference i (formOf f) (formOf g)
 
+  -- the monomials of a component of the difference have its value, with keys of forms
   values : (τ : ℕ → Vec) (i : ℕ) → i < 3 → (total (variables τ) (es i) ≡ component i (value τ (formOf f)) -ℤ component i (value τ (formOf g))) × AllHas table 6 2 (es i)
   values τ i h =
       difference-value table τ (w .letters) i (formOf f) (formOf g) h (sound τ (formOf f .terms) (in-shape f (w .validFirst)) firsts) (sound τ (formOf g .terms) (in-shape g (w .validSecond)) seconds)
 
   module _ (now : List ℕ) (same : length now ≡ length work) (i : ℕ) (h : i < 3) where
+    -- a component can be compared
     pub compare-asks : Comparable f g i (monomials now)
     compare-asks =
         record {
@@ -185,6 +193,7 @@ module _ (table : List ℕ) (f g : Form) (buffer work : List ℕ) (w : Decidable
       abbrev tau : ℕ → Vec
       tau l = scalarValue (pos 0)
 
+      -- what is left has the value of the difference
       same-value : (σ : ℕ → ℤ) → total σ (take r ns) ≡ total σ (es i)
       same-value σ = gathered-value table (w .letters) (es i) (all-modest f g i (monomials now) compare-asks) (values tau i h .1) (few-all f g i (monomials now) compare-asks) r (monomials now) ns c σ
 
@@ -201,6 +210,7 @@ module _ (table : List ℕ) (f g : Form) (buffer work : List ℕ) (w : Decidable
         some : isSome (take r ns) ≡ true
         some = some-left r ns l few
 
+        -- numbers can be chosen
         pub eliminate-asks : Eliminable table r ns b
         eliminate-asks =
             record {
@@ -248,6 +258,7 @@ module _ (table : List ℕ) (f g : Form) (buffer work : List ℕ) (w : Decidable
         go (inl e) = omega (arith, e .0)
         go (inr e) = omega arith
 
+    -- so the forms are equal under every assignment
     pub equal : (b : List ℕ) → b ≡ buffer → Holds (formOf f) (formOf g) buffer b
     unfolding component
     equal b e = record { equal = λ τ. by-components (first-component τ) (other-component τ 0 (omega arith)) (other-component τ 1 (omega arith)); bufferStands = e }

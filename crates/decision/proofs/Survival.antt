@@ -28,10 +28,12 @@ same a b = go (eqb a b)
     go true = pos 1
     go false = pos 0
 
+-- 1 for equal numbers
 same-self : (a b : ℕ) → a ≡ b → same a b ≡ pos 1
 unfolding same
 same-self a b e = rw (eq-eqb a b e)
 
+-- 0 for others
 same-other : (a b : ℕ) → ¬ (a ≡ b) → same a b ≡ pos 0
 unfolding same
 same-other a b h = rw (ne-eqb a b h)
@@ -47,6 +49,7 @@ unfolding weigh
 weigh-zero [] = refl
 weigh-zero (m ∷ ms) = simp (I.*ℤ-zero, weigh-zero ms)
 
+-- a sum of weights
 weigh-sum : (v : ℤ) (w u : ℕ → ℤ) (ms : List Monomial) → weigh (λ k. w k +ℤ v *ℤ u k) ms ≡ weigh w ms +ℤ v *ℤ weigh u ms
 unfolding weigh
 weigh-sum v w u [] = simp (I.*ℤ-zero)
@@ -73,6 +76,7 @@ module _ (d t : ℕ) where
   length-powers zero e ms = refl
   length-powers (suc n) e ms = ap suc (length-powers n (suc e) ms)
 
+  -- the polynomial in d is a sum over the keys
   powers-units : (v : ℤ) (n e : ℕ) (ms : List Monomial) → eval v (powers n e ms) ≡ weigh (λ k. eval v (units n e k)) ms
   unfolding eval
   powers-units v zero e ms = sym (weigh-zero ms)
@@ -86,6 +90,7 @@ module _ (d t : ℕ) where
   units-less v (suc n) e k h =
       simp (same-other e (exponent 8 d k) (λ q. omega arith), units-less v n (suc e) k (omega arith), I.zero-*ℤ, I.*ℤ-zero)
 
+  -- a key adds its power of d where its rest is t
   units-eval : (v n e k x : ℕ) → exponent 8 d k ≡ e + x → x < n → eval (pos v) (units n e k) ≡ pos (v ^ x) *ℤ same t (rest 8 d k)
   unfolding eval
   units-eval v zero e k x p h = absurd (omega arith)
@@ -96,6 +101,7 @@ module _ (d t : ℕ) where
       rw (same-other e (exponent 8 d k) (λ q. omega arith), units-eval v n (suc e) k x (omega arith) (omega arith), I.zero-*ℤ, I.+ℤ-idl, N.pow-succ' v x)
       (sym (R.*ℤ-assoc (pos v) (pos (v ^ x)) (same t (rest 8 d k))))
 
+  -- the value of the polynomial in d at v is what is left of the keys of the rest t with v put for d
   powers-eval : (v n : ℕ) (ms : List Monomial) → All (λ (m : Monomial). exponent 8 d (m .key) ≤ n) ms
       → eval (pos v) (powers (suc n) 0 ms) ≡ weigh (same t) (substituted d v ms)
   powers-eval v n ms a =
@@ -134,6 +140,7 @@ first-there d o m ms s a =
     let z = later-zero d (rest 8 d k) k o refl (a .0) (suc k) ms (N.le-refl (suc k)) (s .2) (a .1) in
     (λ i. m .coef *ℤ e i +ℤ z i) ∙ I.+ℤ-idr (m .coef *ℤ pos 1) ∙ R.*ℤ-1 (m .coef)
 
+-- without a monomial the sum is 0
 none-weighs : (w : ℕ → ℤ) (ms : List Monomial) → isSome ms ≡ false → weigh w ms ≡ pos 0
 unfolding weigh isSome
 none-weighs w [] e = refl

@@ -30,9 +30,11 @@ module _ (d v key : ℕ) (y p : ℤ) (e : ℕ) (x : Monomial) (k : key ≡ x .ke
   unfolding reduced
   product-is = ap₂ (λ (a b : ℤ). a *ℤ b) c (q ∙ ap (λ (z : ℕ). pos (v ^ z)) (g ∙ ap (exponent 8 d) k))
 
+  -- the product fits 64 bits
   pub reduced-asks : natAbs (reduced d v x .coef) < 2 ^ 62 → natAbs y * natAbs p < 2 ^ 63
   reduced-asks h = omega (arith, natAbs-*ℤ y p, ap natAbs product-is)
 
+  -- and is the monomial reduced
   pub reduced-made : (r : Single) → r .key ≡ rest 8 d key → r .coef ≡ y *ℤ p → singleOf r ≡ reduced d v x
   unfolding singleOf reduced
   reduced-made r a b = ap₂ mono (a ∙ ap (rest 8 d) k) (b ∙ product-is)
@@ -58,10 +60,12 @@ module _ (d v : ℕ) (ms : List Monomial) (n : ℕ) (h : n ≤ length ms) where
     first-split : take n ms ≡ getD ms 0 none ∷ drop 1 (take n ms)
     first-split = rest-at ms n 0 none h (omega arith)
 
+    -- its coefficient is small
     pub first-small : natAbs (reduced d v (getD ms 0 none) .coef) < 2 ^ 62
     unfolding size
     first-small = let z = rw first-split at (f .small) in omega arith
 
+    -- nothing is added yet
     pub pass-starts : (s : Single) (c : ℤ) → singleOf s ≡ reduced d v (getD ms 0 none) → c ≡ s .coef → Passing d v (take n ms) [] 1 (s .key) c
     unfolding size substituted likeAdded singleOf
     pass-starts s c e q =
@@ -80,6 +84,7 @@ module _ (d v : ℕ) (ms : List Monomial) (n : ℕ) (h : n ≤ length ms) where
     unfolding size
     sizes = rw turn-split at (w .small)
 
+    -- its coefficient is small
     pub turn-small : natAbs (reduced d v (getD ms i none) .coef) < 2 ^ 62
     turn-small = omega (arith, sizes)
 
@@ -96,9 +101,11 @@ module _ (d v : ℕ) (ms : List Monomial) (n : ℕ) (h : n ≤ length ms) where
           ap (λ (m : Monomial). front ++ onto (mono key c) (m ∷ map (reduced d v) (drop (i + 1) (take n ms)))) g
           ∙ ap (λ (y : List Monomial). front ++ onto (mono key c) (map (reduced d v) y)) (sym turn-split) ∙ w .is
 
+      -- a sum fits 64 bits
       pub sum-asks : natAbs c + natAbs u < 2 ^ 63
       sum-asks = omega (arith, sizes, g-size)
 
+      -- a like one is added
       pub turn-like : (c′ : ℤ) → s .key ≡ key → c′ ≡ c +ℤ u → Passing d v (take n ms) front (i + 1) key c′
       turn-like c′ p r =
           record {
@@ -107,6 +114,7 @@ module _ (d v : ℕ) (ms : List Monomial) (n : ℕ) (h : n ≤ length ms) where
             small = omega (arith, sizes, g-size, natAbs-+ℤ c u, ap natAbs r);
           }
 
+      -- another key: what was added up is kept
       pub turn-apart : (front′ : List Monomial) → ¬ (s .key ≡ key) → front′ ≡ front ++ kept (mono key c) [] → Passing d v (take n ms) front′ (i + 1) (s .key) u
       turn-apart front′ p r =
           let more = onto (mono (s .key) u) (map (reduced d v) (drop (i + 1) (take n ms))) in
@@ -117,6 +125,7 @@ module _ (d v : ℕ) (ms : List Monomial) (n : ℕ) (h : n ≤ length ms) where
             small = omega (arith, sizes, g-size);
           }
 
+      -- or it is 0, and dropped
       pub turn-zero : ¬ (s .key ≡ key) → isZero c ≡ true → Passing d v (take n ms) front (i + 1) (s .key) u
       turn-zero p z = turn-apart front p (sym (ap (λ (y : List Monomial). front ++ y) (kept-null (mono key c) [] z) ∙ append-nil front))
 
@@ -129,10 +138,12 @@ module _ (d v : ℕ) (ms : List Monomial) (n : ℕ) (h : n ≤ length ms) where
 
   -- all are read
   module _ (i : ℕ) (l : n ≤ i) (front : List Monomial) (key : ℕ) (c : ℤ) (w : Passing d v (take n ms) front i key c) where
+    -- the last one is kept
     pub pass-ends : front ++ kept (mono key c) [] ≡ substituted d v (take n ms)
     unfolding onto
     pass-ends = ap (λ (y : List Monomial). front ++ onto (mono key c) (map (reduced d v) y)) (sym (nothing-left ms n i h l)) ∙ w .is
 
+    -- a monomial is left if it is not 0
     pub ends-some : front ≡ [] → not (isZero c) ≡ isSome (substituted d v (take n ms))
     unfolding isSome kept
     ends-some r = go (isZero c) refl ∙ ap isSome (ap (λ (y : List Monomial). y ++ kept (mono key c) []) (sym r) ∙ pass-ends)
@@ -146,16 +157,19 @@ pub none-left : (d v : ℕ) (ms : List Monomial) → substituted d v (take 0 ms)
 unfolding substituted likeAdded
 none-left d v ms = refl
 
+-- nor is a monomial left
 pub none-some : (d v n : ℕ) (ms : List Monomial) → n ≡ 0 → false ≡ isSome (substituted d v (take n ms))
 unfolding isSome substituted likeAdded
 none-some d v n ms e = ap (λ (k : ℕ). isSome (substituted d v (take k ms))) (sym e)
 
 -- ════ a monomial kept in memory
 
+-- a coefficient 0 is not written
 pub keep-none : (j key : ℕ) (coef : ℤ) (ms : List Monomial) → isZero coef ≡ true → Kept j key coef j ms ms
 keep-none j key coef ms e =
     record { front = sym (ap (λ (y : List Monomial). take j ms ++ y) (kept-null (mono key coef) [] e) ∙ append-nil (take j ms)); behind = refl; few = omega arith; count = refl }
 
+-- any other is written
 pub keep-one : (j key : ℕ) (coef : ℤ) (ms ns : List Monomial) → j < length ms → isZero coef ≡ false → (z : ℤ) → z ≡ coef → ns ≡ set ms j (mono key z) → Kept j key coef (j + 1) ms ns
 keep-one j key coef ms ns h e z g q =
     let p : ns ≡ set ms j (mono key coef) = q ∙ ap (λ (y : ℤ). set ms j (mono key y)) g in
@@ -168,6 +182,7 @@ keep-one j key coef ms ns h e z g q =
 
 -- ════ the least digit
 
+-- case by case, as the function finds it
 pub lesser-first : (a b : ℕ) → a ≡ 0 → b ≡ lesserOf a b
 unfolding lesserOf
 lesser-first a b e = rw (eq-eqb a 0 e)
@@ -185,6 +200,7 @@ unfolding lesserOf
 lesser-gt a b h g l = rw (ne-eqb a 0 h, ne-eqb b 0 g, lt-leb a b l)
 
 module _ (ms : List Monomial) (n : ℕ) (h : n ≤ length ms) where
+  -- one more key is looked at
   pub least-more : (i d key : ℕ) → i < n → leastFrom d (drop i (take n ms)) ≡ leastFrom 0 (take n ms) → key ≡ getD ms i none .key → (r : ℕ) → r ≡ lesserOf d (lowest 8 key)
       → leastFrom r (drop (i + 1) (take n ms)) ≡ leastFrom 0 (take n ms)
   unfolding leastFrom
@@ -192,6 +208,7 @@ module _ (ms : List Monomial) (n : ℕ) (h : n ≤ length ms) where
       ap (λ (y : ℕ). leastFrom y (drop (i + 1) (take n ms))) (z ∙ ap (λ (k : ℕ). lesserOf d (lowest 8 k)) q)
       ∙ ap (leastFrom d) (sym (rest-at ms n i none h l)) ∙ p
 
+  -- all keys are
   pub least-ends : (i d : ℕ) → n ≤ i → leastFrom d (drop i (take n ms)) ≡ leastFrom 0 (take n ms) → d ≡ leastFrom 0 (take n ms)
   unfolding leastFrom
   least-ends i d l p = ap (leastFrom d) (sym (nothing-left ms n i h l)) ∙ p
@@ -206,10 +223,12 @@ pub record Writing (d v n : ℕ) (ms ns : List Monomial) (i j key : ℕ) (c : �
   pub some : i ≤ n
   pub count : length ns ≡ length ms
 
+-- nothing is written yet
 pub write-starts : (d v n : ℕ) (ms : List Monomial) (key : ℕ) (c : ℤ) → ¬ (n ≡ 0) → Passing d v (take n ms) [] 1 key c → Writing d v n ms ms 1 0 key c
 write-starts d v n ms key c o w = record { passing = w; unread = refl; before = omega arith; some = omega arith; count = refl }
 
 module _ (d v n : ℕ) (ms ns : List Monomial) (h : n ≤ length ms) (i j key : ℕ) (c : ℤ) (w : Writing d v n ms ns i j key c) where
+  -- what is read next is as it was
   pub same-read : getD ns i none ≡ getD ms i none
   same-read =
       let e : i + 0 ≡ i = omega arith in
@@ -217,6 +236,7 @@ module _ (d v n : ℕ) (ms ns : List Monomial) (h : n ≤ length ms) (i j key : 
       let b = getD-drop i ms 0 none in
       ap (λ (k : ℕ). getD ns k none) (sym e) ∙ sym a ∙ ap (λ (l : List Monomial). getD l 0 none) (w .unread) ∙ b ∙ ap (λ (k : ℕ). getD ms k none) e
 
+  -- there is a place to write to
   pub place-there : i ≤ n → j < length ns
   place-there l = omega (arith, w .before, w .count)
 
@@ -231,9 +251,11 @@ module _ (d v n : ℕ) (ms ns : List Monomial) (h : n ≤ length ms) (i j key : 
       e′ : singleOf s ≡ reduced d v (getD ms i none)
       e′ = e ∙ ap (reduced d v) same-read
 
+      -- a sum fits 64 bits
       pub write-asks : natAbs c + natAbs u < 2 ^ 63
       write-asks = sum-asks d v ms n h i l (take j ns) key c (w .passing) s e′ u q
 
+      -- a like one is added
       pub write-like : (c′ : ℤ) → s .key ≡ key → c′ ≡ c +ℤ u → Writing d v n ms ns (i + 1) j key c′
       write-like c′ p r =
           record {
@@ -244,6 +266,7 @@ module _ (d v n : ℕ) (ms ns : List Monomial) (h : n ≤ length ms) (i j key : 
             count = w .count;
           }
 
+      -- another key: what was added up is written
       pub write-apart : (r : ℕ) (os : List Monomial) → ¬ (s .key ≡ key) → Kept j key c r ns os → Writing d v n ms os (i + 1) r (s .key) u
       write-apart r os p k =
           record {
@@ -254,6 +277,7 @@ module _ (d v n : ℕ) (ms ns : List Monomial) (h : n ≤ length ms) (i j key : 
             count = k .count ∙ w .count;
           }
 
+  -- the last one is written
   pub write-ends : n ≤ i → (r : ℕ) (os : List Monomial) → Kept j key c r ns os → Substituted d v n r ms os
   write-ends l r os k =
       record {
@@ -262,6 +286,7 @@ module _ (d v n : ℕ) (ms ns : List Monomial) (h : n ≤ length ms) (i j key : 
         count = k .count ∙ w .count;
       }
 
+-- there is nothing to do
 pub write-none : (d v n : ℕ) (ms : List Monomial) → n ≡ 0 → Substituted d v n 0 ms ms
 write-none d v n ms e =
     record { is = sym (ap (λ (k : ℕ). substituted d v (take k ms)) e ∙ none-left d v ms); few = omega arith; count = refl }
