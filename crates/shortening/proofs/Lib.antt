@@ -3,3 +3,6 @@ pub mod Masks
 pub mod Pools
 pub mod Openings
 pub mod Picks
+pub mod Gains
+pub mod Trials
+pub mod Searches

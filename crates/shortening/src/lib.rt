@@ -1,2 +1,4 @@
 // Shortening.
 pub mod choosing;
+pub mod searching;
+pub mod trying;

@@ -1,0 +1,157 @@
+-- The search over all terms and their places in one row: where every place is passed, no candidate is an admissible step to fewer terms. Assumes nothing.
+use mathlib.Core.Path.{_≡_, refl, sym, ap, subst, _∙_}
+use mathlib.Core.Bool.{Bool, true, false}
+use mathlib.Core.Logic.{_⊎_, inl, inr, ⊎-elim}
+use mathlib.Core.List.{List, [], _∷_, map}
+use Prim.Native.Nat.{ℕ, zero, suc, _+_, _-_, _*_, _/_, _%_, _^_, _<_, _≤_}
+use native.Mathlib.Nat as N
+use native.Mathlib.Omega.{arith}
+use borrow.Author.Tests.{ltb-true, ltb-false}
+use lib.Dec.{T, ltb, leb, leb→le}
+use lib.IntN.{ℤ, negℤ, _*ℤ_}
+use lib.ListN.{length, length-map, getD, take, length-take, List·getD-map}
+use lib.Seq.{length-take-le, getD-take}
+use lib.Pow.{pow-mono}
+use Rattle.specification.specs.Results.{refused, given}
+use Rattle.specification.specs.Terms.{termInShape}
+use Rattle.specification.specs.Terms as S
+use Rattle.specification.specs.Rules.{ruleLetters, isRule, stepAt}
+use Rattle.theory.specs.Elements as E
+use Rattle.theory.specs.Elements.{all-T}
+use Rattle.theory.specs.Tests.{and-split, given-same, refused≢given}
+use Rattle.theory.specs.Gathering.Coefficients.{termAt}
+use Rattle.theory.specs.Rules.Steps.{step-admitted}
+use Rattle.theory.specs.Shortening.Candidates.{candidate, gain, isCandidate, NoCandidate}
+use Rattle.terms.specs.declared.types.Term.{Term}
+use Rattle.terms.specs.declared.types.Form.{Form}
+use Rattle.terms.specs.Abstraction.{partOf, termOf, formOf, Counted}
+use Rattle.terms.specs.Valid.{TermValid, FormValid}
+use Rattle.terms.specs.Numbers.{lettersOf}
+use Rattle.terms.proofs.Arrays.{noTerm, all-at}
+use Rattle.gathering.specs.declared.Closed.{Closed}
+use Rattle.gathering.specs.Closing.{WorkedAs}
+use Rattle.gathering.proofs.Closing.{worked-given, worked-refused}
+use Rattle.rules.specs.declared.steps.Step.{Step}
+use Rattle.rules.specs.Steps.{stepOf, StepValid}
+use Rattle.rules.proofs.Taking.{few-letters}
+use Rattle.shortening.specs.declared.trying.Next.{Next}
+use Rattle.shortening.specs.declared.searching.Found.{Found}
+use Rattle.shortening.specs.Trying.{Hopeless, OnlyStep, Settled, maskOf, ruleOf, pickOf, NextPlace}
+use Rattle.shortening.specs.Searching.{Shorter, SearchedBy}
+
+-- no candidate by these indices shortens
+abbrev Nothing : (table : List ℕ) (f : S.Form) (i mask rule pick : ℕ) → Type 0
+Nothing table f i k r j =
+    (c : ℤ) (reached : S.Form) → let t = termAt (f .terms) i in i < length (f .terms) → k < 2 ^ length (t .factors) → j < 2 ^ ruleLetters r
+    → T (isCandidate t k r j) → c *ℤ gain t k r j ≡ negℤ (t .coef) → stepAt table f (candidate t k r j c) ≡ given reached
+    → length (f .terms) ≤ length (reached .terms)
+
+-- none at the place p of the term i
+unfoldable pub NothingAt : (table : List ℕ) (f : S.Form) (i p : ℕ) → Type 0
+NothingAt table f i p = Nothing table f i (maskOf p) (ruleOf p) (pickOf p)
+
+-- all places of the row before one
+unfoldable pub RowPassed : (table : List ℕ) (f : S.Form) (at : ℕ) → Type 0
+RowPassed table f at = (x : ℕ) → x < at → NothingAt table f (x / 40960) (x % 40960)
+
+-- a step that does not shorten
+unfoldable pub Useless : (table : List ℕ) (f : S.Form) (found : Bool) (s : Step) → Type 0
+Useless table f found s = found ≡ true → (reached : S.Form) → stepAt table f (stepOf s) ≡ given reached → length (f .terms) ≤ length (reached .terms)
+
+pub row-none : (table : List ℕ) (f : S.Form) → RowPassed table f 0
+unfolding RowPassed
+row-none table f x h = absurd (N.lt-irrefl 0 (omega arith))
+
+-- up to the next
+pub row-more : (table : List ℕ) (f : S.Form) (at i : ℕ) (r : Next) → at / 40960 ≡ i → RowPassed table f at → NextPlace (f .kind) (termAt (f .terms) i) (at % 40960) r → Useless table f (r .found) (r .step)
+    → RowPassed table f (i * 40960 + r .next)
+unfolding RowPassed NothingAt Settled Hopeless OnlyStep Useless
+row-more table f at i r e w n u x h = go (ltb x at) refl
+  where
+    go : (b : Bool) → ltb x at ≡ b → NothingAt table f (x / 40960) (x % 40960)
+    go true q = w x (ltb-true x at q)
+    go false q =
+        let same : x / 40960 ≡ i = omega (arith, ltb-false x at q, n .inside) in
+        let from : at % 40960 ≤ x % 40960 = omega (arith, ltb-false x at q, n .inside) in
+        let before : x % 40960 < r .next = omega (arith, ltb-false x at q, n .inside) in
+        subst (λ (k : ℕ). NothingAt table f k (x % 40960)) (sym same)
+        (λ c g inside hk hj can ex s. ⊎-elim (λ hope. hope hk hj table f c g refl can ex s) (λ v. u (v .0) g (ap (stepAt table f) (sym (v .1 c can ex)) ∙ s)) (n .all (x % 40960) from before))
+
+-- the whole row
+pub row-all : (table : List ℕ) (f : S.Form) (at : ℕ) → ((i : ℕ) → i < length (f .terms) → length (termAt (f .terms) i .factors) ≤ 7) → length (f .terms) * 40960 ≤ at → RowPassed table f at → NoCandidate table f
+unfolding RowPassed NothingAt NoCandidate maskOf ruleOf pickOf isRule
+row-all table f at few h w i k r j c g hi hk rule hj can ex s =
+    let masks : 2 ^ length (termAt (f .terms) i .factors) ≤ 128 = pow-mono (few i hi) in
+    let picks : 2 ^ ruleLetters r ≤ 64 = pow-mono (few-letters r) in
+    let low : 1 ≤ r = leb→le 1 r (and-split (leb 1 r) (leb r 5) rule .0) in
+    let high : r ≤ 5 = leb→le r 5 (and-split (leb 1 r) (leb r 5) rule .1) in
+    let p : ℕ = k * 320 + (r - 1) * 64 + j in
+    let inside : p < 40960 = omega (arith, masks, picks, low, high, hk, hj) in
+    let mask : p / 320 ≡ k = omega (arith, picks, low, high, hj) in
+    let ruled : p / 64 % 5 + 1 ≡ r = omega (arith, picks, low, high, hj) in
+    let pick : p % 64 ≡ j = omega (arith, picks, hj) in
+    let x : ℕ = i * 40960 + p in
+    let term : x / 40960 ≡ i = omega (arith, inside) in
+    let place : x % 40960 ≡ p = omega (arith, inside) in
+    let behind : x < at = omega (arith, inside, hi, h) in
+    let there : NothingAt table f i p = subst (λ (n : ℕ). NothingAt table f n p) term (subst (NothingAt table f (x / 40960)) place (w x behind)) in
+    let here : Nothing table f i k r j =
+    subst (λ (n : ℕ). Nothing table f i k r n) pick (subst (λ (n : ℕ). Nothing table f i k n (p % 64)) ruled (subst (λ (n : ℕ). Nothing table f i n (p / 64 % 5 + 1) (p % 64)) mask there)) in
+    here c g hi hk hj can ex s
+
+-- ════ the forms of the code
+
+module _ (f : Form) (v : FormValid f) (places : length (f .terms) ≡ 48) where
+  -- a form has as many terms as it counts
+  form-long : length (formOf f .terms) ≡ f .count
+  unfolding formOf
+  form-long = length-map (take (f .count) (f .terms)) termOf ∙ length-take-le (f .count) (f .terms) (omega (arith, v .few, places))
+
+  module _ (i : ℕ) (h : i < f .count) where
+    -- the term at a place
+    pub term-is : termOf (getD (f .terms) i noTerm) ≡ termAt (formOf f .terms) i
+    unfolding formOf termOf partOf
+    term-is = sym (List·getD-map termOf (take (f .count) (f .terms)) i noTerm ∙ ap termOf (getD-take (f .count) (f .terms) i noTerm h))
+
+    pub term-valid : TermValid (getD (f .terms) i noTerm)
+    term-valid = record {
+      counted = all-at Counted (f .terms) (f .count) i noTerm (omega (arith, v .few, places)) h (v .counted);
+      inShape = subst (λ (t : S.Term). T (termInShape t)) (sym term-is) (E.all-at (λ (t : S.Term). T (termInShape t)) (formOf f .terms) i _ (all-T termInShape (formOf f .terms) (v .inShape .terms)) (omega (arith, form-long)));
+    }
+
+  terms-few : (i : ℕ) → i < length (formOf f .terms) → length (termAt (formOf f .terms) i .factors) ≤ 7
+  unfolding termOf
+  terms-few i h =
+      let inside : i < f .count = omega (arith, form-long) in
+      let c = term-valid i inside .counted in
+      subst (λ (t : S.Term). length (t .factors) ≤ 7) (term-is i inside)
+      (omega (arith, length-map (take (getD (f .terms) i noTerm .«factor_count») (getD (f .terms) i noTerm .factors)) lettersOf, c .few, length-take (getD (f .terms) i noTerm .«factor_count») (getD (f .terms) i noTerm .factors)))
+
+  -- the row by the code's numbers
+  pub row-searched : (table : List ℕ) (at end : ℕ) → end ≡ f .count * 40960 → end ≤ at → RowPassed table (formOf f) at → NoCandidate table (formOf f)
+  row-searched table at end e h w = row-all table (formOf f) at terms-few (omega (arith, form-long, e, h)) w
+
+-- ════ trials
+
+module _ (table : List ℕ) (f : Form) (v : FormValid f) (places : length (f .terms) ≡ 48) (s : Step) (r : Closed) (w : WorkedAs (stepAt table (formOf f) (stepOf s)) r) where
+  pub refused-useless : (b : Bool) → (r .refusal ≡ 0 → ⊥) → Useless table (formOf f) b s
+  unfolding Useless
+  refused-useless b h e g q = absurd (refused≢given (sym (worked-refused _ r w h) ∙ q))
+
+  module _ (h : r .refusal ≡ 0) (room : length (r .form .terms) ≡ 48) where
+    pub long-useless : (b : Bool) → f .count ≤ r .form .count → Useless table (formOf f) b s
+    unfolding Useless
+    long-useless b k e g q =
+        let same : formOf (r .form) ≡ g = given-same (sym (worked-given _ r w h) ∙ q) in
+        subst (λ (g : S.Form). length (formOf f .terms) ≤ length (g .terms)) same (omega (arith, form-long f v places, form-long (r .form) (w .valid h) room))
+
+    pub shorter : r .form .count < f .count → Counted (s .m) → Shorter table f (record { found = true; step = s; form = r .form })
+    unfolding stepOf
+    shorter k c =
+        let a = step-admitted table (formOf f) (stepOf s) (formOf (r .form)) (worked-given _ r w h) in
+        record { admissible = worked-given _ r w h; fewer = k; form = w .valid h; step = record { rule = a .shape .rule; m = record { counted = c; inShape = a .shape .m } } }
+
+-- no step found
+pub not-found : (table : List ℕ) (f : S.Form) (s : Step) (b : Bool) → b ≡ false → Useless table f b s
+unfolding Useless
+not-found table f s b e q = absurd (subst T (sym q ∙ e) tt)

@@ -1,0 +1,281 @@
+-- The candidate by a pick: none, or the one step whose M takes the term away exactly. Assumes nothing.
+use mathlib.Core.Path.{_≡_, refl, sym, ap, subst, _∙_}
+use mathlib.Core.Bool.{Bool, true, false, _&&_}
+use mathlib.Core.Logic.{_⊎_, inl, inr, ⊎-elim}
+use mathlib.Core.List.{List, [], _∷_, _++_}
+use Prim.Native.Nat.{ℕ, zero, suc, _+_, _*_, _/_, _%_, _^_, _<_, _≤_}
+use native.Mathlib.Nat as N
+use native.Mathlib.Omega.{arith}
+use borrow.Author.Tests.{ltb-true, ltb-false}
+use lib.Dec.{T, eqb, leb, ltb, leb→le, le→leb}
+use lib.IntN.{ℤ, pos, natAbs, negℤ, _*ℤ_}
+use lib.IntN as I
+use lib.ListN.{length, length-map, take}
+use lib.Seq.{length-take-le}
+use Rattle.algebra.specs.Integers.{NonZero, zero-or-not, *ℤ-cancel, natAbs-neg, natAbs-zero}
+use Rattle.integers.specs.declared.Quotient.{Quotient}
+use Rattle.integers.specs.Arithmetic.{Divided}
+use Rattle.specification.specs.Lists.{ascend}
+use Rattle.specification.specs.Terms.{coefWithin, withCoef, gather, termInShape}
+use Rattle.specification.specs.Terms as S
+use Rattle.specification.specs.Rules.{isRule, ruleLetters, stepTerms}
+use Rattle.theory.specs.Tests.{is-true, and-both}
+use Rattle.theory.specs.Order.{monomial}
+use Rattle.theory.specs.Shape.Terms.{term-opens}
+use Rattle.theory.specs.Gathering.Coefficients.{coeff}
+use Rattle.theory.specs.Shortening.Masks.{taken, leftOver}
+use Rattle.theory.specs.Shortening.Candidates.{blockSize, inRuleOrder, blockIsFirst, multiplier, pool, candidate, gain, isCandidate}
+use Rattle.terms.specs.declared.types.Term.{Term}
+use Rattle.terms.specs.Abstraction.{termOf, Counted}
+use Rattle.terms.specs.Valid.{TermValid}
+use Rattle.rules.specs.declared.steps.Step.{Step}
+use Rattle.rules.specs.Steps.{stepOf, StepValid, StepFits}
+use Rattle.shortening.specs.declared.choosing.Opening.{Opening}
+use Rattle.shortening.specs.declared.choosing.Picked.{Picked}
+use Rattle.shortening.specs.declared.trying.Trial.{Trial}
+use Rattle.shortening.specs.declared.trying.Next.{Next}
+use Rattle.shortening.specs.Choosing.{Shut, Opened, OpenedBy, picks, PickedBy}
+use Rattle.shortening.specs.Trying.{Hopeless, OnlyStep, Settled, SomeOpened, Tried, NextPick, maskOf, ruleOf, pickOf, NextPlace}
+
+-- a coefficient in shape
+pub in-limit : (t : S.Term) → T (termInShape t) → natAbs (t .coef) ≤ 2147483647
+unfolding coefWithin
+in-limit t h = leb→le (natAbs (t .coef)) 2147483647 (term-opens t h .within)
+
+neg-zero : (z : ℤ) → negℤ z ≡ pos 0 → z ≡ pos 0
+neg-zero z e = natAbs-zero z (sym (natAbs-neg z) ∙ ap natAbs e)
+
+-- ════ the step with the coefficient 1
+
+-- it is in shape
+pub unit-step-valid : (t : Term) (rule : ℕ) (o : Opening) (letters : List ℕ) → T (isRule rule) → SomeOpened t rule o → StepValid (record { rule = rule; letters = letters; m = o .m })
+unit-step-valid t rule o letters r s = record { rule = r; m = record { counted = s .opened .m .counted; inShape = s .opened .passes .inShape } }
+
+-- and fits
+pub unit-step-fits : (t : Term) (rule : ℕ) (o : Opening) (letters : List ℕ) → SomeOpened t rule o → StepFits (record { rule = rule; letters = letters; m = o .m })
+unfolding stepOf
+unit-step-fits t rule o letters s = record { kind = s .kind; passes = s .opened .passes .fits (take (ruleLetters rule) letters) }
+
+-- a candidate is a pick
+candidate-picks : (a b c d e : Bool) → T (a && b && c && d && e) → T (b && c && d && e)
+candidate-picks true b c d e h = h
+candidate-picks false b c d e h = absurd h
+
+module _ (t : Term) (rule : ℕ) (o : Opening) (j : ℕ) (p : Picked) (w : PickedBy (take (ruleLetters rule) (o .pool)) rule j p) where
+  module _ (kind k : ℕ) (opened : Opened kind t k rule o) where
+    pub picked-there : T (isCandidate (termOf t) k rule j) → p .fits ≡ true
+    unfolding isCandidate picks
+    picked-there h =
+        let l : List ℕ = pool (termOf t) k rule in
+        w .is ∙ ap (λ (v : List ℕ). picks rule v j) (opened .letters) ∙ is-true _ (candidate-picks (eqb (length l) (ruleLetters rule)) (eqb (length (taken j l)) (blockSize rule)) (ascend ltb (taken j l)) (ascend ltb (leftOver j l)) (blockIsFirst rule (taken j l) (leftOver j l)) h)
+
+    letters-are : p .fits ≡ true → inRuleOrder rule (taken j (pool (termOf t) k rule) ++ leftOver j (pool (termOf t) k rule)) ≡ take (ruleLetters rule) (p .letters)
+    letters-are e = ap (λ (v : List ℕ). inRuleOrder rule (taken j v ++ leftOver j v)) (sym (opened .letters)) ∙ sym (w .letters e)
+
+    -- with any coefficient
+    step-is : (c : ℤ) → p .fits ≡ true → candidate (termOf t) k rule j c ≡ stepOf (record { rule = rule; letters = p .letters; m = record { coef = c; factors = o .m .factors; «factor_count» = o .m .«factor_count»; part = o .m .part } })
+    unfolding candidate stepOf termOf multiplier
+    step-is c e = λ i. record { rule = rule; letters = letters-are e i; m = withCoef c (sym (opened .m .is) i) }
+
+    gain-is : (g : ℤ) → p .fits ≡ true → g ≡ coeff (monomial (termOf t)) (gather (stepTerms (stepOf (record { rule = rule; letters = p .letters; m = o .m })))) → g ≡ gain (termOf t) k rule j
+    unfolding gain candidate stepOf
+    gain-is g e h =
+        h ∙ (λ i. coeff (monomial (termOf t)) (gather (stepTerms (record { rule = rule; letters = sym (letters-are e) i; m = opened .m .is i }))))
+
+  -- no pick
+  pub tried-none : (s : Step) → Counted (s .m) → p .fits ≡ false → Tried t rule o j (record { found = false; step = s })
+  unfolding Settled Hopeless
+  tried-none s c e = record {
+    is = λ kind k opened. inl (λ hk hj table f c g q can ex h. absurd (subst T (sym (picked-there kind k opened can) ∙ e) tt));
+    counted = c;
+  }
+
+  -- the quotient decides
+  pub tried-by : (q : Quotient) (g c : ℤ) (m : Term) → TermValid t → p .fits ≡ true → g ≡ coeff (monomial (termOf t)) (gather (stepTerms (stepOf (record { rule = rule; letters = p .letters; m = o .m }))))
+      → c ≡ negℤ (t .coef) → Divided c g q → Counted (o .m) → m ≡ record { coef = q .value; factors = o .m .factors; «factor_count» = o .m .«factor_count»; part = o .m .part }
+      → Tried t rule o j (record { found = q .exact; step = record { rule = rule; letters = p .letters; m = m } })
+  unfolding Settled Hopeless OnlyStep termOf
+  tried-by q g c m valid fits eg ec d counted em = record {
+    is = λ kind k opened. go kind k opened (q .exact) refl;
+    counted = subst Counted (sym em) (record { few = counted .few; small = counted .small });
+  }
+    where
+      alive : NonZero (t .coef)
+      alive = term-opens (termOf t) (valid .inShape) .nonzero
+
+      -- no quotient
+      none : (kind k : ℕ) → Opened kind t k rule o → q .exact ≡ false → (n : ℤ) → n *ℤ gain (termOf t) k rule j ≡ negℤ (t .coef) → ⊥
+      none kind k opened x n e =
+          let is : g ≡ gain (termOf t) k rule j = gain-is kind k opened g fits eg in
+          let product : n *ℤ g ≡ c = ap (λ (z : ℤ). n *ℤ z) is ∙ e ∙ sym ec in
+          ⊎-elim (λ z. alive (neg-zero (t .coef) (sym e ∙ ap (λ (z : ℤ). n *ℤ z) (sym is ∙ z) ∙ I.*ℤ-zero n)))
+          (λ z. subst T (sym (d .found n product z) ∙ x) tt) (zero-or-not g)
+
+      -- one quotient
+      one : (kind k : ℕ) → Opened kind t k rule o → q .exact ≡ true → (n : ℤ) → n *ℤ gain (termOf t) k rule j ≡ negℤ (t .coef) → n ≡ q .value
+      one kind k opened x n e =
+          let is : g ≡ gain (termOf t) k rule j = gain-is kind k opened g fits eg in
+          *ℤ-cancel g n (q .value) (λ z. subst T (sym x ∙ d .byZero z) tt)
+          (I.*ℤ-comm g n ∙ ap (λ (z : ℤ). n *ℤ z) is ∙ e ∙ sym ec ∙ sym (d .product x) ∙ I.*ℤ-comm (q .value) g)
+
+      go : (kind k : ℕ) → Opened kind t k rule o → (b : Bool) → q .exact ≡ b → Settled kind (termOf t) k rule j b (record { rule = rule; letters = p .letters; m = m })
+      go kind k opened true x = inr (
+        refl,
+        λ n can e. ap (candidate (termOf t) k rule j) (one kind k opened x n e) ∙ step-is kind k opened (q .value) fits
+            ∙ ap (λ (u : Term). stepOf (record { rule = rule; letters = p .letters; m = u })) (sym em),
+      )
+      go kind k opened false x = inl (λ hk hj table f n h r can e s. absurd (none kind k opened x n e))
+
+-- ════ one pick after the other
+
+-- there is nothing to hope for from those passed
+unfoldable pub PicksPassed : (t : Term) (rule : ℕ) (o : Opening) (from j : ℕ) → Type 0
+PicksPassed t rule o from j = (kind k pick : ℕ) → Opened kind t k rule o → from ≤ pick → pick < j → Hopeless kind (termOf t) k rule pick
+
+module _ (t : Term) (rule : ℕ) (o : Opening) (from : ℕ) where
+  pub picks-none : PicksPassed t rule o from from
+  unfolding PicksPassed
+  picks-none kind k pick op a b = absurd (N.lt-irrefl from (omega arith))
+
+  module _ (j : ℕ) (w : PicksPassed t rule o from j) (here : from ≤ j) where
+    module _ (r : Trial) (v : Tried t rule o j r) where
+      -- all up to this one
+      up-to : (kind k pick : ℕ) → Opened kind t k rule o → from ≤ pick → pick < j + 1 → Settled kind (termOf t) k rule pick (r .found) (r .step)
+      unfolding PicksPassed Settled
+      up-to kind k pick op a b = go (ltb pick j) refl
+        where
+          go : (x : Bool) → ltb pick j ≡ x → Settled kind (termOf t) k rule pick (r .found) (r .step)
+          go true e = inl (w kind k pick op a (ltb-true pick j e))
+          go false e = let same : j ≡ pick = omega (arith, ltb-false pick j e) in subst (λ (i : ℕ). Settled kind (termOf t) k rule i (r .found) (r .step)) same (v .is kind k op)
+
+      pub picks-more : r .found ≡ false → PicksPassed t rule o from (j + 1)
+      unfolding PicksPassed Settled
+      picks-more f kind k pick op a b = ⊎-elim (λ x. x) (λ x. absurd (subst T (sym (x .0) ∙ f) tt)) (up-to kind k pick op a b)
+
+      -- one is worth a trial
+      pub picks-found : r .found ≡ true → j < 64 → NextPick t rule o from (record { found = true; next = j + 1; step = r .step })
+      unfolding Settled
+      picks-found f h = record {
+        all = λ kind k pick op a b. ⊎-elim inl (λ x. inr (refl, x .1)) (up-to kind k pick op a b);
+        counted = v .counted;
+        forward = omega arith;
+        inside = omega arith;
+        whole = λ e. absurd (subst T e tt);
+      }
+
+    -- none is
+    pub picks-end : (s : Step) → Counted (s .m) → 2 ^ ruleLetters rule ≤ j → from < 64 → NextPick t rule o from (record { found = false; next = 64; step = s })
+    unfolding PicksPassed Settled Hopeless
+    picks-end s c e h = record {
+      all = λ kind k pick op a b. inl (go kind k pick op a (ltb pick j) refl);
+      counted = c;
+      forward = h;
+      inside = omega arith;
+      whole = λ e. refl;
+    }
+      where
+        go : (kind k pick : ℕ) → Opened kind t k rule o → from ≤ pick → (x : Bool) → ltb pick j ≡ x → Hopeless kind (termOf t) k rule pick
+        go kind k pick op a true q = w kind k pick op a (ltb-true pick j q)
+        go kind k pick op a false q = λ hk hj. absurd (N.lt-irrefl pick (omega (arith, ltb-false pick j q, hj, e)))
+
+-- ════ one place after the other
+
+-- there is nothing to hope for from those passed
+unfoldable pub PlacesPassed : (kind : ℕ) (t : S.Term) (from at : ℕ) → Type 0
+PlacesPassed kind t from at = (p : ℕ) → from ≤ p → p < at → Hopeless kind t (maskOf p) (ruleOf p) (pickOf p)
+
+-- a place has a rule
+pub place-rule : (q : ℕ) → T (isRule (q % 5 + 1))
+unfolding isRule
+place-rule q = let h : q % 5 + 1 ≤ 5 = omega arith in let g : 1 ≤ q % 5 + 1 = omega arith in and-both (leb 1 (q % 5 + 1)) (leb (q % 5 + 1) 5) (le→leb 1 (q % 5 + 1) g) (le→leb (q % 5 + 1) 5 h)
+
+-- the mask of a place
+pub mask-there : (p q : ℕ) → p / 64 ≡ q → maskOf p ≡ q / 5
+unfolding maskOf
+mask-there p q e = omega arith
+
+rule-there : (p q : ℕ) → p / 64 ≡ q → ruleOf p ≡ q % 5 + 1
+unfolding ruleOf
+rule-there p q e = ap (λ (n : ℕ). n % 5 + 1) e
+
+pub places-none : (kind : ℕ) (t : S.Term) (from : ℕ) → PlacesPassed kind t from from
+unfolding PlacesPassed
+places-none kind t from p a b = absurd (N.lt-irrefl from (omega arith))
+
+-- what holds of the places before one and of the picks of its opening holds of all up to the next
+by-opening : (P : (mask rule pick : ℕ) → Type 0) (from at q next : ℕ) → at / 64 ≡ q → next ≤ (q + 1) * 64
+    → ((p : ℕ) → from ≤ p → p < at → P (maskOf p) (ruleOf p) (pickOf p)) → ((pick : ℕ) → at % 64 ≤ pick → q * 64 + pick < next → P (q / 5) (q % 5 + 1) pick)
+    → (p : ℕ) → from ≤ p → p < next → P (maskOf p) (ruleOf p) (pickOf p)
+unfolding pickOf
+by-opening P from at q next eq h before f p a b = go (ltb p at) refl
+  where
+    go : (x : Bool) → ltb p at ≡ x → P (maskOf p) (ruleOf p) (p % 64)
+    go true e = before p a (ltb-true p at e)
+    go false e =
+        let same : p / 64 ≡ q = omega (arith, ltb-false p at e) in
+        let pick : at % 64 ≤ p % 64 = omega (arith, ltb-false p at e) in
+        let inside : q * 64 + p % 64 < next = omega arith in
+        subst (λ (k : ℕ). P k (ruleOf p) (p % 64)) (sym (mask-there p q same)) (subst (λ (r : ℕ). P (q / 5) r (p % 64)) (sym (rule-there p q same)) (f (p % 64) pick inside))
+
+module _ (kind : ℕ) (t : Term) (from at q : ℕ) (w : PlacesPassed kind (termOf t) from at) (eq : at / 64 ≡ q) where
+  -- the mask and the rule leave nothing
+  pub places-shut : (o : Opening) (b : Bool) → OpenedBy b kind t (q / 5) (q % 5 + 1) o → b ≡ false → PlacesPassed kind (termOf t) from ((q + 1) * 64)
+  unfolding PlacesPassed OpenedBy Shut Hopeless
+  places-shut o b v e = by-opening (Hopeless kind (termOf t)) from at q ((q + 1) * 64) eq (omega arith) w (λ pick a i hk hj table f c g x can ex h. absurd (shut table f pick c g x can h))
+    where
+      shut : Shut kind (termOf t) (q / 5) (q % 5 + 1)
+      shut = subst (λ (b : Bool). OpenedBy b kind t (q / 5) (q % 5 + 1) o) e v
+
+  module _ (o : Opening) (b : Bool) (v : OpenedBy b kind t (q / 5) (q % 5 + 1) o) (e : b ≡ true) where
+    pub opened-there : Opened kind t (q / 5) (q % 5 + 1) o
+    unfolding OpenedBy
+    opened-there = subst (λ (b : Bool). OpenedBy b kind t (q / 5) (q % 5 + 1) o) e v
+
+    module _ (r : Next) (n : NextPick t (q % 5 + 1) o (at % 64) r) where
+      -- no pick is worth a trial
+      pub places-passed : r .found ≡ false → PlacesPassed kind (termOf t) from ((q + 1) * 64)
+      unfolding PlacesPassed Settled
+      places-passed f =
+          by-opening (Hopeless kind (termOf t)) from at q ((q + 1) * 64) eq (omega arith) w
+          (λ pick a i. ⊎-elim (λ x. x) (λ x. absurd (subst T (sym (x .0) ∙ f) tt)) (n .all kind (q / 5) pick opened-there a (inside pick i)))
+        where
+          inside : (pick : ℕ) → q * 64 + pick < (q + 1) * 64 → pick < r .next
+          inside pick i = omega (arith, n .whole f)
+
+      -- one is
+      pub places-found : from ≤ at → at < 40960 → r .found ≡ true → NextPlace kind (termOf t) from (record { found = true; next = q * 64 + r .next; step = r .step })
+      unfolding PlacesPassed Settled
+      places-found h k f = record {
+        all = by-opening (λ m u j. Settled kind (termOf t) m u j true (r .step)) from at q (q * 64 + r .next) eq (omega (arith, n .inside)) (λ p a i. inl (w p a i))
+            (λ pick a i. ⊎-elim inl (λ x. inr (refl, x .1)) (n .all kind (q / 5) pick opened-there a (inside pick i)));
+        counted = n .counted;
+        forward = omega (arith, n .forward);
+        inside = omega (arith, n .inside);
+      }
+        where
+          inside : (pick : ℕ) → q * 64 + pick < q * 64 + r .next → pick < r .next
+          inside pick i = omega arith
+
+-- all places passed
+pub places-end : (kind : ℕ) (t : Term) (from at end : ℕ) (s : Step) → Counted (s .m) → PlacesPassed kind (termOf t) from at → length (termOf t .factors) ≡ t .«factor_count» → end ≡ 320 * 2 ^ t .«factor_count»
+    → end ≤ at → from < 40960 → NextPlace kind (termOf t) from (record { found = false; next = 40960; step = s })
+unfolding PlacesPassed Settled Hopeless maskOf
+places-end kind t from at end s counted w long e h g = record {
+  all = λ p a b. inl (go p a (ltb p at) refl);
+  counted = counted;
+  forward = g;
+  inside = omega arith;
+}
+  where
+    go : (p : ℕ) → from ≤ p → (x : Bool) → ltb p at ≡ x → Hopeless kind (termOf t) (p / 320) (ruleOf p) (pickOf p)
+    go p a true q = w p a (ltb-true p at q)
+    go p a false q = λ hk hj. absurd (N.lt-irrefl p (omega (arith, ltb-false p at q, subst (λ (n : ℕ). p / 320 < 2 ^ n) long hk, e, h)))
+
+-- a mask of a place
+pub mask-inside : (at q n : ℕ) → at / 64 ≡ q → at < 320 * n → q / 5 < n
+mask-inside at q n e h = omega arith
+
+-- a term has as many factors as it counts
+pub factors-long : (t : Term) → t .«factor_count» ≤ length (t .factors) → length (termOf t .factors) ≡ t .«factor_count»
+unfolding termOf
+factors-long t h = length-map (take (t .«factor_count») (t .factors)) _ ∙ length-take-le (t .«factor_count») (t .factors) h

@@ -1,0 +1,27 @@
+-- The search for a step to fewer terms, and the steps to a form that no step shortens. Assumes nothing.
+use mathlib.Core.Bool.{Bool, true, false}
+use mathlib.Core.Path.{_≡_}
+use mathlib.Core.List.{List}
+use Prim.Native.Nat.{ℕ, _+_, _≤_, _<_}
+use lib.ListN.{length}
+use Rattle.specification.specs.Results.{given}
+use Rattle.specification.specs.Rules.{stepAt}
+use Rattle.specification.specs.Shortening.{Shortest}
+use Rattle.theory.specs.Shortening.Candidates.{NoCandidate}
+use Rattle.terms.specs.declared.types.Form.{Form}
+use Rattle.terms.specs.Abstraction.{formOf}
+use Rattle.terms.specs.Valid.{FormValid}
+use Rattle.rules.specs.Steps.{stepOf, StepValid}
+use Rattle.shortening.specs.declared.searching.Found.{Found}
+
+-- a step to fewer terms and the form that it reaches
+pub record Shorter (table : List ℕ) (f : Form) (r : Found) : Type 0 where
+  pub admissible : stepAt table (formOf f) (stepOf (r .step)) ≡ given (formOf (r .form))
+  pub fewer : r .form .count < f .count
+  pub form : FormValid (r .form)
+  pub step : StepValid (r .step)
+
+-- such a step, or there is none
+unfoldable pub SearchedBy : (found : Bool) (table : List ℕ) (f : Form) (r : Found) → Type 0
+SearchedBy true table f r = Shorter table f r
+SearchedBy false table f r = NoCandidate table (formOf f)
