@@ -1,6 +1,6 @@
 // Term and form records written into lent bytes.
 ghost use mathlib.Core.Path.{_≡_};
-ghost use Prim.Native.Nat.{_+_, _≤_, _<_, _%_};
+ghost use Prim.Native.Nat.{_+_, _*_, _≤_, _<_, _%_};
 ghost use lib.ListN.{length};
 ghost use Rattle.specification.specs.Lists.{joined};
 ghost use Rattle.specification.specs.Records.{factorsOf, coefField, countField, partBit, writeTerm};
@@ -173,7 +173,7 @@ pub fn write_term(out: &mut [u8], at: usize, t: Term) -> usize
 
 // The record of a form, at the start of the bytes lent.
 pub fn write_form(out: &mut [u8], f: Form) -> usize
-    requires { ⌜ FormValid f × (770 ≤ length (now out)) ⌝ }
+    requires { ⌜ FormValid f × (2 + 16 * f .count ≤ length (now out)) ⌝ }
     ensures { λ r. ⌜ FormWritten (now (out .entry)) (now (out .exit)) r (formOf f) ⌝ }
 {
     let n = f.count;

@@ -18,7 +18,7 @@ slice-aggregate-write-form c = search needs
 
 -- src/main.rt:19:9
 write-form-requires : tie.Need-write-form-requires
-write-form-requires c κs = search needs
+write-form-requires c κs = (c .before .pre, omega (arith, c .before .pre .few))
 
 -- src/main.rt:20:5
 print-character-requires : tie.Need-print-character-requires

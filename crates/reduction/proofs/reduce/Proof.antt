@@ -1,4 +1,5 @@
 use Rattle.reduction.proofs.Calls.{table-refused, short-refused, content-refused, form-written}
+use native.Mathlib.Omega.{arith}
 use borrow.Author.Needs.{needs}
 use Rattle.reduction.proofs.reduce.Statement.{statement}
 use Rattle.reduction.proofs.reduce.Tie as tie
@@ -30,7 +31,8 @@ returns-3 c = content-refused _ _ _ _ (c .before .before .before .before .check-
 
 -- src/lib.rt:56:22
 write-form-requires : tie.Need-write-form-requires
-write-form-requires c κs = ((c .before .before .before .form-of .ensures .valid) (c .before .before .if3 .left), (c .before .before .before .before .if2 .left))
+write-form-requires c κs =
+    let v = c .before .before .before .form-of .ensures .valid (c .before .before .if3 .left) in (v, omega (arith, v .few, c .before .before .before .before .if2 .left))
 
 -- src/lib.rt:40:1
 same-length : tie.Need-same-length

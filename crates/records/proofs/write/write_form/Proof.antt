@@ -25,7 +25,7 @@ few : (c : tie.Start Inv-loop μ-loop) → c .args .t2 .count ≤ length (c .arg
 few c = omega (arith, places c, c .pre .0 .few)
 
 -- the bytes stay as many as they were
-long : (c : tie.At-loop Inv-loop μ-loop) → 770 ≤ length (c .loop .out)
+long : (c : tie.At-loop Inv-loop μ-loop) → 2 + 16 * c .before .before .args .t2 .count ≤ length (c .loop .out)
 long c = rw (c .loop .inv .1) (simp length-set (c .before .before .pre .1))
 
 slice-write-out : tie.Need-slice-write-out Inv-loop μ-loop
