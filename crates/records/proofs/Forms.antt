@@ -76,7 +76,7 @@ form-is f h =
     rw e
 
 -- what is written from the start on stands in front
-front-is : (l xs : List ℕ) → over l 0 xs ≡ writeInto xs l
+pub front-is : (l xs : List ℕ) → over l 0 xs ≡ writeInto xs l
 unfolding over writeInto
 front-is l xs = let e : 0 + length xs ≡ length xs = omega arith in rw e
 

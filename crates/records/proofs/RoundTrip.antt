@@ -28,14 +28,17 @@ pub read-after-write : (table before after : List ℕ) (n : ℕ) (f : Form) (r :
 unfolding takeForm
 read-after-write table before after n f r v t w k = k .is ∙ rw (front before after n (formOf f) w, form-read-back (formOf f) (v .inShape), t)
 
+-- P3: bytes that are taken as a form are its record
+pub taken-written : (table s : List ℕ) (f : S.Form) → Bytes s → takeForm table s ≡ given f → writeForm f ≡ s
+unfolding takeForm
+taken-written table s f bs q =
+    into (readForm s) _ f q λ g e₁ e₂.
+    let u = tested (testTerms table (g .terms)) (given g) f e₂ in form-one-record s f bs (e₁ ∙ u .1) .isWritten
+
 -- P3: where `read_form` took a form, `write_form` writes the bytes that were read, and as many
 pub write-after-read : (table s before after : List ℕ) (n : ℕ) (r : Taken) → Bytes s → r .refusal ≡ 0
     → FormTaken (takeForm table s) r → FormWritten before after n (formOf (r .form)) → (take n after ≡ s) × (n ≡ length s)
-unfolding takeForm takenOf
+unfolding takenOf
 write-after-read table s before after n r bs z k w =
-    let q : takeForm table s ≡ given (formOf (r .form)) = sym (k .is) ∙ rw z in
-    let e : writeForm (formOf (r .form)) ≡ s =
-    into (readForm s) _ (formOf (r .form)) q λ f e₁ e₂.
-    let u = tested (testTerms table (f .terms)) (given f) (formOf (r .form)) e₂ in
-    form-one-record s (formOf (r .form)) bs (e₁ ∙ u .1) .isWritten in
+    let e = taken-written table s (formOf (r .form)) bs (sym (k .is) ∙ rw z) in
     (front before after n (formOf (r .form)) w ∙ e, w .ends ∙ ap length e)

@@ -6,3 +6,5 @@ pub mod Picks
 pub mod Gains
 pub mod Trials
 pub mod Searches
+pub mod WrittenLogs
+pub mod Shortened

@@ -2,3 +2,4 @@
 pub mod Choosing
 pub mod Trying
 pub mod Searching
+pub mod Writing

@@ -2,3 +2,4 @@
 pub mod choosing;
 pub mod searching;
 pub mod trying;
+pub mod writing;
