@@ -6,5 +6,7 @@ pub mod Picks
 pub mod Gains
 pub mod Trials
 pub mod Searches
+pub mod Derivations
 pub mod WrittenLogs
 pub mod Shortened
+pub mod Calls

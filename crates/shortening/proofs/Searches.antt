@@ -103,7 +103,7 @@ row-all table f at few h w i k r j c g hi hk rule hj can ex s =
 
 module _ (f : Form) (v : FormValid f) (places : length (f .terms) ≡ 48) where
   -- a form has as many terms as it counts
-  form-long : length (formOf f .terms) ≡ f .count
+  pub form-long : length (formOf f .terms) ≡ f .count
   unfolding formOf
   form-long = length-map (take (f .count) (f .terms)) termOf ∙ length-take-le (f .count) (f .terms) (omega (arith, v .few, places))
 

@@ -1,5 +1,44 @@
-// Shortening.
+// Shortening: steps from a form to one that no admissible step shortens, as a log that the checker accepts.
+ghost use Rattle.specification.specs.Shortening.{Shortened};
+ghost use Rattle.shortening.specs.Answers.{shorteningOf};
+
 pub mod choosing;
+pub mod rounds;
 pub mod searching;
 pub mod trying;
 pub mod writing;
+
+use crate::rounds::derive;
+use crate::writing::write_log;
+use records::table::check_table;
+use records::take::read_form;
+
+// What shortening says: written, with the log's length and its steps, or refused with its number.
+pub enum Shortening {
+    Written(usize, usize),
+    Refused(u8),
+}
+
+// The log of a form's shortening, at the start of the bytes lent.
+// Refused with 1 for the table, 2 for short memory, 11 for the form, then 5 or 6 for its letters.
+pub fn shorten(table: &[u8], form: &[u8], out: &mut [u8]) -> Shortening
+    ensures { λ r. ⌜ Shortened (now (table .entry)) (now (form .entry)) (now (out .entry)) (shorteningOf r) (now (out .exit)) ⌝ }
+{
+    let bad = check_table(table);
+    if bad != 0 {
+        return Shortening::Refused(bad);
+    }
+    if out.len() < 2309 {
+        return Shortening::Refused(2);
+    }
+    let a = read_form(table, form);
+    let p = a.refusal;
+    if p != 0 {
+        return Shortening::Refused(p);
+    }
+    let f = a.form;
+    let d = derive(table, f);
+    let n = d.count;
+    let size = write_log(out, f, d);
+    Shortening::Written(size, n)
+}

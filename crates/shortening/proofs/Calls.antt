@@ -1,0 +1,96 @@
+-- What shortening answers, test by test. Assumes nothing.
+use mathlib.Core.Path.{_≡_, refl, sym, ap, subst, _∙_}
+use mathlib.Core.List.{List, map}
+use Prim.Native.Nat.{ℕ, _+_, _<_, _≤_}
+use native.Mathlib.Omega.{arith}
+use borrow.Author.Tests.{le-leb, lt-leb, eq-eqb, ne-eqb}
+use lib.Dec.{T}
+use lib.ListN.{length, length-map, take}
+use lib.Seq.{length-take-le}
+use Rattle.specification.specs.Results.{Result, Test, refused, given, _>>_}
+use Rattle.specification.specs.Letters.{testTable}
+use Rattle.specification.specs.Terms as S
+use Rattle.specification.specs.Records.{readForm, takeForm, testTerms}
+use Rattle.specification.specs.Shortening.{shortened, unshortened, shortenTested, ShortenedBy, Shortened}
+use Rattle.specification.specs.Shortening as H
+use Rattle.theory.specs.Tests.{given-same, bound, tested}
+use Rattle.theory.specs.Shape.Letters.{table-good}
+use Rattle.theory.specs.Records.Positions.{Bytes}
+use Rattle.theory.specs.Records.Logs.{writeLog}
+use Rattle.terms.specs.Abstraction.{termOf, formOf}
+use Rattle.terms.specs.Valid.{FormValid}
+use Rattle.records.specs.declared.take.Taken.{Taken}
+use Rattle.records.specs.Tested.{testOf}
+use Rattle.records.specs.Reading.{takenOf, FormTaken}
+use Rattle.records.proofs.LetterTests.{test-passed, test-refused}
+use Rattle.rules.specs.Steps.{stepOf}
+use Rattle.shortening.specs.declared.writing.Derivation.{Derivation}
+use Rattle.shortening.specs.Writing.{stepsOf, LogWritten}
+use Rattle.shortening.specs.Derived.{Derived}
+use Rattle.shortening.proofs.WrittenLogs.{log-short}
+use Rattle.shortening.proofs.Shortened.{shortened-to}
+use Rattle.shortening.proofs.Searches.{form-long}
+
+-- the letters of a form that is taken are in the table
+taken-tested : (table s : List ℕ) (f : S.Form) → takeForm table s ≡ given f → testTerms table (f .terms) ≡ given tt
+unfolding takeForm
+taken-tested table s f e =
+    let r = bound (readForm s) (λ (g : S.Form). testTerms table (g .terms) >> given g) f e in
+    let t = tested (testTerms table (r .0 .terms)) (given (r .0)) f (r .2) in
+    subst (λ (g : S.Form). testTerms table (g .terms) ≡ given tt) (given-same (t .1)) (t .0)
+
+module _ (table form out : List ℕ) (n : ℕ) (et : testOf n ≡ testTable table) where
+  -- what holds by the tests holds of the call
+  by-tests : (r : Result S.Form) (answer : H.Shortening) (out′ : List ℕ) → shortenTested table form out ≡ r → ShortenedBy r table form out answer out′ → Shortened table form out answer out′
+  unfolding Shortened
+  by-tests r answer out′ e w = subst (λ (r : Result S.Form). ShortenedBy r table form out answer out′) (sym e) w
+
+  -- 1
+  pub table-refused : (n ≡ 0 → ⊥) → Shortened table form out (unshortened n) out
+  unfolding ShortenedBy shortenTested
+  table-refused h = by-tests (refused n) (unshortened n) out (rw (← et, test-refused n h)) (refl, refl)
+
+  module _ (z : n ≡ 0) where
+    good : testTable table ≡ given tt
+    good = sym et ∙ test-passed n z
+
+    -- 2
+    pub out-refused : length out < 2309 → Shortened table form out (unshortened 2) out
+    unfolding ShortenedBy shortenTested
+    out-refused h = by-tests (refused 2) (unshortened 2) out (rw (good, lt-leb 2309 (length out) h)) (refl, refl)
+
+    module _ (enough : 2309 ≤ length out) (a : Taken) (wa : FormTaken (takeForm table form) a) where
+      tests-are : shortenTested table form out ≡ takeForm table form
+      unfolding shortenTested
+      tests-are = rw (good, le-leb 2309 (length out) enough)
+
+      -- 11, 5, 6
+      pub form-refused : (a .refusal ≡ 0 → ⊥) → Shortened table form out (unshortened (a .refusal)) out
+      unfolding ShortenedBy takenOf
+      form-refused h = by-tests (refused (a .refusal)) (unshortened (a .refusal)) out (tests-are ∙ sym (wa .is) ∙ rw (ne-eqb (a .refusal) 0 h)) (refl, refl)
+
+      module _ (zero : a .refusal ≡ 0) (places : length (a .form .terms) ≡ 48) (d : Derivation) (wd : Derived table (a .form) d) (rooms : length (d .last .terms) ≡ 48) (steps : length (d .steps) ≡ 48) where
+        taken : takeForm table form ≡ given (formOf (a .form))
+        unfolding takenOf
+        taken = sym (wa .is) ∙ rw (eq-eqb (a .refusal) 0 zero)
+
+        steps-long : length (stepsOf d) ≡ d .count
+        unfolding stepsOf
+        steps-long = length-map (take (d .count) (d .steps)) stepOf ∙ length-take-le (d .count) (d .steps) (omega (arith, wd .valid .few, steps))
+
+        -- there is room
+        log-asks : d .count + d .last .count ≤ 48
+        log-asks = omega (arith, wd .saves, wa .valid zero .few)
+
+        -- the log
+        pub log-written : Bytes form → (size : ℕ) (out′ : List ℕ) → LogWritten out out′ size (formOf (a .form)) (stepsOf d) (formOf (d .last)) → Shortened table form out (shortened size (d .count)) out′
+        unfolding ShortenedBy
+        log-written bytes size out′ w =
+            let ds = wd .derives (table-good table good) (taken-tested table form (formOf (a .form)) taken) in
+            let last : length (formOf (d .last) .terms) ≡ d .last .count = form-long (d .last) (wd .valid .last) rooms in
+            let short : length (writeLog (formOf (a .form)) (stepsOf d) (formOf (d .last))) ≤ 2309 = log-short (formOf (a .form)) (stepsOf d) (formOf (d .last)) (ds .inShape) (omega (arith, log-asks, steps-long, last)) in
+            by-tests (given (formOf (a .form))) (shortened size (d .count)) out′ (tests-are ∙ taken)
+            (subst (λ (k : ℕ). H.ShortenedTo table form (formOf (a .form)) out size k out′) steps-long
+            (shortened-to table form out out′ (formOf (a .form)) (stepsOf d) (formOf (d .last)) size bytes taken ds
+            (w .ends) (w .bytes) (omega (arith, short, w .ends, enough))
+            (omega (arith, steps-long, last, form-long (a .form) (wa .valid zero) places, wd .saves)) (wd .shortest)))

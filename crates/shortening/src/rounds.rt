@@ -1,0 +1,31 @@
+// The rounds: a step to fewer terms from each form reached, until there is none.
+ghost use Rattle.terms.specs.Valid.{FormValid};
+ghost use Rattle.shortening.specs.Derived.{Derived};
+use crate::searching::search;
+use crate::trying::no_step;
+use crate::writing::Derivation;
+use terms::types::Form;
+
+// Steps from a form to one that no step shortens.
+pub fn derive(table: &[u8], f: Form) -> Derivation
+    requires { ⌜ FormValid f ⌝ }
+    ensures { λ r. ⌜ Derived (now (table .entry)) f r ⌝ }
+{
+    let none = no_step();
+    let mut steps = [none; 48];
+    let mut n: usize = 0;
+    let mut g = f;
+    let mut r = search(table, f);
+    while r.found {
+        let s = r.step;
+        steps[n] = s;
+        n += 1;
+        g = r.form;
+        r = search(table, g);
+    }
+    Derivation {
+        count: n,
+        steps: steps,
+        last: g,
+    }
+}
