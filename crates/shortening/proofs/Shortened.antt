@@ -7,9 +7,8 @@ use lib.ListN.{length, take, drop, length-append, length-drop}
 use lib.Seq.{take-at, drop-at}
 use Rattle.specification.specs.Results.{given}
 use Rattle.specification.specs.Terms.{Form}
-use Rattle.specification.specs.Records.{writeForm, writeInto, readForm, takeForm}
+use Rattle.specification.specs.Records.{writeForm, writeInto, takeForm}
 use Rattle.specification.specs.Rules.{Step}
-use Rattle.specification.specs.Logs.{accepted, checkCall}
 use Rattle.specification.specs.Shortening.{Shortest, ShortenedTo}
 use Rattle.theory.specs.Records.Positions.{Bytes}
 use Rattle.theory.specs.Records.Forms.{form-read-back}

@@ -67,10 +67,10 @@ pub fn write_log(out: &mut [u8], f: Form, d: Derivation) -> usize
     requires { ⌜ FormValid f × DerivationValid d × (d .count + d .last .count ≤ 48) × (2309 ≤ length (now out)) ⌝ }
     ensures { λ r. ⌜ LogWritten (now (out .entry)) (now (out .exit)) r (formOf f) (stepsOf d) (formOf (d .last)) ⌝ }
 {
-    let n = d.count;
+    let count = d.count;
     let last = d.last;
     let a = write_form(out, f);
-    out[a] = n as u8;
+    out[a] = count as u8;
     let b = write_steps(out, a + 1, d);
     b + write_form(&mut out[b..], last)
 }
