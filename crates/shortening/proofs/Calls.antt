@@ -17,7 +17,8 @@ use Rattle.theory.specs.Tests.{given-same, bound, tested}
 use Rattle.theory.specs.Shape.Letters.{table-good}
 use Rattle.theory.specs.Records.Positions.{Bytes}
 use Rattle.theory.specs.Records.Logs.{writeLog}
-use Rattle.terms.specs.Abstraction.{termOf, formOf}
+use Rattle.theory.specs.Replay.Accepted.{Derives}
+use Rattle.terms.specs.Abstraction.{formOf}
 use Rattle.terms.specs.Valid.{FormValid}
 use Rattle.records.specs.declared.take.Taken.{Taken}
 use Rattle.records.specs.Tested.{testOf}
@@ -82,15 +83,22 @@ module _ (table form out : List ℕ) (n : ℕ) (et : testOf n ≡ testTable tabl
         log-asks : d .count + d .last .count ≤ 48
         log-asks = omega (arith, wd .saves, wa .valid zero .few)
 
+        derived : Derives table (formOf (a .form)) (stepsOf d) (formOf (d .last))
+        derived = wd .derives (table-good table good) (taken-tested table form (formOf (a .form)) taken)
+
+        last-long : length (formOf (d .last) .terms) ≡ d .last .count
+        last-long = form-long (d .last) (wd .valid .last) rooms
+
+        -- the log is short
+        pub log-fits : (size : ℕ) (out′ : List ℕ) → LogWritten out out′ size (formOf (a .form)) (stepsOf d) (formOf (d .last)) → size ≤ 2309
+        log-fits size out′ w = omega (arith, w .ends, log-short (formOf (a .form)) (stepsOf d) (formOf (d .last)) (derived .inShape) (omega (arith, log-asks, steps-long, last-long)))
+
         -- the log
         pub log-written : Bytes form → (size : ℕ) (out′ : List ℕ) → LogWritten out out′ size (formOf (a .form)) (stepsOf d) (formOf (d .last)) → Shortened table form out (shortened size (d .count)) out′
         unfolding ShortenedBy
         log-written bytes size out′ w =
-            let ds = wd .derives (table-good table good) (taken-tested table form (formOf (a .form)) taken) in
-            let last : length (formOf (d .last) .terms) ≡ d .last .count = form-long (d .last) (wd .valid .last) rooms in
-            let short : length (writeLog (formOf (a .form)) (stepsOf d) (formOf (d .last))) ≤ 2309 = log-short (formOf (a .form)) (stepsOf d) (formOf (d .last)) (ds .inShape) (omega (arith, log-asks, steps-long, last)) in
             by-tests (given (formOf (a .form))) (shortened size (d .count)) out′ (tests-are ∙ taken)
             (subst (λ (k : ℕ). H.ShortenedTo table form (formOf (a .form)) out size k out′) steps-long
-            (shortened-to table form out out′ (formOf (a .form)) (stepsOf d) (formOf (d .last)) size bytes taken ds
-            (w .ends) (w .bytes) (omega (arith, short, w .ends, enough))
-            (omega (arith, steps-long, last, form-long (a .form) (wa .valid zero) places, wd .saves)) (wd .shortest)))
+            (shortened-to table form out out′ (formOf (a .form)) (stepsOf d) (formOf (d .last)) size bytes taken derived
+            (w .ends) (w .bytes) (omega (arith, log-fits size out′ w, enough))
+            (omega (arith, steps-long, last-long, form-long (a .form) (wa .valid zero) places, wd .saves)) (wd .shortest)))

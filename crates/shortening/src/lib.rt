@@ -1,6 +1,7 @@
 // Shortening: steps from a form to one that no admissible step shortens, as a log that the checker accepts.
+ghost use Prim.Native.Nat.{_≤_};
 ghost use Rattle.specification.specs.Shortening.{Shortened};
-ghost use Rattle.shortening.specs.Answers.{shorteningOf};
+ghost use Rattle.shortening.specs.Answers.{shorteningOf, logLength};
 
 pub mod choosing;
 pub mod rounds;
@@ -22,7 +23,8 @@ pub enum Shortening {
 // The log of a form's shortening, at the start of the bytes lent.
 // Refused with 1 for the table, 2 for short memory, 11 for the form, then 5 or 6 for its letters.
 pub fn shorten(table: &[u8], form: &[u8], out: &mut [u8]) -> Shortening
-    ensures { λ r. ⌜ Shortened (now (table .entry)) (now (form .entry)) (now (out .entry)) (shorteningOf r) (now (out .exit)) ⌝ }
+    ensures answer { λ r. ⌜ Shortened (now (table .entry)) (now (form .entry)) (now (out .entry)) (shorteningOf r) (now (out .exit)) ⌝ }
+    ensures short { λ r. ⌜ logLength r ≤ 2309 ⌝ }
 {
     let bad = check_table(table);
     if bad != 0 {
