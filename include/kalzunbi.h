@@ -105,6 +105,21 @@ int64_t kalzunbi_reduce(const uint8_t *table, size_t table_length, const uint8_t
  * -256 and -512 for 1 and 2, -2816 for 11; then 5 or 6, the first letter in byte order; then step by step 6, 8, 9 or 10; then 13. */
 int64_t kalzunbi_check(const uint8_t *table, size_t table_length, const uint8_t *log, size_t log_length, uint64_t *places, size_t places_length);
 
+/* bytes of the memory that shortening takes at least */
+#define KALZUNBI_LOG 2309
+
+/* A form with fewer terms and the same value, as the log of the steps that lead to it.
+ *
+ * table: as above. form: the record of a form.
+ * out: at least 2309 bytes. The log becomes their beginning, the form's record first; the bytes after it stand. It goes to the check call as it is.
+ * steps: at least 1 number. The first becomes the number of steps, at most as many as terms saved; further ones stand.
+ *
+ * No admissible step of any rule, letters and term leads from the last form to fewer terms.
+ *
+ * Returns the length of the log, or -1, -2, -11, then -5 or -6. */
+int64_t kalzunbi_shorten(const uint8_t *table, size_t table_length, const uint8_t *form, size_t form_length, uint8_t *out, size_t out_length,
+                         uint64_t *steps, size_t steps_length);
+
 #ifdef __cplusplus
 }
 #endif

@@ -47,7 +47,7 @@ pub cast-negative : {n : ℕ} {r : ℤ} → n < 65536 → r ≡ negℤ (toZ w64 
 cast-negative {n} h e = e ∙ rw (toZ-pos w64 n (omega arith))
 
 -- a length, cast, is what is returned
-pub cast-length : {n : ℕ} → n ≤ 770 → toZ w64 n ≡ returned (given n)
+pub cast-length : {n : ℕ} → n ≤ 2309 → toZ w64 n ≡ returned (given n)
 unfolding returned
 cast-length {n} h = toZ-pos w64 n (omega arith)
 

@@ -11,7 +11,9 @@ use Rattle.specification.specs.Values.{Vec}
 use Rattle.specification.specs.Reduction.{reduceCall}
 use Rattle.specification.specs.Evaluation.{valueCall}
 use Rattle.specification.specs.Logs.{Checked, refusedAt, accepted, atStep, checkCall}
+use Rattle.specification.specs.Terms.{Form}
 use Rattle.specification.specs.Decision as D
+use Rattle.specification.specs.Shortening.{shortenTested, ShortenedTo}
 
 -- what is given, or minus the number of the refusal
 unfoldable pub returned : Result ℕ → ℤ
@@ -79,3 +81,34 @@ pub record DecideReturned (table first second buffer work : List ℕ) (r : ℤ) 
   pub answer : D.Decision
   pub is : r ≡ decisionReturned answer
   pub decided : D.Decided table first second buffer work answer buffer′ work′
+
+-- ════ shortening
+
+-- 1, then 2 for memory without a place for the steps, then shortening's own tests
+unfoldable pub shortenAsked : (table form out steps : List ℕ) → Result Form
+shortenAsked table form out steps = do
+  testTable table
+  require (leb 1 (length steps)) 2
+  shortenTested table form out
+
+-- a refusal: minus its number, and all lent memory stands
+pub record ShortenRefused (n : ℕ) (out steps : List ℕ) (r : ℤ) (out′ steps′ : List ℕ) : Type 0 where
+  pub is : r ≡ returned (refused n)
+  pub outStands : out′ ≡ out
+  pub stepsStand : steps′ ≡ steps
+
+-- a log: its length, what shortening promises of it, and its steps in front of the memory lent for them
+pub record ShortenGiven (table form : List ℕ) (first : Form) (out steps : List ℕ) (r : ℤ) (out′ steps′ : List ℕ) : Type 0 where
+  pub size : ℕ
+  pub count : ℕ
+  pub is : r ≡ returned (given size)
+  pub shortened : ShortenedTo table form first out size count out′
+  pub stepsWritten : steps′ ≡ count ∷ drop 1 steps
+
+unfoldable pub ShortenReturnedBy : (tested : Result Form) (table form out steps : List ℕ) (r : ℤ) (out′ steps′ : List ℕ) → Type 0
+ShortenReturnedBy (refused n) table form out steps r out′ steps′ = ShortenRefused n out steps r out′ steps′
+ShortenReturnedBy (given first) table form out steps r out′ steps′ = ShortenGiven table form first out steps r out′ steps′
+
+-- the shortening call with memory for the number of its steps
+unfoldable pub ShortenReturned : (table form out steps : List ℕ) (r : ℤ) (out′ steps′ : List ℕ) → Type 0
+ShortenReturned table form out steps r out′ steps′ = ShortenReturnedBy (shortenAsked table form out steps) table form out steps r out′ steps′

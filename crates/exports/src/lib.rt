@@ -3,7 +3,7 @@ ghost use mathlib.Core.Path.{_≡_};
 ghost use Prim.Native.Nat.{_≤_};
 ghost use lib.ListN.{length};
 ghost use Rattle.specification.specs.Results.{given, refused};
-ghost use Rattle.exports.specs.Returns.{returned, returnedAt, threeInto, placesInto, valueReturned, reduceReturned, checkReturned, DecideReturned};
+ghost use Rattle.exports.specs.Returns.{returned, returnedAt, threeInto, placesInto, valueReturned, reduceReturned, checkReturned, DecideReturned, ShortenReturned};
 ghost use Rattle.evaluation.specs.Vectors.{vecOf};
 use checker::Checked;
 use checker::check;
@@ -16,6 +16,8 @@ use integers::neg;
 use records::table::check_table;
 use reduction::Reduced;
 use reduction::reduce;
+use shortening::Shortening;
+use shortening::shorten;
 
 // A refusal: minus its number.
 fn refusal(n: u8) -> i64
@@ -66,7 +68,7 @@ pub extern "C" fn kalzunbi_value(
 
 // A length that is returned.
 fn written(n: usize) -> i64
-    requires { ⌜ n ≤ 770 ⌝ }
+    requires { ⌜ n ≤ 2309 ⌝ }
     ensures { λ r. ⌜ r ≡ returned (given n) ⌝ }
 {
     n as i64
@@ -139,5 +141,32 @@ pub extern "C" fn kalzunbi_decide(
         Decision::Holds => 0,
         Decision::Differs => 1,
         Decision::Refused(n) => refusal(n),
+    }
+}
+
+// The log of a form's shortening, written into the bytes lent, and the number of its steps into the first of the numbers lent: the log's length, or minus 1, 2, 11, 5 or 6.
+#[no_mangle]
+pub extern "C" fn kalzunbi_shorten(
+    table: &[u8],
+    form: &[u8],
+    out: &mut [u8],
+    steps: &mut [u64],
+) -> i64
+    ensures { λ r. ⌜ ShortenReturned (now (table .entry)) (now (form .entry)) (now (out .entry)) (now (steps .entry)) r (now (out .exit)) (now (steps .exit)) ⌝ }
+{
+    let n = check_table(table);
+    if n != 0 {
+        return refusal(n);
+    }
+    if steps.len() < 1 {
+        return refusal(2);
+    }
+    let s = shorten(table, form, out);
+    match s {
+        Shortening::Written(size, k) => {
+            steps[0] = k as u64;
+            written(size)
+        }
+        Shortening::Refused(m) => refusal(m),
     }
 }

@@ -1,4 +1,7 @@
 -- `exports::kalzunbi_reduce` meets its contract: what the reduction call says is returned. Assumes nothing.
+use native.Mathlib.Nat.{le-trans}
+use native.Mathlib.Omega.{arith}
+use Prim.Native.Nat.{_≤_}
 use mathlib.Core.Path.{_∙_}
 use borrow.Author.Needs.{needs}
 use Rattle.integers.proofs.Machine.{back-is}
@@ -12,8 +15,12 @@ reduce-requires c κs = search needs
 enum-known-r : tie.Need-enum-known-r
 enum-known-r c = search needs
 
+-- a record is no longer than a log
+within : 770 ≤ 2309
+within = omega arith
+
 written-requires : tie.Need-written-requires
-written-requires c κs = reduce-short _ _ _ _ _ (c .before .before .before .before .before .reduce .ensures) _ (c .before .r .given .1)
+written-requires c κs = le-trans (reduce-short _ _ _ _ _ (c .before .before .before .before .before .reduce .ensures) _ (c .before .r .given .1)) within
 
 enum-known-r-2 : tie.Need-enum-known-r-2
 enum-known-r-2 c = search needs
