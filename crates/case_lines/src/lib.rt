@@ -1,5 +1,5 @@
 // What the programs over cases share: bytes taken from the input, and lines written to standard output.
-ghost use Prim.Native.Nat.{_*_, _^_, _<_};
+ghost use Prim.Native.Nat.{_+_, _*_, _^_, _<_};
 ghost use lib.IntN.{natAbs};
 ghost use lib.ListN.{length};
 ghost use Rattle.evaluation.specs.Vectors.{vecOf, Within};
@@ -15,6 +15,14 @@ pub fn byte_at(s: &[u8], i: usize) -> usize
     ensures { λ r. ⌜ r < 256 ⌝ }
 {
     s[i] as usize
+}
+
+// Two bytes as a number.
+pub fn two_bytes_at(s: &[u8], i: usize) -> usize
+    requires { ⌜ i + 1 < length (now s) ⌝ }
+    ensures { λ r. ⌜ r < 65536 ⌝ }
+{
+    byte_at(s, i) * 256 + byte_at(s, i + 1)
 }
 
 // One character.
@@ -45,6 +53,37 @@ fn print_number(a: i64)
 pub fn print_refusal(n: u8) {
     print_character(b'R');
     io::print_decimal(1, n as u64);
+}
+
+// What every byte lent is before a call: no number of an assignment, and in a record only a byte of a coefficient.
+const FILLING: u8 = 170;
+
+// Fills the bytes.
+pub fn fill(s: &mut [u8]) {
+    let mut i: usize = 0;
+    while i < s.len() {
+        s[i] = FILLING;
+        i += 1;
+    }
+}
+
+// Whether the bytes are as they were before.
+fn stands(s: &[u8]) -> bool {
+    let mut i: usize = 0;
+    while i < s.len() {
+        if s[i] != FILLING {
+            return false;
+        }
+        i += 1;
+    }
+    true
+}
+
+// The word for memory that was changed.
+pub fn print_standing(s: &[u8]) {
+    if !stands(s) {
+        io::write_all(1, b" changed");
+    }
 }
 
 // Three numbers.

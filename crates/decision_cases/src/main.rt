@@ -1,40 +1,19 @@
 // Runs cases of the decision from standard input. A case is the length of a table (one byte), the table, the length of a form's record (two bytes), the record,
 // the same for the second form, how many bytes of the buffer are lent (one byte) and how many of the work memory (two bytes).
 // For each it writes a line: holds, differs, or R and the number of the refusal; behind it what is wrong with the memory lent or the assignment, if anything is.
-ghost use Prim.Native.Nat.{_+_, _*_, _<_, _≤_};
+ghost use Prim.Native.Nat.{_*_, _<_, _≤_};
 ghost use lib.ListN.{length};
 use case_lines::byte_at;
+use case_lines::fill;
 use case_lines::print_character;
 use case_lines::print_refusal;
+use case_lines::print_standing;
+use case_lines::two_bytes_at;
 use decision::Decision;
 use decision::decide;
 use evaluation::Valued;
 use evaluation::value;
 use evaluation::vectors::Vector;
-
-// What every byte lent is before a call: no number of an assignment.
-const FILLING: u8 = 170;
-
-// Fills the bytes.
-fn fill(s: &mut [u8]) {
-    let mut i: usize = 0;
-    while i < s.len() {
-        s[i] = FILLING;
-        i += 1;
-    }
-}
-
-// Whether the bytes are as they were before.
-fn stands(s: &[u8]) -> bool {
-    let mut i: usize = 0;
-    while i < s.len() {
-        if s[i] != FILLING {
-            return false;
-        }
-        i += 1;
-    }
-    true
-}
 
 // Whether the three numbers of a letter are from 0 to 6, of a scalar letter from 0 to 2 and two zeros.
 fn letter_in_range(kind: u8, x: u8, y: u8, z: u8) -> bool {
@@ -81,13 +60,6 @@ fn apart(table: &[u8], first: &[u8], second: &[u8], assignment: &[u8]) -> bool {
         return false;
     };
     unequal(v, w)
-}
-
-// The word for memory that was changed.
-fn print_standing(s: &[u8]) {
-    if !stands(s) {
-        io::write_all(1, b" changed");
-    }
 }
 
 // The words for an assignment that is out of range or does not tell two forms apart.
@@ -153,14 +125,6 @@ fn print_lent(
     requires { ⌜ (p ≤ length (now buffer)) × (q ≤ length (now work)) ⌝ }
 {
     print_case(table, first, second, &mut buffer[..p], &mut work[..q]);
-}
-
-// Two bytes as a number.
-fn two_bytes_at(s: &[u8], i: usize) -> usize
-    requires { ⌜ i + 1 < length (now s) ⌝ }
-    ensures { λ r. ⌜ r < 65536 ⌝ }
-{
-    byte_at(s, i) * 256 + byte_at(s, i + 1)
 }
 
 // The case at a position, and the position behind it; the end where a case is cut off or asks for more memory than there is.

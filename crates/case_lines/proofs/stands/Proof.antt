@@ -1,10 +1,10 @@
--- `decision_cases::stands` is safe and ends. Assumes nothing.
+-- `case_lines::stands` is safe and ends. Assumes nothing.
 use Prim.Native.Nat.{_-_}
 use native.Mathlib.Omega.{arith}
 use lib.ListN.{length}
 use borrow.Author.Needs.{needs}
-use Rattle.decision_cases.proofs.stands.Statement.{statement}
-use Rattle.decision_cases.proofs.stands.Tie as tie
+use Rattle.case_lines.proofs.stands.Statement.{statement}
+use Rattle.case_lines.proofs.stands.Tie as tie
 
 abbrev Inv-loop : tie.InvT-loop
 Inv-loop s i₀ i = Unit {0}

@@ -1,11 +1,11 @@
--- `decision_cases::fill` is safe and ends. Assumes nothing.
+-- `case_lines::fill` is safe and ends. Assumes nothing.
 use mathlib.Core.Path.{_≡_, refl, _∙_}
 use Prim.Native.Nat.{_-_}
 use native.Mathlib.Omega.{arith}
 use lib.ListN.{length, length-set}
 use borrow.Author.Needs.{needs}
-use Rattle.decision_cases.proofs.fill.Statement.{statement}
-use Rattle.decision_cases.proofs.fill.Tie as tie
+use Rattle.case_lines.proofs.fill.Statement.{statement}
+use Rattle.case_lines.proofs.fill.Tie as tie
 
 abbrev Inv-loop : tie.InvT-loop
 Inv-loop s₀ i₀ s i = length s ≡ length s₀
