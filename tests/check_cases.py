@@ -190,11 +190,11 @@ def log(first, steps, last):
     return first + bytes([len(steps)]) + b"".join(steps) + last
 
 
-def closed(first, steps):
+def closed(first, steps, table=WHOLE):
     """The log that ends in the form reached."""
     current = gathered(forms.read(first))
     for s in steps:
-        current = reached(WHOLE, current, cut_step(s)[0])
+        current = reached(table, current, cut_step(s)[0])
     return log(first, steps, expressions.record(*current))
 
 
