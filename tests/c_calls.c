@@ -452,12 +452,113 @@ static void decide_calls(void)
     }
 }
 
+/* ---- shortening */
+
+/* (abd)*(a^c)-(acd)*(a^b), which rule 4 makes one term, and the determinant of the dots of a, b, c, 5 terms, one of them twice */
+#define TWO "010229ffffffff01000203000128010001030002"
+#define SQUARE "0005040300000101020205ffffffff0300000102010205ffffffff0300010001020205000000020300010002010205ffffffff03000200020101"
+
+struct shorten_row {
+    const char *table, *form;
+    size_t out, steps;
+    int64_t refused;
+    int last; /* the terms of the last form */
+};
+
+static const struct shorten_row shorten_rows[] = {
+    /* document 01's line: that form, rule 2, letters a b c d, M = 1: empty */
+    {SMALL, FOUR, 2309, 1, 0, 0},
+    {"01010101", FOUR, 2310, 2, 0, 0},
+    {SMALL, NEGATED, 3013, 9, 0, 0},
+    /* the right sides of rules 1 and 5 become the left sides, by rule 4 two terms one, by rule 5 five terms */
+    {SMALL, WEDGES, 2309, 1, 0, 1},
+    {SIX_VECTORS, DOTS, 2309, 1, 0, 1},
+    {SMALL, TWO, 2309, 1, 0, 1},
+    {SMALL, SQUARE, 2309, 1, 0, 1},
+    /* with a sign turned, rule 1 takes two of the terms out */
+    {SMALL, TURNED, 2309, 1, 0, 2},
+    /* nothing to shorten: empty forms, one term, a full form */
+    {SMALL, "0000", 2309, 1, 0, 0},
+    {SMALL, "0100", 2309, 1, 0, 0},
+    {SMALL, TRIPLE, 2309, 1, 0, 1},
+    {SMALL, LARGE, 2400, 1, 0, 1},
+    {SIX_VECTORS, TRIPLES, 2309, 1, 0, 1},
+    {WIDE, FORTY_EIGHT, 2309, 1, 0, 48},
+    /* 1, before all others */
+    {"", "0000", 2309, 1, -1, 0},
+    {"02", "0000", 2309, 1, -1, 0},
+    {"00000000000000000000000000000000000000000000000000", "0000", 2309, 1, -1, 0},
+    {"0102", "", 0, 0, -1, 0},
+    /* 2, before contents: the bytes for the log, the number for the steps, both */
+    {SMALL, FOUR, 2308, 1, -2, 0},
+    {SMALL, "0000", 2308, 1, -2, 0},
+    {SMALL, FOUR, 2309, 0, -2, 0},
+    {SMALL, "", 0, 0, -2, 0},
+    {SMALL, "01011007", 5, 1, -2, 0},
+    /* 11, before letters */
+    {SMALL, "", 2309, 1, -11, 0},
+    {SMALL, "0200", 2309, 1, -11, 0},
+    {SMALL, "00010100000001", 2309, 1, -11, 0},
+    {SMALL, FOUR "00", 2309, 1, -11, 0},
+    {SMALL, "01021004" "1007" "00", 2309, 1, -11, 0},
+    /* 5 and 6 of letters, the first in byte order */
+    {SMALL, "01011007", 2309, 1, -5, 0},
+    {SMALL, "01021003" "1004", 2309, 1, -6, 0},
+    {SMALL, "01021004" "1007", 2309, 1, -6, 0},
+    {"010101", FOUR, 2309, 1, -5, 0},
+};
+
+static uint8_t log_memory[MARGIN + 3013 + MARGIN];
+
+/* The log of so many bytes begins with the form, is accepted with the steps reported, no more than the terms it saves, ends in a form of so many terms,
+ * and the decision says of its ends that they are equal. */
+static void check_written(struct bytes *table, struct bytes *form, const uint8_t *log, size_t length, uint64_t steps, int last_terms, int row)
+{
+    uint64_t places[3];
+    if (kalzunbi_check(at(table), table->length, log, length, places, 3) != 0) {
+        check(0, "shorten: the check of the log, row", row);
+        return;
+    }
+    const uint8_t *last = log + places[1];
+    struct bytes buffer = from("");
+    check(places[0] == form->length && memcmp(log, at(form), form->length) == 0, "shorten: the first form, row", row);
+    check(places[2] == steps && steps + last[1] <= log[1], "shorten: the steps, row", row);
+    check(last[1] == last_terms, "shorten: the last form, row", row);
+    check(kalzunbi_decide(at(table), table->length, log, places[0], last, length - places[1], at(&buffer), KALZUNBI_ASSIGNMENT, work_memory, KALZUNBI_WORK) == 0,
+          "shorten: the decision on both forms, row", row);
+}
+
+static void shorten_calls(void)
+{
+    for (size_t i = 0; i < sizeof shorten_rows / sizeof *shorten_rows; i++) {
+        const struct shorten_row *row = &shorten_rows[i];
+        struct bytes table = from(row->table), form = from(row->form);
+        struct bytes table_before = table, form_before = form;
+        uint64_t steps[16], expected[16];
+        for (int k = 0; k < 16; k++)
+            steps[k] = expected[k] = UINT64_C(12345678901234567890) + (uint64_t)k;
+        memset(log_memory, 0x5A, sizeof log_memory);
+        int64_t returned = kalzunbi_shorten(at(&table), table.length, at(&form), form.length, log_memory + MARGIN, row->out, steps + 4, row->steps);
+        calls++;
+        size_t written = returned < 0 ? 0 : (size_t)returned;
+        check(row->refused ? returned == row->refused : returned > 0 && written <= row->out, "shorten: what is returned, row", (int)i);
+        check(all(log_memory, 0, MARGIN, 0x5A) && all(log_memory, MARGIN + written, sizeof log_memory, 0x5A), "shorten: the bytes lent, row", (int)i);
+        check(same(&table, &table_before) && same(&form, &form_before), "shorten: memory, row", (int)i);
+        if (returned > 0) {
+            check_written(&table, &form, log_memory + MARGIN, written, steps[4], row->last, (int)i);
+            expected[4] = steps[4];
+        }
+        check(memcmp(steps, expected, sizeof steps) == 0, "shorten: the numbers lent, row", (int)i);
+    }
+}
+
 int main(void)
 {
     value_calls();
     reduce_calls();
     check_calls();
     decide_calls();
+    shorten_calls();
     printf("%d calls, %d differences\n", calls, failures);
     return failures != 0;
 }
