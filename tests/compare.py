@@ -1,9 +1,12 @@
 #!/usr/bin/env python3
-"""The calls for C on random and damaged inputs, against the unrelated programs value_cases.py, reduction_cases.py, check_cases.py and decision_cases.py.
+"""The calls for C on random and damaged inputs, against the unrelated programs value_cases.py, reduction_cases.py, check_cases.py, decision_cases.py and
+shortening_cases.py.
 
 compare.py [COUNT [SEED]]: COUNT inputs for each call (10000). What is returned and all memory, lent or around what is lent, is compared.
 A form that is given is handed on to the value call, whose numbers must be those of the expression by components. An assignment that is handed over
-must be in its range, and tell the two forms apart by the unrelated program and by the value call.
+must be in its range, and tell the two forms apart by the unrelated program and by the value call. A log that shortening wrote must begin with the form
+taken, be accepted by the unrelated program with the steps reported, have at most as many steps as terms were saved, and end in a form that no step shortens;
+the check call must accept it, and the decision must say of its ends that they are equal.
 """
 import collections
 import ctypes
@@ -15,6 +18,7 @@ import sys
 import check_cases as logs
 import decision_cases as decisions
 import reduction_cases as expressions
+import shortening_cases as shortening
 import value_cases as forms
 
 HOME = pathlib.Path(__file__).resolve().parent.parent
@@ -28,7 +32,7 @@ def load():
     subprocess.run(["rt", "staticlib", "exports"], cwd=HOME, check=True, stdout=subprocess.DEVNULL, stderr=subprocess.DEVNULL)
     subprocess.run(["gcc", "-shared", "-o", shared, "-Wl,--whole-archive", made, "-Wl,--no-whole-archive"], check=True)
     library = ctypes.CDLL(str(shared))
-    for call in (library.kalzunbi_value, library.kalzunbi_reduce, library.kalzunbi_check, library.kalzunbi_decide):
+    for call in (library.kalzunbi_value, library.kalzunbi_reduce, library.kalzunbi_check, library.kalzunbi_decide, library.kalzunbi_shorten):
         call.restype = ctypes.c_int64
     return library
 
@@ -136,6 +140,15 @@ def pair_inputs(chance):
         yield any_table(chance, table), *pair, chance.choice((72, 72, 72, 73, 100)) if chance.randrange(20) else chance.randrange(72), work
 
 
+def shortening_inputs(chance):
+    while True:
+        made = chance.choice((shortening.random_form, shortening.random_form, shortening.changed_form))
+        table, data = made(chance, *chance.choices(((3, 4), (6, 12), (40, 3), (0, 20)), (12, 6, 1, 2))[0])
+        data = chance.choices((data, damaged(chance, data), any_bytes(chance, 40)), (30, 2, 1))[0]
+        lent = chance.choice((2309, 2309, 2309, 2310, 3013)) if chance.randrange(20) else chance.randrange(2309)
+        yield any_table(chance, table), data, lent, chance.choice((1, 1, 1, 2, 5)) if chance.randrange(20) else 0
+
+
 # ════ comparing
 
 def bad_table(table):
@@ -206,6 +219,27 @@ def compare_decide(functions, table, first, second, lent, work):
     return values[0] != values[1], answer
 
 
+def compare_shorten(functions, table, data, lent, numbers):
+    target, counted = Lent(ctypes.c_uint8, [0xC3] * lent), Lent(ctypes.c_uint64, [7777777777777 * i for i in range(numbers)])
+    returned = call(functions.kalzunbi_shorten, (table, data), target, counted)
+    try:
+        kind, terms = shortening.taken(table, data, lent if numbers else 0)
+    except expressions.Refused as refusal:
+        return returned == -refusal.args[0] and target.stands_but_for() and counted.stands_but_for(), f"R{refusal.args[0]}"
+    written = bytes(target.first(returned or 0)) if (returned or 0) <= lent else b""
+    what, end, *places = logs.answer(table, written)
+    if what != "accepted":
+        return False, "not accepted"
+    start, steps = places
+    last = logs.gathered(forms.read(written[start:]))[1]
+    good = (target.stands_but_for(written) and counted.stands_but_for([steps]) and written[:end] == data and steps + len(last) <= len(terms)
+            and not any(True for lot in shortening.lots(last) for _ in shortening.shortening_steps(kind, lot)))
+    three, buffer, memory = Lent(ctypes.c_uint64, [0] * 3), Lent(ctypes.c_uint8, [0] * 72), Lent(ctypes.c_uint8, [0] * 55296)
+    checked = call(functions.kalzunbi_check, (table, written), three) == 0 and three.first(3) == [end, start, steps]
+    holds = call(functions.kalzunbi_decide, (table, written[:end], written[start:]), buffer, memory) == 0
+    return good and checked and holds, "shorter" if steps else "as it was"
+
+
 def main():
     count, seed = (int(x) for x in (sys.argv[1:] + ["10000", "1"][len(sys.argv) - 1:])[:2])
     library, chance, differences = load(), random.Random(seed), 0
@@ -213,7 +247,8 @@ def main():
             ("value", form_inputs(chance), lambda *x: compare_value(library.kalzunbi_value, *x)),
             ("reduce", expression_inputs(chance), lambda *x: compare_reduce(library, chance, *x)),
             ("check", log_inputs(chance), lambda *x: compare_check(library.kalzunbi_check, *x)),
-            ("decide", pair_inputs(chance), lambda *x: compare_decide(library, *x))):
+            ("decide", pair_inputs(chance), lambda *x: compare_decide(library, *x)),
+            ("shorten", shortening_inputs(chance), lambda *x: compare_shorten(library, *x))):
         answers = collections.Counter()
         for _ in range(count):
             case = next(inputs)
@@ -223,7 +258,7 @@ def main():
                 differences += 1
                 print(name, *(x.hex() if isinstance(x, bytes) else x for x in case), "expected", answer)
         print(f"{name}: {count} cases, " + ", ".join(f"{n} {a}" for a, n in sorted(answers.items(), key=lambda x: (len(x[0]), x[0]))))
-    print(f"{4 * count} cases, {differences} differences")
+    print(f"{5 * count} cases, {differences} differences")
     sys.exit(differences > 0)
 
 
