@@ -1,9 +1,11 @@
-/* Nanoseconds a call, through the calls for C: one line for each measure of tests/benchmark.gp, in its order, then the check of logs, which it has not.
- * The logs are in logs.h, which tests/check_cases.py --header prints, the forms to decide in forms.h, which tests/decision_cases.py --header prints. */
+/* Nanoseconds a call, through the calls for C: one line for each measure of tests/benchmark.gp, in its order, then the check of logs and
+ * shortening, which it has not. The logs are in logs.h, which tests/check_cases.py --header prints, the forms to decide in forms.h, which
+ * tests/decision_cases.py --header prints, those to shorten in shortening.h, which tests/shortening_cases.py --header prints. */
 #define _POSIX_C_SOURCE 199309L
 #include "kalzunbi.h"
 #include "forms.h"
 #include "logs.h"
+#include "shortening.h"
 
 #include <stdio.h>
 #include <stdlib.h>
@@ -12,6 +14,7 @@
 /* a to l are vectors, m to x scalars */
 static uint8_t table[24], assignment[72], form[KALZUNBI_FORM], out[KALZUNBI_FORM];
 static uint8_t buffer[KALZUNBI_ASSIGNMENT], work[KALZUNBI_WORK];
+static uint8_t written[KALZUNBI_LOG];
 static int64_t values[KALZUNBI_VALUES];
 
 static double now(void)
@@ -57,6 +60,20 @@ static void measure_decision(const char *what, const uint8_t *first, size_t firs
     for (int i = 0; i < count; i++)
         returned = kalzunbi_decide(decision_table, sizeof decision_table, first, first_length, second, second_length, buffer, sizeof buffer, work, sizeof work);
     report(what, returned, expected, since, count);
+}
+
+/* the terms of the last form are held to those expected */
+static void measure_shortening(const char *what, const uint8_t *letters, size_t letters_length, const uint8_t *first, size_t first_length,
+                               int64_t expected, int count)
+{
+    uint64_t steps, places[3] = {0, 0, 0};
+    int64_t returned = 0;
+    double since = now();
+    for (int i = 0; i < count; i++)
+        returned = kalzunbi_shorten(letters, letters_length, first, first_length, written, sizeof written, &steps, 1);
+    double nanoseconds = now() - since;
+    returned = returned < 0 ? returned : kalzunbi_check(letters, letters_length, written, (size_t)returned, places, 3);
+    report(what, returned < 0 ? returned : written[places[1] + 1], expected, now() - nanoseconds, count);
 }
 
 /* the sum of so many letters, from the first on, each added to the sum of those before */
@@ -120,5 +137,13 @@ int main(void)
 
     measure_check("check of a log of 8 steps, from 19 terms to 6", eight_table, sizeof eight_table, eight_log, sizeof eight_log, 10000);
     measure_check("check of the longest log, 64 steps at 44 to 48 terms", longest_table, sizeof longest_table, longest_log, sizeof longest_log, 1000);
+
+#define SHORTENING(what, name, last, count) measure_shortening(what, name##_table, sizeof name##_table, name##_form, sizeof name##_form, last, count)
+    SHORTENING("shortening of a scalar form of 48 terms: no step", none_scalar, 48, 1000);
+    SHORTENING("shortening of a vector form of 48 terms: no step", none_vector, 48, 1000);
+    SHORTENING("shortening by rule 5, from 48 terms to 8", rule_5, 8, 1000);
+    SHORTENING("shortening by rule 1, from 48 terms to 16", rule_1, 16, 1000);
+    SHORTENING("shortening of the thesis's form of 24 terms, to 8", thesis_24, 8, 1000);
+    SHORTENING("shortening of the thesis's form of 28 terms, to 12", thesis_28, 12, 1000);
     return 0;
 }
