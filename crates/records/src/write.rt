@@ -22,7 +22,7 @@ pub fn low(x: u32) -> u8
 }
 
 // How many letters a factor has.
-fn letter_count(k: u32) -> usize
+pub fn letter_count(k: u32) -> usize
     ensures { λ r. ⌜ r ≡ length (lettersOf k) ⌝ }
 {
     if k < 256 {

@@ -101,4 +101,4 @@ module _ (table form out : List ℕ) (n : ℕ) (et : testOf n ≡ testTable tabl
             (subst (λ (k : ℕ). H.ShortenedTo table form (formOf (a .form)) out size k out′) steps-long
             (shortened-to table form out out′ (formOf (a .form)) (stepsOf d) (formOf (d .last)) size bytes taken derived
             (w .ends) (w .bytes) (omega (arith, log-fits size out′ w, enough))
-            (omega (arith, steps-long, last-long, form-long (a .form) (wa .valid zero) places, wd .saves)) (wd .shortest)))
+            (omega (arith, steps-long, last-long, form-long (a .form) (wa .valid zero) places, wd .saves)) (wd .shortest (taken-tested table form (formOf (a .form)) taken))))

@@ -16,7 +16,7 @@ use Rattle.specification.specs.Rules as R
 use Rattle.specification.specs.Shortening.{Shortest}
 use Rattle.theory.specs.Elements.{All, all-append}
 use Rattle.theory.specs.Tests.{given-same, bound, tested}
-use Rattle.theory.specs.Shape.Letters.{terms-known, known-terms}
+use Rattle.theory.specs.Shape.Letters.{AllKnown, terms-known, known-terms}
 use Rattle.theory.specs.Rules.Steps.{step-closes, step-admitted}
 use Rattle.theory.specs.Records.Logs.{StepsInShape}
 use Rattle.theory.specs.Replay.Accepted.{takeSteps, testSteps, Derives}
@@ -94,6 +94,10 @@ module _ (table : List ℕ) (f : Form) (v : FormValid f) (steps : List Step) (n 
           inShape = subst StepsInShape listed (all-append (λ (st : R.Step). T (stepInShape st)) (map stepOf (take n steps)) (s ∷ []) (w .inShape) (step-closes s (a .shape), tt));
         }
 
+  -- the letters of the form reached are in the table
+  last-known : testTerms table (formOf f .terms) ≡ given tt → AllKnown table (formOf g .terms)
+  last-known known = steps-keep table (formOf f) (map stepOf (take n steps)) (formOf g) (v .inShape) (terms-known table (formOf f .terms) known) (w .inShape) (w .tests) (w .reaches) .known
+
   -- no step shortens the last form
   pub rounds-end : b ≡ false → Derived table f (record { count = n; steps = steps; last = g })
   unfolding SearchedBy stepsOf
@@ -102,15 +106,13 @@ module _ (table : List ℕ) (f : Form) (v : FormValid f) (steps : List Step) (n 
       record {
         valid = record { few = few; steps = w .valid; last = w .form };
         saves = w .saves;
-        derives = λ good known.
-            let k = steps-keep table (formOf f) (map stepOf (take n steps)) (formOf g) (v .inShape) (terms-known table (formOf f .terms) known) (w .inShape) (w .tests) (w .reaches) in
-            record {
-              tableGood = good;
-              inShape = record { firstForm = v .inShape; stepCount = omega (arith, length-map (take n steps) stepOf, length-take-le n steps (omega (arith, w .places, few)), few); everyStep = w .inShape; lastForm = w .form .inShape };
-              firstTested = known;
-              stepsTested = w .tests;
-              lastTested = known-terms table (formOf g .terms) (k .known);
-              reaches = w .reaches;
-            };
-        shortest = no-candidate-shortest table (formOf g) (w .form .inShape) (subst (λ (b : Bool). SearchedBy b table g r) e sr);
+        derives = λ good known. record {
+          tableGood = good;
+          inShape = record { firstForm = v .inShape; stepCount = omega (arith, length-map (take n steps) stepOf, length-take-le n steps (omega (arith, w .places, few)), few); everyStep = w .inShape; lastForm = w .form .inShape };
+          firstTested = known;
+          stepsTested = w .tests;
+          lastTested = known-terms table (formOf g .terms) (last-known known);
+          reaches = w .reaches;
+        };
+        shortest = λ known. no-candidate-shortest table (formOf g) (w .form .inShape) (subst (λ (b : Bool). SearchedBy b table g r) e sr (last-known known));
       }

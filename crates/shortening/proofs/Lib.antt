@@ -5,6 +5,7 @@ pub mod Openings
 pub mod Picks
 pub mod Gains
 pub mod Trials
+pub mod Scalars
 pub mod Searches
 pub mod Derivations
 pub mod WrittenLogs

@@ -19,6 +19,8 @@ use Rattle.specification.specs.Rules.{ruleLetters, isRule, stepAt}
 use Rattle.theory.specs.Elements as E
 use Rattle.theory.specs.Elements.{all-T}
 use Rattle.theory.specs.Tests.{and-split, given-same, refused≢given}
+use Rattle.theory.specs.Order.{monomial}
+use Rattle.theory.specs.Shape.Letters.{MonomialKnown, AllKnown}
 use Rattle.theory.specs.Gathering.Coefficients.{termAt}
 use Rattle.theory.specs.Rules.Steps.{step-admitted}
 use Rattle.theory.specs.Shortening.Candidates.{candidate, gain, isCandidate, NoCandidate}
@@ -42,7 +44,7 @@ use Rattle.shortening.specs.Searching.{Shorter, SearchedBy}
 -- no candidate by these indices shortens
 abbrev Nothing : (table : List ℕ) (f : S.Form) (i mask rule pick : ℕ) → Type 0
 Nothing table f i k r j =
-    (c : ℤ) (reached : S.Form) → let t = termAt (f .terms) i in i < length (f .terms) → k < 2 ^ length (t .factors) → j < 2 ^ ruleLetters r
+    (c : ℤ) (reached : S.Form) → let t = termAt (f .terms) i in i < length (f .terms) → k < 2 ^ length (t .factors) → j < 2 ^ ruleLetters r → MonomialKnown table (monomial t)
     → T (isCandidate t k r j) → c *ℤ gain t k r j ≡ negℤ (t .coef) → stepAt table f (candidate t k r j c) ≡ given reached
     → length (f .terms) ≤ length (reached .terms)
 
@@ -75,12 +77,12 @@ row-more table f at i r e w n u x h = go (ltb x at) refl
         let from : at % 40960 ≤ x % 40960 = omega (arith, ltb-false x at q, n .inside) in
         let before : x % 40960 < r .next = omega (arith, ltb-false x at q, n .inside) in
         subst (λ (k : ℕ). NothingAt table f k (x % 40960)) (sym same)
-        (λ c g inside hk hj can ex s. ⊎-elim (λ hope. hope hk hj table f c g refl can ex s) (λ v. u (v .0) g (ap (stepAt table f) (sym (v .1 c can ex)) ∙ s)) (n .all (x % 40960) from before))
+        (λ c g inside hk hj known can ex s. ⊎-elim (λ hope. hope hk hj table f c g refl known can ex s) (λ v. u (v .0) g (ap (stepAt table f) (sym (v .1 c can ex)) ∙ s)) (n .all (x % 40960) from before))
 
 -- the whole row
-pub row-all : (table : List ℕ) (f : S.Form) (at : ℕ) → ((i : ℕ) → i < length (f .terms) → length (termAt (f .terms) i .factors) ≤ 7) → length (f .terms) * 40960 ≤ at → RowPassed table f at → NoCandidate table f
+pub row-all : (table : List ℕ) (f : S.Form) (at : ℕ) → ((i : ℕ) → i < length (f .terms) → length (termAt (f .terms) i .factors) ≤ 7) → length (f .terms) * 40960 ≤ at → RowPassed table f at → AllKnown table (f .terms) → NoCandidate table f
 unfolding RowPassed NothingAt NoCandidate maskOf ruleOf pickOf isRule
-row-all table f at few h w i k r j c g hi hk rule hj can ex s =
+row-all table f at few h w known i k r j c g hi hk rule hj can ex s =
     let masks : 2 ^ length (termAt (f .terms) i .factors) ≤ 128 = pow-mono (few i hi) in
     let picks : 2 ^ ruleLetters r ≤ 64 = pow-mono (few-letters r) in
     let low : 1 ≤ r = leb→le 1 r (and-split (leb 1 r) (leb r 5) rule .0) in
@@ -97,7 +99,7 @@ row-all table f at few h w i k r j c g hi hk rule hj can ex s =
     let there : NothingAt table f i p = subst (λ (n : ℕ). NothingAt table f n p) term (subst (NothingAt table f (x / 40960)) place (w x behind)) in
     let here : Nothing table f i k r j =
     subst (λ (n : ℕ). Nothing table f i k r n) pick (subst (λ (n : ℕ). Nothing table f i k n (p % 64)) ruled (subst (λ (n : ℕ). Nothing table f i n (p / 64 % 5 + 1) (p % 64)) mask there)) in
-    here c g hi hk hj can ex s
+    here c g hi hk hj (E.all-at (λ (t : S.Term). MonomialKnown table (monomial t)) (f .terms) i _ known hi) can ex s
 
 -- ════ the forms of the code
 
@@ -128,7 +130,7 @@ module _ (f : Form) (v : FormValid f) (places : length (f .terms) ≡ 48) where
       (omega (arith, length-map (take (getD (f .terms) i noTerm .«factor_count») (getD (f .terms) i noTerm .factors)) lettersOf, c .few, length-take (getD (f .terms) i noTerm .«factor_count») (getD (f .terms) i noTerm .factors)))
 
   -- the row by the code's numbers
-  pub row-searched : (table : List ℕ) (at end : ℕ) → end ≡ f .count * 40960 → end ≤ at → RowPassed table (formOf f) at → NoCandidate table (formOf f)
+  pub row-searched : (table : List ℕ) (at end : ℕ) → end ≡ f .count * 40960 → end ≤ at → RowPassed table (formOf f) at → AllKnown table (formOf f .terms) → NoCandidate table (formOf f)
   row-searched table at end e h w = row-all table (formOf f) at terms-few (omega (arith, form-long, e, h)) w
 
 -- ════ trials

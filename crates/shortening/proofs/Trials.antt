@@ -86,7 +86,7 @@ module _ (t : Term) (rule : ℕ) (o : Opening) (j : ℕ) (p : Picked) (w : Picke
   pub tried-none : (s : Step) → Counted (s .m) → p .fits ≡ false → Tried t rule o j (record { found = false; step = s })
   unfolding Settled Hopeless
   tried-none s c e = record {
-    is = λ kind k opened. inl (λ hk hj table f c g q can ex h. absurd (subst T (sym (picked-there kind k opened can) ∙ e) tt));
+    is = λ kind k opened. inl (λ hk hj table f c g q known can ex h. absurd (subst T (sym (picked-there kind k opened can) ∙ e) tt));
     counted = c;
   }
 
@@ -124,7 +124,7 @@ module _ (t : Term) (rule : ℕ) (o : Opening) (j : ℕ) (p : Picked) (w : Picke
         λ n can e. ap (candidate (termOf t) k rule j) (one kind k opened x n e) ∙ step-is kind k opened (q .value) fits
             ∙ ap (λ (u : Term). stepOf (record { rule = rule; letters = p .letters; m = u })) (sym em),
       )
-      go kind k opened false x = inl (λ hk hj table f n h r can e s. absurd (none kind k opened x n e))
+      go kind k opened false x = inl (λ hk hj table f n h r known can e s. absurd (none kind k opened x n e))
 
 -- ════ one pick after the other
 
@@ -203,7 +203,7 @@ unfolding PlacesPassed
 places-none kind t from p a b = absurd (N.lt-irrefl from (omega arith))
 
 -- what holds of the places before one and of the picks of its opening holds of all up to the next
-by-opening : (P : (mask rule pick : ℕ) → Type 0) (from at q next : ℕ) → at / 64 ≡ q → next ≤ (q + 1) * 64
+pub by-opening : (P : (mask rule pick : ℕ) → Type 0) (from at q next : ℕ) → at / 64 ≡ q → next ≤ (q + 1) * 64
     → ((p : ℕ) → from ≤ p → p < at → P (maskOf p) (ruleOf p) (pickOf p)) → ((pick : ℕ) → at % 64 ≤ pick → q * 64 + pick < next → P (q / 5) (q % 5 + 1) pick)
     → (p : ℕ) → from ≤ p → p < next → P (maskOf p) (ruleOf p) (pickOf p)
 unfolding pickOf
@@ -221,7 +221,7 @@ module _ (kind : ℕ) (t : Term) (from at q : ℕ) (w : PlacesPassed kind (termO
   -- the mask and the rule leave nothing
   pub places-shut : (o : Opening) (b : Bool) → OpenedBy b kind t (q / 5) (q % 5 + 1) o → b ≡ false → PlacesPassed kind (termOf t) from ((q + 1) * 64)
   unfolding PlacesPassed OpenedBy Shut Hopeless
-  places-shut o b v e = by-opening (Hopeless kind (termOf t)) from at q ((q + 1) * 64) eq (omega arith) w (λ pick a i hk hj table f c g x can ex h. absurd (shut table f pick c g x can h))
+  places-shut o b v e = by-opening (Hopeless kind (termOf t)) from at q ((q + 1) * 64) eq (omega arith) w (λ pick a i hk hj table f c g x known can ex h. absurd (shut table f pick c g x can h))
     where
       shut : Shut kind (termOf t) (q / 5) (q % 5 + 1)
       shut = subst (λ (b : Bool). OpenedBy b kind t (q / 5) (q % 5 + 1) o) e v

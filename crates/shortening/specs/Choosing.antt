@@ -1,5 +1,5 @@
 -- Numbers taken by a mask, the letters that M leaves to a rule, and the letters of a rule by a mask over them. Assumes nothing.
-use mathlib.Core.Bool.{Bool, true, false, _&&_}
+use mathlib.Core.Bool.{Bool, true, false, not, _&&_}
 use mathlib.Core.Path.{_≡_}
 use mathlib.Core.List.{List, [], _∷_, _++_}
 use Prim.Native.Nat.{ℕ, _≤_, _<_}
@@ -7,7 +7,7 @@ use lib.Dec.{T, eqb, leb, ltb}
 use lib.IntN.{ℤ, pos}
 use lib.ListN.{length, take}
 use Rattle.specification.specs.Results.{given, if_then_else_}
-use Rattle.specification.specs.Lists.{joined, ascend, order, sorted}
+use Rattle.specification.specs.Lists.{joined, all, ascend, order, sorted}
 use Rattle.specification.specs.Letters.{vector}
 use Rattle.specification.specs.Terms.{withCoef, termInShape}
 use Rattle.specification.specs.Terms as S
@@ -29,6 +29,15 @@ pub record MaskTaken (l : List ℕ) (mask : ℕ) (to : List ℕ) (r : ℕ) : Typ
   pub is : take r to ≡ taken mask l
   pub few : r ≤ length l
   pub places : length to ≡ 7
+
+-- a factor of vectors
+unfoldable pub isVectors : List ℕ → Bool
+isVectors f = not (eqb (length f) 1)
+
+-- how many letters a mask leaves, where they are vectors
+pub record LeftBy (fs : List (List ℕ)) (mask r : ℕ) : Type 0 where
+  pub is : all isVectors (leftOver mask fs) ≡ true → r ≡ length (joined (leftOver mask fs))
+  pub few : r ≤ 64
 
 -- ════ the pool
 

@@ -18,4 +18,4 @@ pub record Derived (table : List ℕ) (f : Form) (r : Derivation) : Type 0 where
   pub valid : DerivationValid r
   pub saves : r .count + r .last .count ≤ f .count
   pub derives : T (goodTable table) → testTerms table (formOf f .terms) ≡ given tt → Derives table (formOf f) (stepsOf r) (formOf (r .last))
-  pub shortest : Shortest table (formOf (r .last))
+  pub shortest : testTerms table (formOf f .terms) ≡ given tt → Shortest table (formOf (r .last))

@@ -7,6 +7,7 @@ use lib.ListN.{length}
 use Rattle.specification.specs.Results.{given}
 use Rattle.specification.specs.Rules.{stepAt}
 use Rattle.specification.specs.Shortening.{Shortest}
+use Rattle.theory.specs.Shape.Letters.{AllKnown}
 use Rattle.theory.specs.Shortening.Candidates.{NoCandidate}
 use Rattle.terms.specs.declared.types.Form.{Form}
 use Rattle.terms.specs.Abstraction.{formOf}
@@ -21,7 +22,7 @@ pub record Shorter (table : List ℕ) (f : Form) (r : Found) : Type 0 where
   pub form : FormValid (r .form)
   pub step : StepValid (r .step)
 
--- such a step, or there is none
+-- such a step, or, where the letters are in the table, there is none
 unfoldable pub SearchedBy : (found : Bool) (table : List ℕ) (f : Form) (r : Found) → Type 0
 SearchedBy true table f r = Shorter table f r
-SearchedBy false table f r = NoCandidate table (formOf f)
+SearchedBy false table f r = AllKnown table (formOf f .terms) → NoCandidate table (formOf f)

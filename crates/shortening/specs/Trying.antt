@@ -10,6 +10,8 @@ use lib.ListN.{length}
 use Rattle.specification.specs.Results.{given}
 use Rattle.specification.specs.Terms as S
 use Rattle.specification.specs.Rules.{ruleLetters, stepAt}
+use Rattle.theory.specs.Order.{monomial}
+use Rattle.theory.specs.Shape.Letters.{MonomialKnown}
 use Rattle.theory.specs.Shortening.Candidates.{candidate, gain, isCandidate}
 use Rattle.terms.specs.declared.types.Term.{Term}
 use Rattle.terms.specs.Abstraction.{termOf, Counted}
@@ -22,12 +24,12 @@ use Rattle.shortening.specs.Choosing.{Opened}
 
 -- ════ one candidate
 
--- at every form of the kind, the candidate whose M takes the term away exactly is no admissible step to fewer terms
+-- at every form of the kind, with the term's letters in the table, the candidate whose M takes the term away exactly is no admissible step to fewer terms
 unfoldable pub Hopeless : (kind : ℕ) (t : S.Term) (mask rule pick : ℕ) → Type 0
 Hopeless kind t k r j =
     k < 2 ^ length (t .factors) → j < 2 ^ ruleLetters r
     → (table : List ℕ) (f : S.Form) (c : ℤ) (reached : S.Form)
-    → f .kind ≡ kind → T (isCandidate t k r j) → c *ℤ gain t k r j ≡ negℤ (t .coef) → stepAt table f (candidate t k r j c) ≡ given reached
+    → f .kind ≡ kind → MonomialKnown table (monomial t) → T (isCandidate t k r j) → c *ℤ gain t k r j ≡ negℤ (t .coef) → stepAt table f (candidate t k r j c) ≡ given reached
     → length (f .terms) ≤ length (reached .terms)
 
 -- the candidate is this step and no other

@@ -13,7 +13,8 @@ ghost use Rattle.theory.specs.Shortening.Masks.{taken, leftOver};
 ghost use Rattle.theory.specs.Shortening.Candidates.{blockSize, inRuleOrder};
 ghost use Rattle.terms.specs.Numbers.{lettersOf};
 ghost use Rattle.terms.specs.Abstraction.{partOf, termOf, Counted};
-ghost use Rattle.shortening.specs.Choosing.{MaskTaken, Pooled, Adds, lettersLeft, MultiplierOf, PassesBy, OpenedBy, RuleOrdered, PickedBy};
+ghost use Rattle.shortening.specs.Choosing.{MaskTaken, LeftBy, Pooled, Adds, lettersLeft, MultiplierOf, PassesBy, OpenedBy, RuleOrdered, PickedBy};
+use records::write::letter_count;
 use records::write::low;
 use rules::steps::Step;
 use rules::steps::rule_kind;
@@ -69,6 +70,29 @@ fn take_by_mask(from: &[u32; 7], n: u8, mask: usize, to: &mut [u32; 7]) -> u8
             let k = c as usize;
             to[k] = from[i];
             c += 1;
+        }
+        b = b / 2;
+        i += 1;
+    }
+    c
+}
+
+// How many letters a mask leaves of n factors; 64, more than any rule takes, where a scalar letter is among them, since a rule takes vectors alone.
+pub fn letters_left(f: &[u32; 7], n: u8, mask: usize) -> usize
+    requires { ⌜ (n ≤ 7) × (length (now f) ≡ 7) ⌝ }
+    ensures { λ r. ⌜ LeftBy (map lettersOf (take n (now (f .entry)))) mask r ⌝ }
+{
+    let m = n as usize;
+    let mut b = mask;
+    let mut c: usize = 0;
+    let mut i: usize = 0;
+    while i < m {
+        if b % 2 == 0 {
+            let l = letter_count(f[i]);
+            if l == 1 {
+                return 64;
+            }
+            c += l;
         }
         b = b / 2;
         i += 1;

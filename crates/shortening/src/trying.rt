@@ -1,17 +1,21 @@
 // Candidates for a step to fewer terms, one after the other: each takes one standing term away exactly.
 ghost use mathlib.Core.Path.{_≡_};
 ghost use Prim.Native.Nat.{_^_, _<_};
-ghost use lib.Dec.{T};
+ghost use mathlib.Core.List.{[]};
+ghost use lib.Dec.{T, eqb};
 ghost use lib.ListN.{length};
+ghost use Rattle.specification.specs.Results.{if_then_else_};
+ghost use Rattle.specification.specs.Letters.{vector};
 ghost use Rattle.specification.specs.Terms.{gather};
-ghost use Rattle.specification.specs.Rules.{isRule, ruleLetters, stepTerms};
+ghost use Rattle.specification.specs.Rules.{isRule, ruleLetters, ruleKind, stepTerms};
 ghost use Rattle.theory.specs.Order.{monomial};
 ghost use Rattle.theory.specs.Gathering.Coefficients.{coeff};
-ghost use Rattle.terms.specs.Abstraction.{termOf, Counted};
+ghost use Rattle.terms.specs.Abstraction.{partOf, termOf, Counted};
 ghost use Rattle.terms.specs.Valid.{TermValid};
 ghost use Rattle.rules.specs.Steps.{stepOf, StepValid, StepFits};
 ghost use Rattle.shortening.specs.Trying.{SomeOpened, Tried, NextPick, NextPlace};
 use crate::choosing::Opening;
+use crate::choosing::letters_left;
 use crate::choosing::mask_count;
 use crate::choosing::open;
 use crate::choosing::pick;
@@ -20,8 +24,10 @@ use integers::add;
 use integers::divide;
 use integers::neg;
 use rules::steps::Step;
+use rules::steps::rule_kind;
 use rules::steps::rule_letters;
 use rules::steps::step_terms;
+use terms::shape::part_letters;
 use terms::tidy::tidy;
 use terms::types::Part;
 use terms::types::Term;
@@ -153,25 +159,46 @@ fn next_pick(t: Term, rule: u8, o: Opening, from: usize) -> Next
     }
 }
 
+// How many letters of a vector part a rule takes.
+fn rule_part(rule: u8, p: Part) -> usize
+    ensures { λ r. ⌜ r ≡ length (if eqb (ruleKind rule) vector then partOf p else []) ⌝ }
+{
+    if rule_kind(rule) == 1 {
+        return part_letters(p);
+    }
+    0
+}
+
 // The next candidate of a term that is worth a trial.
 pub fn next_candidate(kind: u8, t: Term, from: usize) -> Next
     requires { ⌜ TermValid t × (from < 40960) ⌝ }
     ensures { λ r. ⌜ NextPlace kind (termOf t) from r ⌝ }
 {
     let end = 320 * mask_count(t.factor_count);
+    let p = t.part;
     let mut at = from;
     while at < end {
         let q = at / 64;
         let k = q / 5;
         let rule = (q % 5 + 1) as u8;
+        let left = letters_left(&t.factors, t.factor_count, k);
+        if left > 6 {
+            at = (k + 1) * 320;
+            continue;
+        }
+        if left + rule_part(rule, p) != rule_letters(rule) {
+            at = (q + 1) * 64;
+            continue;
+        }
         let o = open(kind, t, k, rule);
         if o.fits {
             let r = next_pick(t, rule, o, at % 64);
             if r.found {
                 let s = r.step;
+                let next = q * 64 + r.next;
                 return Next {
                     found: true,
-                    next: q * 64 + r.next,
+                    next: next,
                     step: s,
                 };
             }

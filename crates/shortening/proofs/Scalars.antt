@@ -1,0 +1,223 @@
+-- A mask that leaves a scalar letter to the rule: no step by it is admissible, since a rule's letters are vectors. Assumes nothing.
+use mathlib.Core.Path.{_≡_, refl, sym, ap, subst, _∙_}
+use mathlib.Core.Bool.{Bool, true, false, not, _&&_}
+use mathlib.Core.List.{List, [], _∷_, _++_, map}
+use Prim.Native.Nat.{ℕ, zero, suc, _+_, _-_, _*_, _/_, _%_, _<_, _≤_}
+use native.Mathlib.Nat as N
+use native.Mathlib.Omega.{arith}
+use borrow.Author.Tests.{lt-ltb, le-ltb, ltb-true, ltb-false, eqb-true, eq-eqb, ne-eqb}
+use lib.Dec.{T, eqb, ltb, eqb→eq}
+use lib.IntN.{ℤ}
+use lib.ListN.{length, length-append, getD, take, drop}
+use Rattle.specification.specs.Results.{given, if_then_else_}
+use Rattle.specification.specs.Lists.{joined, all, ascend, order, sorted}
+use Rattle.specification.specs.Letters.{scalar, vector, testLetters}
+use Rattle.specification.specs.Terms as S
+use Rattle.specification.specs.Records.{testTerm}
+use Rattle.specification.specs.Rules.{isRule, ruleLetters, ruleKind, testStepLetters}
+use Rattle.theory.specs.Elements.{All, all-append, all-split}
+use Rattle.theory.specs.Tests.{and-split, tested}
+use Rattle.theory.specs.Order.{monomial}
+use Rattle.theory.specs.Sorting as O
+use Rattle.theory.specs.Reordering.{reordered-back, reordered-all, reordered-sorted}
+use Rattle.theory.specs.Shape.Letters.{Known, known-is, letters-known, FactorKnown, MonomialKnown}
+use Rattle.theory.specs.Rules.Table.{by-rule}
+use Rattle.theory.specs.Rules.Steps.{step-admitted}
+use Rattle.theory.specs.Shortening.Masks.{taken, leftOver}
+use Rattle.theory.specs.Shortening.Candidates.{blockSize, inRuleOrder, blockIsFirst, pool, candidate, isCandidate}
+use Rattle.terms.specs.declared.types.Part.{Part}
+use Rattle.terms.specs.Numbers.{lettersOf}
+use Rattle.terms.specs.Abstraction.{partOf}
+use Rattle.terms.proofs.Arrays.{rest-at, nothing-left}
+use Rattle.terms.proofs.InShape.{part-few}
+use Rattle.rules.proofs.Taking.{few-letters}
+use Rattle.shortening.specs.Choosing.{isVectors, LeftBy, lettersLeft}
+use Rattle.shortening.specs.Trying.{Hopeless, maskOf, ruleOf, pickOf}
+use Rattle.shortening.proofs.Masks.{taken-left-long}
+use Rattle.shortening.proofs.Trials.{PlacesPassed, place-rule, by-opening}
+
+-- ════ one factor after the other
+
+-- a factor has at most three letters
+pub letters-few : (k : ℕ) → length (lettersOf k) ≤ 3
+unfolding lettersOf
+letters-few k = go (ltb k 256) (ltb k 65792)
+  where
+    go : (a b : Bool) → length (if a then k ∷ [] else if b then (k - 256) / 256 ∷ (k - 256) % 256 ∷ [] else (k - 65792) / 65536 ∷ (k - 65792) / 256 % 256 ∷ (k - 65792) % 256 ∷ []) ≤ 3
+    go true b = omega arith
+    go false true = omega arith
+    go false false = omega arith
+
+-- the letters counted so far, before those from a place on
+pub record Counting (fs rest : List (List ℕ)) (mask b c : ℕ) : Type 0 where
+  pub is : all isVectors (leftOver mask fs) ≡ all isVectors (leftOver b rest)
+  pub counted : length (joined (leftOver mask fs)) ≡ c + length (joined (leftOver b rest))
+
+pub counting-as : {fs rest : List (List ℕ)} {mask b c c′ : ℕ} → c ≡ c′ → Counting fs rest mask b c′ → Counting fs rest mask b c
+counting-as {fs} {rest} {mask} {b} {c} {c′} e w = subst (λ (n : ℕ). Counting fs rest mask b n) (sym e) w
+
+module _ (f : List ℕ) (n mask : ℕ) (h : n ≤ length f) where
+  abbrev from : ℕ → List (List ℕ)
+  from i = map lettersOf (drop i (take n f))
+
+  pub counting-none : Counting (from 0) (from 0) mask mask 0
+  counting-none = record { is = refl; counted = omega arith }
+
+  module _ (b c i : ℕ) (g : i < n) (w : Counting (from 0) (from i) mask b c) where
+    next : from i ≡ lettersOf (getD f i 0) ∷ from (i + 1)
+    next = ap (map lettersOf) (rest-at f n i 0 h g)
+
+    -- a letter alone is left
+    pub scalar-stays : b % 2 ≡ 0 → length (lettersOf (getD f i 0)) ≡ 1 → LeftBy (from 0) mask 64
+    unfolding leftOver all isVectors
+    scalar-stays e s =
+        let fails : all isVectors (leftOver b (from i)) ≡ false = rw (next, e, eq-eqb (length (lettersOf (getD f i 0))) 1 s) in
+        record { is = λ v. absurd (subst T (sym v ∙ w .is ∙ fails) tt); few = omega arith }
+
+    -- a factor of vectors is left
+    pub vectors-stay : b % 2 ≡ 0 → (l : ℕ) → l ≡ length (lettersOf (getD f i 0)) → (l ≡ 1 → ⊥) → Counting (from 0) (from (i + 1)) mask (b / 2) (c + l)
+    unfolding leftOver all isVectors joined
+    vectors-stay e l el s =
+        let rest = joined (leftOver (b / 2) (from (i + 1))) in
+        let here : length (joined (leftOver b (from i))) ≡ length (lettersOf (getD f i 0)) + length rest = rw (next, e) (length-append (lettersOf (getD f i 0)) rest) in
+        record {
+          is = w .is ∙ rw (next, e, ne-eqb (length (lettersOf (getD f i 0))) 1 (λ q. s (el ∙ q)));
+          counted = omega (arith, w .counted, here, el);
+        }
+
+    -- a factor goes to M
+    pub factor-goes : (b % 2 ≡ 0 → ⊥) → Counting (from 0) (from (i + 1)) mask (b / 2) c
+    unfolding leftOver all joined
+    factor-goes e = let one : b % 2 ≡ 1 = omega (arith, e) in record { is = w .is ∙ rw (next, one); counted = w .counted ∙ rw (next, one) }
+
+  pub counting-all : (b c i : ℕ) → n ≤ i → c ≤ 64 → Counting (from 0) (from i) mask b c → LeftBy (from 0) mask c
+  unfolding leftOver joined
+  counting-all b c i g few w = record { is = λ v. sym (w .counted ∙ rw (ap (map lettersOf) (nothing-left f n i h g)) (omega arith)); few = few }
+
+-- ════ no step by such a mask
+
+-- the letters in the order of the rule are all its letters
+order-all : (P : ℕ → Type 0) (r : ℕ) → T (isRule r) → (w : List ℕ) → length w ≡ ruleLetters r → All P (inRuleOrder r w) → All P w
+unfolding inRuleOrder ruleLetters
+order-all P = by-rule (λ (r : ℕ). (w : List ℕ) → length w ≡ ruleLetters r → All P (inRuleOrder r w) → All P w) (λ w e h. h) (λ w e h. h) five (λ w e h. h) (λ w e h. h)
+  where
+    five : (w : List ℕ) → length w ≡ 5 → All P (getD w 0 0 ∷ getD w 1 0 ∷ getD w 2 0 ∷ getD w 4 0 ∷ getD w 3 0 ∷ []) → All P w
+    five (a ∷ b ∷ c ∷ d ∷ g ∷ []) e h = (h .0, (h .1 .0, (h .1 .1 .0, (h .1 .1 .1 .1 .0, (h .1 .1 .1 .0, tt)))))
+    five (a ∷ b ∷ c ∷ d ∷ g ∷ x ∷ w) e h = absurd (omega arith)
+    five [] e h = absurd (omega arith)
+    five (a ∷ []) e h = absurd (omega arith)
+    five (a ∷ b ∷ []) e h = absurd (omega arith)
+    five (a ∷ b ∷ c ∷ []) e h = absurd (omega arith)
+    five (a ∷ b ∷ c ∷ d ∷ []) e h = absurd (omega arith)
+
+-- what a mask takes and what it leaves is all
+both-all : (P : ℕ → Type 0) (j : ℕ) (w : List ℕ) → All P (taken j w) → All P (leftOver j w) → All P w
+unfolding taken leftOver
+both-all P j [] a b = tt
+both-all P j (x ∷ w) a b = go (eqb (j % 2) 1) (both-all P (j / 2) w) a b
+  where
+    go : (q : Bool) → (All P (taken (j / 2) w) → All P (leftOver (j / 2) w) → All P w)
+        → All P (if q then x ∷ taken (j / 2) w else taken (j / 2) w) → All P (if q then leftOver (j / 2) w else x ∷ leftOver (j / 2) w) → P x × All P w
+    go true f a b = (a .0, f (a .1) b)
+    go false f a b = (b .0, f a (b .1))
+
+left-all : (P : List ℕ → Type 0) (k : ℕ) (l : List (List ℕ)) → All P l → All P (leftOver k l)
+unfolding leftOver
+left-all P k [] a = tt
+left-all P k (x ∷ l) a = go (eqb (k % 2) 1) (left-all P (k / 2) l (a .1))
+  where
+    go : (q : Bool) → All P (leftOver (k / 2) l) → All P (if q then leftOver (k / 2) l else x ∷ leftOver (k / 2) l)
+    go true w = w
+    go false w = (a .0, w)
+
+-- letters that are vectors, in factors whose letters are known, are those of vectors
+known-vectors : (table : List ℕ) (fs : List (List ℕ)) → All (FactorKnown table) fs → All (Known table vector) (joined fs) → all isVectors fs ≡ true
+unfolding all joined isVectors
+known-vectors table [] a b = refl
+known-vectors table (f ∷ fs) a b =
+    let s = all-split (Known table vector) f (joined fs) b in
+    go f (a .0) (s .0) (known-vectors table fs (a .1) (s .1))
+  where
+    go : (f : List ℕ) → FactorKnown table f → All (Known table vector) f → all isVectors fs ≡ true → (not (eqb (length f) 1) && all isVectors fs) ≡ true
+    go [] h k e = e
+    go (x ∷ []) h k e = absurd (unlike (sym (known-is table scalar x (h .0) .1) ∙ known-is table vector x (k .0) .1))
+      where
+        unlike : scalar ≡ vector → ⊥
+        unlike z = omega arith
+    go (x ∷ y ∷ f) h k e = rw (ne-eqb (suc (suc (length f))) 1 (λ z. absurd (N.lt-irrefl 0 (omega arith)))) e
+
+-- a candidate has the rule's letters
+pub letters-long : (t : S.Term) (k r j : ℕ) → T (isCandidate t k r j) → length (pool t k r) ≡ ruleLetters r
+unfolding isCandidate
+letters-long t k r j h =
+    let l : List ℕ = pool t k r in
+    let a = and-split (eqb (length l) (ruleLetters r) && eqb (length (taken j l)) (blockSize r) && ascend ltb (taken j l) && ascend ltb (leftOver j l)) (blockIsFirst r (taken j l) (leftOver j l)) h in
+    let b = and-split (eqb (length l) (ruleLetters r) && eqb (length (taken j l)) (blockSize r) && ascend ltb (taken j l)) (ascend ltb (leftOver j l)) (a .0) in
+    let d = and-split (eqb (length l) (ruleLetters r) && eqb (length (taken j l)) (blockSize r)) (ascend ltb (taken j l)) (b .0) in
+    eqb→eq (length l) (ruleLetters r) (and-split (eqb (length l) (ruleLetters r)) (eqb (length (taken j l)) (blockSize r)) (d .0) .0)
+
+module _ (t : S.Term) (k : ℕ) (scalars : all isVectors (leftOver k (t .factors)) ≡ false) where
+  -- nothing to hope for
+  pub scalars-hopeless : (kind r j : ℕ) → T (isRule r) → Hopeless kind t k r j
+  unfolding Hopeless pool candidate testStepLetters
+  scalars-hopeless kind r j rule hk hj table f c g e known can ex h =
+      let l : List ℕ = pool t k r in
+      let a = step-admitted table f (candidate t k r j c) g h in
+      let ls : All (Known table vector) (inRuleOrder r (taken j l ++ leftOver j l)) = letters-known table vector (inRuleOrder r (taken j l ++ leftOver j l)) (tested (testLetters table vector (inRuleOrder r (taken j l ++ leftOver j l))) (testTerm table (candidate t k r j c .m)) tt (a .known) .0) in
+      let long : length (taken j l ++ leftOver j l) ≡ ruleLetters r = length-append (taken j l) (leftOver j l) ∙ taken-left-long j l ∙ letters-long t k r j can in
+      let split = all-split (Known table vector) (taken j l) (leftOver j l) (order-all (Known table vector) r rule (taken j l ++ leftOver j l) long ls) in
+      let inPool : All (Known table vector) l = both-all (Known table vector) j l (split .0) (split .1) in
+      let left : All (Known table vector) (joined (leftOver k (t .factors)) ++ (if eqb (ruleKind r) vector then t .part else [])) =
+      reordered-all (Known table vector) (reordered-back (reordered-sorted order (joined (leftOver k (t .factors)) ++ (if eqb (ruleKind r) vector then t .part else [])))) inPool in
+      absurd (subst T (sym (known-vectors table (leftOver k (t .factors)) (left-all (FactorKnown table) k (t .factors) (known .factors))
+      (all-split (Known table vector) (joined (leftOver k (t .factors))) (if eqb (ruleKind r) vector then t .part else []) left .0)) ∙ scalars) tt)
+
+-- ════ a mask that leaves too many letters, or too few
+
+module _ (t : S.Term) (k : ℕ) where
+  -- other than the rule's letters
+  count-hopeless : (kind r j : ℕ) → (length (lettersLeft t k r) ≡ ruleLetters r → ⊥) → Hopeless kind t k r j
+  unfolding Hopeless pool lettersLeft
+  count-hopeless kind r j h hk hj table f c g e known can ex s = absurd (h (sym (O.length-sorted order (lettersLeft t k r)) ∙ letters-long t k r j can))
+
+  -- by the count
+  pub left-hopeless : (kind r j n : ℕ) → T (isRule r) → LeftBy (t .factors) k n → (n + length (if eqb (ruleKind r) vector then t .part else []) ≡ ruleLetters r → ⊥) → Hopeless kind t k r j
+  unfolding lettersLeft
+  left-hopeless kind r j n rule w h = go (all isVectors (leftOver k (t .factors))) refl
+    where
+      go : (b : Bool) → all isVectors (leftOver k (t .factors)) ≡ b → Hopeless kind t k r j
+      go false e = scalars-hopeless t k e kind r j rule
+      go true e = count-hopeless kind r j (λ q. h (ap (λ (m : ℕ). m + length (if eqb (ruleKind r) vector then t .part else [])) (w .is e) ∙ sym (length-append (joined (leftOver k (t .factors))) (if eqb (ruleKind r) vector then t .part else [])) ∙ q))
+
+-- ════ the places of such a mask
+
+-- a place has a rule
+rule-there : (p : ℕ) → T (isRule (ruleOf p))
+unfolding ruleOf
+rule-there p = place-rule (p / 64)
+
+module _ (kind : ℕ) (t : S.Term) (from at : ℕ) (w : PlacesPassed kind t from at) (n : ℕ) where
+  -- more than any rule takes: all places of the mask are passed
+  pub mask-skipped : (k : ℕ) → at / 64 / 5 ≡ k → LeftBy (t .factors) k n → 6 < n → PlacesPassed kind t from ((k + 1) * 320)
+  unfolding PlacesPassed maskOf
+  mask-skipped k e v h p a b = go (ltb p at) refl
+    where
+      go : (x : Bool) → ltb p at ≡ x → Hopeless kind t (p / 320) (ruleOf p) (pickOf p)
+      go true y = w p a (ltb-true p at y)
+      go false y =
+          let same : k ≡ p / 320 = omega (arith, ltb-false p at y) in
+          subst (λ (m : ℕ). Hopeless kind t m (ruleOf p) (pickOf p)) same
+          (left-hopeless t k kind (ruleOf p) (pickOf p) n (rule-there p) v (λ q. N.lt-irrefl 6 (omega (arith, q, h, few-letters (ruleOf p)))))
+
+  -- other than this rule takes: all its places are passed
+  pub rule-skipped : (q : ℕ) → at / 64 ≡ q → LeftBy (t .factors) (q / 5) n → (n + length (if eqb (ruleKind (q % 5 + 1)) vector then t .part else []) ≡ ruleLetters (q % 5 + 1) → ⊥) → PlacesPassed kind t from ((q + 1) * 64)
+  unfolding PlacesPassed
+  rule-skipped q e v h = by-opening (Hopeless kind t) from at q ((q + 1) * 64) e (omega arith) w (λ pick a i. left-hopeless t (q / 5) kind (q % 5 + 1) pick n (place-rule q) v h)
+
+-- a rule takes no more than two letters of a vector part
+pub part-short : (p : Part) (kind : ℕ) → length (if eqb kind vector then partOf p else []) ≤ 2
+part-short p kind = go (eqb kind vector)
+  where
+    go : (b : Bool) → length (if b then partOf p else []) ≤ 2
+    go true = part-few p
+    go false = omega arith
