@@ -65,14 +65,23 @@ pub rounds-none : (table : List ℕ) (f : Form) (steps : List Step) → FormVali
 unfolding takeSteps testSteps
 rounds-none table f steps v e = record { places = e; valid = tt; form = v; saves = omega arith; reaches = refl; tests = refl; inShape = tt }
 
-module _ (table : List ℕ) (f : Form) (v : FormValid f) (steps : List Step) (n : ℕ) (g : Form) (w : Rounds table f steps n g) (r : Found) (b : Bool) (sr : SearchedBy b table g r) where
+-- a step that was found is one, wherever the search began
+pub found-anywhere : (table : List ℕ) (g : Form) (first : ℕ) (r : Found) (b : Bool) → SearchedBy b first table g r → b ≡ true → SearchedBy b 0 table g r
+unfolding SearchedBy
+found-anywhere table g first r true w e = w
+found-anywhere table g first r false w e = absurd (subst T (sym e) tt)
+
+module _ (table : List ℕ) (f : Form) (v : FormValid f) (steps : List Step) (n : ℕ) (g : Form) (w : Rounds table f steps n g) (r : Found) (b : Bool) (sr : SearchedBy b 0 table g r) where
   module _ (e : b ≡ true) where
     shorter : Shorter table g r
     unfolding SearchedBy
-    shorter = subst (λ (b : Bool). SearchedBy b table g r) e sr
+    shorter = subst (λ (b : Bool). SearchedBy b 0 table g r) e sr
 
     pub round-room : n < 48
     round-room = omega (arith, w .saves, shorter .fewer, v .few)
+
+    pub round-term : r .term ≤ 48
+    round-term = shorter .term
 
     pub round-fewer : r .form .count < g .count
     round-fewer = shorter .fewer
@@ -114,5 +123,5 @@ module _ (table : List ℕ) (f : Form) (v : FormValid f) (steps : List Step) (n 
           lastTested = known-terms table (formOf g .terms) (last-known known);
           reaches = w .reaches;
         };
-        shortest = λ known. no-candidate-shortest table (formOf g) (w .form .inShape) (subst (λ (b : Bool). SearchedBy b table g r) e sr (last-known known));
+        shortest = λ known. no-candidate-shortest table (formOf g) (w .form .inShape) (subst (λ (b : Bool). SearchedBy b 0 table g r) e sr refl (last-known known));
       }

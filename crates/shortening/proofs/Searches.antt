@@ -53,25 +53,25 @@ unfoldable pub NothingAt : (table : List ℕ) (f : S.Form) (i p : ℕ) → Type 
 NothingAt table f i p = Nothing table f i (maskOf p) (ruleOf p) (pickOf p)
 
 -- all places of the row before one
-unfoldable pub RowPassed : (table : List ℕ) (f : S.Form) (at : ℕ) → Type 0
-RowPassed table f at = (x : ℕ) → x < at → NothingAt table f (x / 40960) (x % 40960)
+unfoldable pub RowPassed : (table : List ℕ) (f : S.Form) (first at : ℕ) → Type 0
+RowPassed table f first at = (x : ℕ) → first * 40960 ≤ x → x < at → NothingAt table f (x / 40960) (x % 40960)
 
 -- a step that does not shorten
 unfoldable pub Useless : (table : List ℕ) (f : S.Form) (found : Bool) (s : Step) → Type 0
 Useless table f found s = found ≡ true → (reached : S.Form) → stepAt table f (stepOf s) ≡ given reached → length (f .terms) ≤ length (reached .terms)
 
-pub row-none : (table : List ℕ) (f : S.Form) → RowPassed table f 0
+pub row-none : (table : List ℕ) (f : S.Form) (first : ℕ) → RowPassed table f first (first * 40960)
 unfolding RowPassed
-row-none table f x h = absurd (N.lt-irrefl 0 (omega arith))
+row-none table f first x a h = absurd (N.lt-irrefl x (omega arith))
 
 -- up to the next
-pub row-more : (table : List ℕ) (f : S.Form) (at i : ℕ) (r : Next) → at / 40960 ≡ i → RowPassed table f at → NextPlace (f .kind) (termAt (f .terms) i) (at % 40960) r → Useless table f (r .found) (r .step)
-    → RowPassed table f (i * 40960 + r .next)
+pub row-more : (table : List ℕ) (f : S.Form) (first at i : ℕ) (r : Next) → at / 40960 ≡ i → RowPassed table f first at → NextPlace (f .kind) (termAt (f .terms) i) (at % 40960) r → Useless table f (r .found) (r .step)
+    → RowPassed table f first (i * 40960 + r .next)
 unfolding RowPassed NothingAt Settled Hopeless OnlyStep Useless
-row-more table f at i r e w n u x h = go (ltb x at) refl
+row-more table f first at i r e w n u x b h = go (ltb x at) refl
   where
     go : (b : Bool) → ltb x at ≡ b → NothingAt table f (x / 40960) (x % 40960)
-    go true q = w x (ltb-true x at q)
+    go true q = w x b (ltb-true x at q)
     go false q =
         let same : x / 40960 ≡ i = omega (arith, ltb-false x at q, n .inside) in
         let from : at % 40960 ≤ x % 40960 = omega (arith, ltb-false x at q, n .inside) in
@@ -80,7 +80,7 @@ row-more table f at i r e w n u x h = go (ltb x at) refl
         (λ c g inside hk hj known can ex s. ⊎-elim (λ hope. hope hk hj table f c g refl known can ex s) (λ v. u (v .0) g (ap (stepAt table f) (sym (v .1 c can ex)) ∙ s)) (n .all (x % 40960) from before))
 
 -- the whole row
-pub row-all : (table : List ℕ) (f : S.Form) (at : ℕ) → ((i : ℕ) → i < length (f .terms) → length (termAt (f .terms) i .factors) ≤ 7) → length (f .terms) * 40960 ≤ at → RowPassed table f at → AllKnown table (f .terms) → NoCandidate table f
+pub row-all : (table : List ℕ) (f : S.Form) (at : ℕ) → ((i : ℕ) → i < length (f .terms) → length (termAt (f .terms) i .factors) ≤ 7) → length (f .terms) * 40960 ≤ at → RowPassed table f 0 at → AllKnown table (f .terms) → NoCandidate table f
 unfolding RowPassed NothingAt NoCandidate maskOf ruleOf pickOf isRule
 row-all table f at few h w known i k r j c g hi hk rule hj can ex s =
     let masks : 2 ^ length (termAt (f .terms) i .factors) ≤ 128 = pow-mono (few i hi) in
@@ -96,7 +96,7 @@ row-all table f at few h w known i k r j c g hi hk rule hj can ex s =
     let term : x / 40960 ≡ i = omega (arith, inside) in
     let place : x % 40960 ≡ p = omega (arith, inside) in
     let behind : x < at = omega (arith, inside, hi, h) in
-    let there : NothingAt table f i p = subst (λ (n : ℕ). NothingAt table f n p) term (subst (NothingAt table f (x / 40960)) place (w x behind)) in
+    let there : NothingAt table f i p = subst (λ (n : ℕ). NothingAt table f n p) term (subst (NothingAt table f (x / 40960)) place (w x (omega arith) behind)) in
     let here : Nothing table f i k r j =
     subst (λ (n : ℕ). Nothing table f i k r n) pick (subst (λ (n : ℕ). Nothing table f i k n (p % 64)) ruled (subst (λ (n : ℕ). Nothing table f i n (p / 64 % 5 + 1) (p % 64)) mask there)) in
     here c g hi hk hj (E.all-at (λ (t : S.Term). MonomialKnown table (monomial t)) (f .terms) i _ known hi) can ex s
@@ -130,8 +130,8 @@ module _ (f : Form) (v : FormValid f) (places : length (f .terms) ≡ 48) where
       (omega (arith, length-map (take (getD (f .terms) i noTerm .«factor_count») (getD (f .terms) i noTerm .factors)) lettersOf, c .few, length-take (getD (f .terms) i noTerm .«factor_count») (getD (f .terms) i noTerm .factors)))
 
   -- the row by the code's numbers
-  pub row-searched : (table : List ℕ) (at end : ℕ) → end ≡ f .count * 40960 → end ≤ at → RowPassed table (formOf f) at → AllKnown table (formOf f .terms) → NoCandidate table (formOf f)
-  row-searched table at end e h w = row-all table (formOf f) at terms-few (omega (arith, form-long, e, h)) w
+  pub row-searched : (table : List ℕ) (first at end : ℕ) → end ≡ f .count * 40960 → end ≤ at → RowPassed table (formOf f) first at → first ≡ 0 → AllKnown table (formOf f .terms) → NoCandidate table (formOf f)
+  row-searched table first at end e h w z = row-all table (formOf f) at terms-few (omega (arith, form-long, e, h)) (subst (λ (n : ℕ). RowPassed table (formOf f) n at) z w)
 
 -- ════ trials
 
@@ -147,11 +147,11 @@ module _ (table : List ℕ) (f : Form) (v : FormValid f) (places : length (f .te
         let same : formOf (r .form) ≡ g = given-same (sym (worked-given _ r w h) ∙ q) in
         subst (λ (g : S.Form). length (formOf f .terms) ≤ length (g .terms)) same (omega (arith, form-long f v places, form-long (r .form) (w .valid h) room))
 
-    pub shorter : r .form .count < f .count → Counted (s .m) → Shorter table f (record { found = true; step = s; form = r .form })
+    pub shorter : r .form .count < f .count → Counted (s .m) → (i : ℕ) → i ≤ 48 → Shorter table f (record { found = true; term = i; step = s; form = r .form })
     unfolding stepOf
-    shorter k c =
+    shorter k c i few =
         let a = step-admitted table (formOf f) (stepOf s) (formOf (r .form)) (worked-given _ r w h) in
-        record { admissible = worked-given _ r w h; fewer = k; form = w .valid h; step = record { rule = a .shape .rule; m = record { counted = c; inShape = a .shape .m } } }
+        record { admissible = worked-given _ r w h; fewer = k; form = w .valid h; step = record { rule = a .shape .rule; m = record { counted = c; inShape = a .shape .m } }; term = few }
 
 -- no step found
 pub not-found : (table : List ℕ) (f : S.Form) (s : Step) (b : Bool) → b ≡ false → Useless table f b s

@@ -21,8 +21,9 @@ pub record Shorter (table : List ℕ) (f : Form) (r : Found) : Type 0 where
   pub fewer : r .form .count < f .count
   pub form : FormValid (r .form)
   pub step : StepValid (r .step)
+  pub term : r .term ≤ 48
 
--- such a step, or, where the letters are in the table, there is none
-unfoldable pub SearchedBy : (found : Bool) (table : List ℕ) (f : Form) (r : Found) → Type 0
-SearchedBy true table f r = Shorter table f r
-SearchedBy false table f r = AllKnown table (formOf f .terms) → NoCandidate table (formOf f)
+-- such a step, or, where no term was left out and the letters are in the table, there is none
+unfoldable pub SearchedBy : (found : Bool) (first : ℕ) (table : List ℕ) (f : Form) (r : Found) → Type 0
+SearchedBy true first table f r = Shorter table f r
+SearchedBy false first table f r = first ≡ 0 → AllKnown table (formOf f .terms) → NoCandidate table (formOf f)

@@ -1,4 +1,5 @@
 // The rounds: a step to fewer terms from each form reached, until there is none.
+// Each search begins where the last one found a step; that there is none is found by one over all terms.
 ghost use Rattle.terms.specs.Valid.{FormValid};
 ghost use Rattle.shortening.specs.Derived.{Derived};
 use crate::searching::search;
@@ -15,13 +16,17 @@ pub fn derive(table: &[u8], f: Form) -> Derivation
     let mut steps = [none; 48];
     let mut n: usize = 0;
     let mut g = f;
-    let mut r = search(table, f);
+    let mut r = search(table, f, 0);
     while r.found {
         let s = r.step;
+        let at = r.term;
         steps[n] = s;
         n += 1;
         g = r.form;
-        r = search(table, g);
+        r = search(table, g, at);
+        if !r.found {
+            r = search(table, g, 0);
+        }
     }
     Derivation {
         count: n,

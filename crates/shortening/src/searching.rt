@@ -1,5 +1,5 @@
 // The search for a step to fewer terms: the standing terms, and for each its candidates, until one shortens.
-ghost use Rattle.terms.specs.Abstraction.{Counted};
+ghost use Prim.Native.Nat.{_≤_};
 ghost use Rattle.terms.specs.Valid.{FormValid};
 ghost use Rattle.shortening.specs.Searching.{SearchedBy};
 use crate::trying::next_candidate;
@@ -8,22 +8,23 @@ use rules::admissible::step_at;
 use rules::steps::Step;
 use terms::types::Form;
 
-// A step to fewer terms, if there is one, and the form that it reaches.
+// A step to fewer terms, if there is one, the term that it takes away, and the form that it reaches.
 pub struct Found {
     pub found: bool,
+    pub term: usize,
     pub step: Step,
     pub form: Form,
 }
 
-// A step to fewer terms from a form. The places of all terms stand in one row, 40960 for each.
-pub fn search(table: &[u8], f: Form) -> Found
-    requires { ⌜ FormValid f ⌝ }
-    ensures { λ r. ⌜ SearchedBy (r .found) (now (table .entry)) f r ⌝ }
+// A step to fewer terms from a form, by the terms from one on. The places of all terms stand in one row, 40960 for each.
+pub fn search(table: &[u8], f: Form, first: usize) -> Found
+    requires { ⌜ FormValid f × (first ≤ 48) ⌝ }
+    ensures { λ r. ⌜ SearchedBy (r .found) first (now (table .entry)) f r ⌝ }
 {
     let n = f.count;
     let kind = f.kind;
     let end = n * 40960;
-    let mut at: usize = 0;
+    let mut at = first * 40960;
     while at < end {
         let i = at / 40960;
         let t = f.terms[i];
@@ -37,6 +38,7 @@ pub fn search(table: &[u8], f: Form) -> Found
                 if g.count < n {
                     return Found {
                         found: true,
+                        term: i,
                         step: s,
                         form: g,
                     };
@@ -47,6 +49,7 @@ pub fn search(table: &[u8], f: Form) -> Found
     let s = no_step();
     Found {
         found: false,
+        term: 0,
         step: s,
         form: f,
     }
