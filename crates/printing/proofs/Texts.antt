@@ -1,6 +1,6 @@
 -- The texts of factors, terms and forms from those of their parts. Assumes nothing.
 use mathlib.Core.Path.{_≡_, refl, ap, sym, _∙_}
-use mathlib.Core.List.{List, [], _∷_, _++_, map}
+use mathlib.Core.List.{List, [], _∷_, _++_, map, append-nil}
 use Prim.Native.Nat.{ℕ, _+_, _<_, _≤_}
 use native.Mathlib.Omega.{arith}
 use lib.Dec.{T}
@@ -25,7 +25,7 @@ use Rattle.records.proofs.Forms.{term-at}
 use Rattle.printing.specs.Printable.{Printed, TermPrinted, TermPrintable, Printable}
 use Rattle.printing.specs.Text.{printFactors, StarWritten, TextWritten}
 use Rattle.printing.proofs.Decimals.{decimal-short}
-use Rattle.printing.proofs.Pieces.{later-short}
+use Rattle.printing.proofs.Pieces.{first-short, later-short}
 use Rattle.printing.proofs.Lengths.{sizeText, starText, term-is, term-text-short, pieces-short, star-short, text-short}
 use Rattle.printing.proofs.Progress.{written-as}
 
@@ -85,6 +85,22 @@ term-printable f i d p fl h = record {
   letters = all-at (λ (t : Term). TermPrinted (termOf t)) (f .terms) (f .count) i d fl h (p .letters);
 }
 
+-- ════ a form of one term
+
+module _ (t : Term) where
+  single-is : printForm (termOf t ∷ []) ≡ printFirstSign (t .coef) ++ printTerm (termOf t)
+  unfolding printForm printTerms termOf
+  single-is = append-nil (printFirstSign (t .coef) ++ printTerm (termOf t))
+
+  -- it has at most 29 bytes
+  pub single-short : TermValid t → length (printForm (termOf t ∷ [])) ≤ 29
+  single-short v = rw single-is (simp length-append (omega (arith, first-short (t .coef), term-text-short (termOf t) (v .inShape))))
+
+  -- the sign, then the term
+  pub single-written : (l m n : List ℕ) (at k next : ℕ) → at ≤ length l → Written l m at k (printFirstSign (t .coef)) → Written m n k next (printTerm (termOf t))
+      → Written l n at next (printForm (termOf t ∷ []))
+  single-written l m n at k next h p q = written-as l n at next _ _ single-is (written-then l m n at k next _ _ h p q)
+
 -- ════ the terms of a form
 
 -- the text of the terms from one on
@@ -130,16 +146,14 @@ module _ (f : Form) (l : List ℕ) where
   empty-written e h = text-written l (set l 0 48) 1 (48 ∷ []) _ (rw e) (written-store l 0 48 h)
 
   module _ (d : Term) (fl : f .count ≤ length (f .terms)) (some : 0 < f .count) where
-    form-is : printForm (formOf f .terms) ≡ printFirstSign (getD (f .terms) 0 d .coef) ++ printTerm (termOf (getD (f .terms) 0 d)) ++ termsFrom (f .terms) (f .count) 1
-    unfolding formOf printForm termOf
-    form-is = rw (rest-at (f .terms) (f .count) 0 d fl some)
+    form-is : printForm (formOf f .terms) ≡ printForm (termOf (getD (f .terms) 0 d) ∷ []) ++ termsFrom (f .terms) (f .count) 1
+    unfolding formOf printForm printTerms termOf
+    form-is = rw (rest-at (f .terms) (f .count) 0 d fl some, append-nil)
 
     -- the first term, then the others
-    pub form-written : (m₁ m₂ m₃ : List ℕ) (p₁ p₂ p₃ : ℕ) → Written l m₁ 0 p₁ (printFirstSign (getD (f .terms) 0 d .coef)) → Written m₁ m₂ p₁ p₂ (printTerm (termOf (getD (f .terms) 0 d)))
-        → Written m₂ m₃ p₂ p₃ (termsFrom (f .terms) (f .count) 1) → TextWritten l m₃ p₃ (printForm (formOf f .terms))
-    form-written m₁ m₂ m₃ p₁ p₂ p₃ sign first others =
-        text-written l m₃ p₃ _ _ form-is
-        (written-then l m₂ m₃ 0 p₂ p₃ _ _ (omega arith) (written-then l m₁ m₂ 0 p₁ p₂ _ _ (omega arith) sign first) others)
+    pub form-written : (m₁ m₂ : List ℕ) (p₁ p₂ : ℕ) → Written l m₁ 0 p₁ (printForm (termOf (getD (f .terms) 0 d) ∷ [])) → Written m₁ m₂ p₁ p₂ (termsFrom (f .terms) (f .count) 1)
+        → TextWritten l m₂ p₂ (printForm (formOf f .terms))
+    form-written m₁ m₂ p₁ p₂ first others = text-written l m₂ p₂ _ _ form-is (written-then l m₁ m₂ 0 p₁ p₂ _ _ (omega arith) first others)
 
 -- ════ lines
 

@@ -1,6 +1,6 @@
 // The text of forms: terms joined by their signs, each a coefficient, factors and a vector part; numbers in decimal; the lines that a result prints.
 ghost use mathlib.Core.Path.{_≡_};
-ghost use mathlib.Core.List.{map};
+ghost use mathlib.Core.List.{[], _∷_, map};
 ghost use Prim.Native.Nat.{_+_, _-_, _*_, _≤_, _<_};
 ghost use lib.ListN.{length, take, drop};
 ghost use Rattle.specification.specs.Results.{refused, given};
@@ -41,7 +41,7 @@ fn print_decimal(out: &mut [u8], at: usize, n: u64) -> usize
 }
 
 // The byte of a letter.
-fn letter(n: u8) -> u8
+pub fn letter(n: u8) -> u8
     requires { ⌜ n < 24 ⌝ }
     ensures { λ r. ⌜ r ≡ printLetter n ⌝ }
 {
@@ -240,6 +240,15 @@ fn print_terms(out: &mut [u8], at: usize, f: Form) -> usize
     next
 }
 
+// The text of a form of one term.
+pub fn print_single(out: &mut [u8], at: usize, t: Term) -> usize
+    requires { ⌜ TermPrintable t × (at + 29 ≤ length (now out)) ⌝ }
+    ensures { λ r. ⌜ Written (now (out .entry)) (now (out .exit)) at r (printForm (termOf t ∷ [])) ⌝ }
+{
+    let behind = print_first_sign(out, at, t.coef);
+    print_term(out, behind, t)
+}
+
 // The text of a form.
 pub fn print_form(out: &mut [u8], f: Form) -> usize
     requires { ⌜ Printable f × (1393 ≤ length (now out)) ⌝ }
@@ -250,8 +259,7 @@ pub fn print_form(out: &mut [u8], f: Form) -> usize
         return 1;
     }
     let t = f.terms[0];
-    let from = print_first_sign(out, 0, t.coef);
-    let next = print_term(out, from, t);
+    let next = print_single(out, 0, t);
     print_terms(out, next, f)
 }
 

@@ -1,20 +1,13 @@
 -- `printing::print_form` meets its contract: 0, or the first term and then the others. Assumes nothing.
-use mathlib.Core.Path.{_≡_, sym, ap, _∙_}
+use mathlib.Core.Path.{_≡_, sym, _∙_}
 use Prim.Native.Nat.{_≤_, _<_}
 use native.Mathlib.Omega.{arith}
 use lib.ListN.{length, getD, length-map}
 use borrow.Author.Needs.{needs}
-use Rattle.specification.specs.Printing.{printFirstSign}
-use Rattle.integers.proofs.Machine.{back-is}
 use Rattle.terms.specs.declared.types.Term.{Term}
-use Rattle.terms.specs.Abstraction.{termOf}
 use Rattle.terms.proofs.Arrays.{noTerm}
-use Rattle.records.specs.Written.{Written}
 use Rattle.printing.specs.Printable.{TermPrintable}
-use Rattle.printing.proofs.Pieces.{first-short}
-use Rattle.printing.proofs.Lengths.{term-text-short}
-use Rattle.printing.proofs.Progress.{written-as}
-use Rattle.printing.proofs.Texts.{empty-written, form-written, term-printable}
+use Rattle.printing.proofs.Texts.{empty-written, single-short, form-written, term-printable}
 use Rattle.printing.proofs.print_form.Statement.{statement}
 use Rattle.printing.proofs.print_form.Tie as tie
 
@@ -37,11 +30,6 @@ first c = getD (c .args .t2 .terms) 0 noTerm
 printed : (c : tie.Else1) → TermPrintable (first (c .before .before))
 printed c = let s = c .before .before in term-printable (s .args .t2) _ noTerm (s .pre .0) (few s) (some c)
 
--- its sign is written
-signed : (c : tie.After-print-first-sign) → let s = c .before .before .before .before .before .before in
-    Written (s .args .out .now) (c .print-first-sign .last .0) 0 (c .print-first-sign .result) (printFirstSign (first s .coef))
-signed c = written-as _ _ _ _ _ _ (ap printFirstSign (sym (back-is (record { sfits = c .before .struct-told .given .0 .1 })))) (c .print-first-sign .ensures)
-
 slice-write-out : tie.Need-slice-write-out
 slice-write-out c = search needs
 
@@ -54,48 +42,31 @@ returns c = let s = c .before .before in empty-written (s .args .t2) _ (c .if1 .
 element-copy-out-t : tie.Need-element-copy-out-t
 element-copy-out-t c = search needs
 
-print-first-sign-requires : tie.Need-print-first-sign-requires
-print-first-sign-requires c κs = search needs
-
-print-term-requires : tie.Need-print-term-requires
-print-term-requires c κs =
-    let w = c .before .before .before in
-    let e = w .before .before .before .before in
-    (printed e, omega (arith, e .before .before .pre .1, (signed w) .ends, w .print-first-sign .kept .0, first-short (first (e .before .before) .coef)))
+print-single-requires : tie.Need-print-single-requires
+print-single-requires c κs =
+    let e = c .before .before in
+    (printed e, omega (arith, e .before .before .pre .1))
 
 print-terms-requires : tie.Need-print-terms-requires
 print-terms-requires c κs =
     let w = c .before .before .before in
-    let v = w .before .before .before .before in
-    let e = v .before .before .before .before in
+    let e = w .before .before .before in
     let s = e .before .before in (
       s .pre .0,
-      omega (
-        arith,
-        s .pre .1,
-        s .pre .0 .valid .few,
-        (signed v) .ends,
-        first-short (first s .coef),
-        w .print-term .ensures .ends,
-        term-text-short (termOf (first s)) (printed e .valid .inShape),
-        w .print-term .kept .0,
-        v .print-first-sign .kept .0,
-        c .before .before .before .before .before .before .before .before .before .before .before .if1 .left,
-      ),
+      omega (arith, s .pre .1, s .pre .0 .valid .few, w .print-single .ensures .ends, single-short (first s) (printed e .valid), w .print-single .kept .0),
     )
 
 same-length-2 : tie.Need-same-length-2
 same-length-2 c =
     let w = c .before .before .before .before .before .before in
-    c .before .before .print-terms .kept .0 ∙ w .print-term .kept .0 ∙ w .before .before .before .before .print-first-sign .kept .0
+    c .before .before .print-terms .kept .0 ∙ w .print-single .kept .0
 
 returns-2 : tie.Need-returns-2
 returns-2 c =
     let w = c .before .before .before .before .before .before in
-    let v = w .before .before .before .before in
-    let e = v .before .before .before .before in
+    let e = w .before .before .before in
     let s = e .before .before in
-    form-written (s .args .t2) _ noTerm (few s) (some e) _ _ _ _ _ _ (signed v) (w .print-term .ensures) (c .before .before .print-terms .ensures)
+    form-written (s .args .t2) _ noTerm (few s) (some e) _ _ _ _ (w .print-single .ensures) (c .before .before .print-terms .ensures)
 
 pub print-form-spec : {M : Type 1} → statement M
 print-form-spec =
@@ -105,8 +76,7 @@ print-form-spec =
     same-length
     returns
     element-copy-out-t
-    print-first-sign-requires
-    print-term-requires
+    print-single-requires
     print-terms-requires
     same-length-2
     returns-2)
