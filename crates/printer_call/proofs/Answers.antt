@@ -22,7 +22,7 @@ use Rattle.records.proofs.LetterTests.{test-passed, test-refused}
 use Rattle.printing.specs.Printable.{Printable}
 use Rattle.printing.specs.Text.{TextWritten}
 use Rattle.printing.proofs.Named.{printable}
-use Rattle.printer_call.specs.Lines.{printReduced}
+use Rattle.printer_call.specs.Lines.{tableReduced, printReduced}
 
 -- the same text in other words
 written-as : (before after : List ℕ) (n : ℕ) (x y : List ℕ) → x ≡ y → TextWritten before after n x → TextWritten before after n y
@@ -36,57 +36,83 @@ form-printable table expr c r h z worked e =
     let t : T (goodTable table) = table-good table (sym h ∙ test-passed c z) in
     printable table t (r .form) (worked .valid e) (reduction-keeps-value table expr (formOf (r .form)) t (worked-given (reduced table expr) r worked e) .lettersTested)
 
-module _ (table expr : List ℕ) (c : ℕ) (h : testOf c ≡ testTable table) (before after : List ℕ) (m : ℕ) where
+module _ (table expr : List ℕ) (c : ℕ) (h : testOf c ≡ testTable table) where
   -- the table is refused
-  pub table-refused : (c ≡ 0 → ⊥) → TextWritten before after m (printResult (refused c)) → TextWritten before after m (printReduced table expr)
-  unfolding printReduced
-  table-refused n w = written-as before after m _ _ (ap (λ (t : Test). printResult (t >> reduced table expr)) (sym (test-refused c n) ∙ h)) w
+  pub bad-table : (c ≡ 0 → ⊥) → tableReduced table expr ≡ refused c
+  unfolding tableReduced
+  bad-table n = ap (λ (t : Test). t >> reduced table expr) (sym h ∙ test-refused c n)
 
   module _ (z : c ≡ 0) (r : Closed) (worked : WorkedAs (reduced table expr) r) where
-    past-table : printReduced table expr ≡ printResult (reduced table expr)
-    unfolding printReduced
-    past-table = ap (λ (t : Test). printResult (t >> reduced table expr)) (sym h ∙ test-passed c z)
+    past-table : tableReduced table expr ≡ reduced table expr
+    unfolding tableReduced
+    past-table = ap (λ (t : Test). t >> reduced table expr) (sym h ∙ test-passed c z)
 
     -- the expression is refused
-    pub expression-refused : (r .refusal ≡ 0 → ⊥) → TextWritten before after m (printResult (refused (r .refusal))) → TextWritten before after m (printReduced table expr)
-    expression-refused n w = written-as before after m _ _ (ap printResult (sym (worked-refused (reduced table expr) r worked n)) ∙ sym past-table) w
+    pub bad-expression : (r .refusal ≡ 0 → ⊥) → tableReduced table expr ≡ refused (r .refusal)
+    bad-expression n = past-table ∙ worked-refused (reduced table expr) r worked n
 
-    -- its form is printed
-    pub form-printed : r .refusal ≡ 0 → TextWritten before after m (printResult (given (formOf (r .form)))) → TextWritten before after m (printReduced table expr)
-    form-printed e w = written-as before after m _ _ (ap printResult (sym (worked-given (reduced table expr) r worked e)) ∙ sym past-table) w
+    -- it has a form
+    pub form-reduced : r .refusal ≡ 0 → tableReduced table expr ≡ given (formOf (r .form))
+    form-reduced e = past-table ∙ worked-given (reduced table expr) r worked e
+
+  module _ (before after : List ℕ) (m : ℕ) where
+    -- the line of a refused table
+    pub table-refused : (c ≡ 0 → ⊥) → TextWritten before after m (printResult (refused c)) → TextWritten before after m (printReduced table expr)
+    unfolding printReduced
+    table-refused n w = written-as before after m _ _ (ap printResult (sym (bad-table n))) w
+
+    module _ (z : c ≡ 0) (r : Closed) (worked : WorkedAs (reduced table expr) r) where
+      -- of a refused expression
+      pub expression-refused : (r .refusal ≡ 0 → ⊥) → TextWritten before after m (printResult (refused (r .refusal))) → TextWritten before after m (printReduced table expr)
+      unfolding printReduced
+      expression-refused n w = written-as before after m _ _ (ap printResult (sym (bad-expression z r worked n))) w
+
+      -- of a form
+      pub form-printed : r .refusal ≡ 0 → TextWritten before after m (printResult (given (formOf (r .form)))) → TextWritten before after m (printReduced table expr)
+      unfolding printReduced
+      form-printed e w = written-as before after m _ _ (ap printResult (sym (form-reduced z r worked e))) w
 
 -- ════ all that was read
 
 module _ (s : List ℕ) where
-  none-read : length s ≡ 0 → printCall s ≡ printResult (refused 1)
-  unfolding printCall printTested
-  none-read e = let h : length s < 1 = omega arith in rw (lt-leb 1 (length s) h)
+  -- the length byte is missing
+  pub none-tested : length s ≡ 0 → printTested s ≡ refused 1
+  unfolding printTested
+  none-tested e = let h : length s < 1 = omega arith in rw (lt-leb 1 (length s) h)
 
-  cut-read : (length s ≡ 0 → ⊥) → length s < getD s 0 0 + 1 → printCall s ≡ printResult (refused 1)
-  unfolding printCall printTested
-  cut-read n l = let h : 1 ≤ length s = omega arith in rw (le-leb 1 (length s) h, lt-leb (getD s 0 0 + 1) (length s) l)
+  -- the table is cut
+  pub cut-tested : (length s ≡ 0 → ⊥) → length s < getD s 0 0 + 1 → printTested s ≡ refused 1
+  unfolding printTested
+  cut-tested n l = let h : 1 ≤ length s = omega arith in rw (le-leb 1 (length s) h, lt-leb (getD s 0 0 + 1) (length s) l)
 
   -- a table stands there whole
-  pub whole-read : getD s 0 0 + 1 ≤ length s → printCall s ≡ printReduced (take (getD s 0 0) (drop 1 s)) (drop (getD s 0 0 + 1) s)
-  unfolding printCall printTested printReduced
-  whole-read l = let h : 1 ≤ length s = omega arith in rw (le-leb 1 (length s) h, le-leb (getD s 0 0 + 1) (length s) l)
+  pub whole-tested : getD s 0 0 + 1 ≤ length s → printTested s ≡ tableReduced (take (getD s 0 0) (drop 1 s)) (drop (getD s 0 0 + 1) s)
+  unfolding printTested tableReduced
+  whole-tested l = let h : 1 ≤ length s = omega arith in rw (le-leb 1 (length s) h, le-leb (getD s 0 0 + 1) (length s) l)
+
+  -- table and expression as parts of it
+  pub parts-tested : getD s 0 0 + 1 ≤ length s → printTested s ≡ tableReduced (take (getD s 0 0 + 1 - 1) (drop 1 s)) (take (length s - (getD s 0 0 + 1)) (drop (getD s 0 0 + 1) s))
+  parts-tested l = whole-tested l ∙ (λ i. tableReduced (take (e i) (drop 1 s)) (rest i))
+    where
+      e : getD s 0 0 ≡ getD s 0 0 + 1 - 1
+      e = omega arith
+
+      rest : drop (getD s 0 0 + 1) s ≡ take (length s - (getD s 0 0 + 1)) (drop (getD s 0 0 + 1) s)
+      rest = let n : length (drop (getD s 0 0 + 1) s) ≤ length s - (getD s 0 0 + 1) = omega (arith, length-drop (getD s 0 0 + 1) s) in sym (take-all _ (drop (getD s 0 0 + 1) s) n)
 
   module _ (before after : List ℕ) (m : ℕ) where
-    -- the length byte is missing
+    -- the line where the length byte is missing
     pub nothing-there : length s ≡ 0 → TextWritten before after m (printResult (refused 1)) → TextWritten before after m (printCall s)
-    nothing-there e w = written-as before after m _ _ (sym (none-read e)) w
+    unfolding printCall
+    nothing-there e w = written-as before after m _ _ (ap printResult (sym (none-tested e))) w
 
-    -- the table is cut
+    -- where the table is cut
     pub table-cut : (length s ≡ 0 → ⊥) → length s < getD s 0 0 + 1 → TextWritten before after m (printResult (refused 1)) → TextWritten before after m (printCall s)
-    table-cut n l w = written-as before after m _ _ (sym (cut-read n l)) w
+    unfolding printCall
+    table-cut n l w = written-as before after m _ _ (ap printResult (sym (cut-tested n l))) w
 
-    -- the table and the expression as parts of it
+    -- of a table and an expression
     pub parts-printed : getD s 0 0 + 1 ≤ length s
         → TextWritten before after m (printReduced (take (getD s 0 0 + 1 - 1) (drop 1 s)) (take (length s - (getD s 0 0 + 1)) (drop (getD s 0 0 + 1) s))) → TextWritten before after m (printCall s)
-    parts-printed l w = written-as before after m _ _ (sym (whole-read l ∙ (λ i. printReduced (take (e i) (drop 1 s)) (rest i)))) w
-      where
-        e : getD s 0 0 ≡ getD s 0 0 + 1 - 1
-        e = omega arith
-
-        rest : drop (getD s 0 0 + 1) s ≡ take (length s - (getD s 0 0 + 1)) (drop (getD s 0 0 + 1) s)
-        rest = let n : length (drop (getD s 0 0 + 1) s) ≤ length s - (getD s 0 0 + 1) = omega (arith, length-drop (getD s 0 0 + 1) s) in sym (take-all _ (drop (getD s 0 0 + 1) s) n)
+    unfolding printCall printReduced
+    parts-printed l w = written-as before after m _ _ (ap printResult (sym (parts-tested l))) w
