@@ -21,10 +21,12 @@ module _ (table : List ℕ) (good : T (goodTable table)) where
   letter-named : (kind n : ℕ) → Known table kind n → n < 24
   letter-named kind n k = omega (arith, known-is table kind n k .0, good-short table good)
 
-  letters-named : (kind : ℕ) (l : List ℕ) → All (Known table kind) l → Printed l
+  -- known letters
+  pub letters-named : (kind : ℕ) (l : List ℕ) → All (Known table kind) l → Printed l
   letters-named kind l h = all-implies (Known table kind) (λ (n : ℕ). n < 24) (letter-named kind) l h
 
-  term-named : (t : Term) → MonomialKnown table (monomial (termOf t)) → TermPrinted (termOf t)
+  -- those of a term
+  pub term-named : (t : Term) → MonomialKnown table (monomial (termOf t)) → TermPrinted (termOf t)
   term-named t k = record {
     factors = all-implies (FactorKnown table) Printed (λ f h. letters-named _ f h) (termOf t .factors) (k .factors);
     part = letters-named _ (termOf t .part) (k .part);

@@ -136,7 +136,8 @@ front-is l xs = let e : 0 + length xs ≡ length xs = omega arith in rw e
 pub text-written : (l m : List ℕ) (next : ℕ) (xs ys : List ℕ) → ys ≡ xs → Written l m 0 next xs → TextWritten l m next ys
 text-written l m next xs ys e w = rw e (record { ends = omega (arith, w .ends); bytes = w .bytes ∙ front-is l xs })
 
-written-text : (l m : List ℕ) (next : ℕ) (xs : List ℕ) → TextWritten l m next xs → Written l m 0 next xs
+-- and back
+pub written-text : (l m : List ℕ) (next : ℕ) (xs : List ℕ) → TextWritten l m next xs → Written l m 0 next xs
 written-text l m next xs w = record { ends = omega (arith, w .ends); bytes = w .bytes ∙ sym (front-is l xs) }
 
 module _ (f : Form) (l : List ℕ) where

@@ -182,19 +182,18 @@ log-short first steps last h few =
 
 -- ════ the log
 
--- the record of a form written into the bytes from b on, as they come back
-part-written : (o p : List ℕ) (b c : ℕ) (f : S.Form) → b ≤ length o → FormWritten (take (length o - b) (drop b o)) p c f
-    → Written o (take b o ++ (p ++ drop (length o - b) (drop b o))) b (b + c) (writeForm f)
+-- what is written into the bytes from b on, as they come back
+pub part-written : (o p : List ℕ) (b c : ℕ) (x : List ℕ) → b ≤ length o → c ≡ length x → p ≡ writeInto x (take (length o - b) (drop b o))
+    → Written o (take b o ++ (p ++ drop (length o - b) (drop b o))) b (b + c) x
 unfolding over writeInto
-part-written o p b c f h w =
-    let x = writeForm f in
+part-written o p b c x h long is =
     let n : length (drop b o) ≡ length o - b = length-drop b o in
     let e : take (length o - b) (drop b o) ≡ drop b o = take-all (length o - b) (drop b o) (omega arith) in
     let z : drop (length o - b) (drop b o) ≡ [] = drop-of-length-le (drop b o) {i = length o - b} (omega arith) in
-    let is : p ≡ x ++ drop (length x) (drop b o) = w .bytes ∙ ap (λ (l : List ℕ). x ++ drop (length x) l) e in
+    let there : p ≡ x ++ drop (length x) (drop b o) = is ∙ ap (λ (l : List ℕ). x ++ drop (length x) l) e in
     record {
-      ends = ap (λ (k : ℕ). b + k) (w .ends);
-      bytes = rw (z, is, append-nil, drop-drop) (sym (append-assoc (take b o) x (drop (b + length x) o)));
+      ends = ap (λ (k : ℕ). b + k) long;
+      bytes = rw (z, there, append-nil, drop-drop) (sym (append-assoc (take b o) x (drop (b + length x) o)));
     }
 
 -- the first form, the number of steps, the steps and the last form
@@ -211,5 +210,5 @@ log-written first steps last n l m o p a b c e f h w g q =
     let w₂ : Written m o a b v =
     written-then m (set m a k) o a (a + 1) b (k ∷ []) (writeSteps steps) (omega arith) (written-store m a k h) (rw e at w) in
     let w₃ = written-then l m o 0 a b u v (omega arith) w₁ w₂ in
-    let w₄ = written-then l o r 0 b (b + c) (u ++ v) (writeForm last) (omega arith) w₃ (part-written o p b c last g q) in
+    let w₄ = written-then l o r 0 b (b + c) (u ++ v) (writeForm last) (omega arith) w₃ (part-written o p b c (writeForm last) g (q .ends) (q .bytes)) in
     record { ends = omega (arith, w₄ .ends); bytes = w₄ .bytes ∙ front-is l (u ++ v ++ writeForm last) }

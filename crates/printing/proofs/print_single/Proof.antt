@@ -1,5 +1,5 @@
 -- `printing::print_single` meets its contract: the sign, then the term. Assumes nothing.
-use mathlib.Core.Path.{sym, ap, _∙_}
+use mathlib.Core.Path.{sym, ap}
 use native.Mathlib.Omega.{arith}
 use borrow.Author.Needs.{needs}
 use Rattle.specification.specs.Printing.{printFirstSign}

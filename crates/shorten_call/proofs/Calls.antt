@@ -1,0 +1,161 @@
+-- What is printed for what was read, case by case. Assumes nothing.
+use mathlib.Core.Path.{_≡_, refl, sym, subst, _∙_}
+use mathlib.Core.Bool.{Bool, true, false}
+use mathlib.Core.List.{List, [], _∷_, _++_, map}
+use Prim.Native.Nat.{ℕ, _+_, _-_, _≤_, _<_}
+use native.Mathlib.Omega.{arith}
+use borrow.Author.Tests.{le-leb, lt-leb}
+use lib.Dec.{T, leb}
+use lib.ListN.{length, getD, take, drop}
+use Rattle.specification.specs.Results.{Result, refused, given, if_then_else_}
+use Rattle.specification.specs.Letters.{vector, goodTable, testTable, testLetters}
+use Rattle.specification.specs.Terms as S
+use Rattle.specification.specs.Records.{testTerm}
+use Rattle.specification.specs.Rules.{testStepLetters}
+use Rattle.specification.specs.Reduction.{reduced}
+use Rattle.specification.specs.Printing.{printTested, printResult}
+use Rattle.theory.specs.Tests.{tested}
+use Rattle.theory.specs.Elements.{All}
+use Rattle.theory.specs.Shape.Letters.{table-good, letters-known, term-known}
+use Rattle.theory.specs.Reduction.Work.{reduction-keeps-value}
+use Rattle.theory.specs.Records.Logs.{writeLog, logOf, log-read-back}
+use Rattle.theory.specs.Replay.Accepted.{testSteps, Derives, derivation-accepted}
+use Rattle.terms.specs.Abstraction.{termOf, formOf}
+use Rattle.gathering.specs.declared.Closed.{Closed}
+use Rattle.gathering.specs.Closing.{WorkedAs}
+use Rattle.gathering.proofs.Closing.{worked-given}
+use Rattle.records.specs.Tested.{testOf}
+use Rattle.records.proofs.Inside.{written-inside}
+use Rattle.records.proofs.LetterTests.{test-passed}
+use Rattle.rules.specs.declared.steps.Step.{Step}
+use Rattle.rules.specs.Steps.{stepOf, StepValid}
+use Rattle.shortening.specs.declared.writing.Derivation.{Derivation}
+use Rattle.shortening.specs.Writing.{stepsOf}
+use Rattle.shortening.specs.Derived.{Derived}
+use Rattle.shortening.proofs.Searches.{form-long}
+use Rattle.shortening.proofs.WrittenLogs.{steps-counted}
+use Rattle.printing.specs.Printable.{Printable}
+use Rattle.printing.specs.Text.{TextWritten}
+use Rattle.printing.proofs.Named.{letters-named, term-named, printable}
+use Rattle.printer_call.specs.Lines.{tableReduced}
+use Rattle.printer_call.proofs.Answers.{bad-table, bad-expression, form-reduced, none-tested, cut-tested, parts-tested}
+use Rattle.shorten_call.specs.Text.{printSteps, printLog}
+use Rattle.shorten_call.specs.Printed.{StepPrintable, StepsPrintable, PrintedBy, inputTable, PrintedFor}
+
+-- ════ what can be printed
+
+module _ (table : List ℕ) (good : T (goodTable table)) where
+  -- steps in shape whose letters passed their test
+  steps-printable : (ss : List Step) → All StepValid ss → testSteps table (map stepOf ss) ≡ given tt → All StepPrintable ss
+  unfolding testSteps testStepLetters stepOf
+  steps-printable [] v e = tt
+  steps-printable (s ∷ ss) v e =
+      let w = tested (testStepLetters table (stepOf s)) (testSteps table (map stepOf ss)) tt e in
+      let u = tested (testLetters table vector (stepOf s .letters)) (testTerm table (termOf (s .m))) tt (w .0) in (
+        record {
+          valid = v .0;
+          letters = letters-named table good vector (stepOf s .letters) (letters-known table vector (stepOf s .letters) (u .0));
+          m = term-named table good (s .m) (term-known table (termOf (s .m)) (u .1));
+        },
+        steps-printable ss (v .1) (w .1),
+      )
+
+-- ════ a table and an expression
+
+module _ (table expr : List ℕ) (c : ℕ) (h : testOf c ≡ testTable table) where
+  module _ (z : c ≡ 0) (r : Closed) (worked : WorkedAs (reduced table expr) r) (e : r .refusal ≡ 0) (d : Derivation) (wd : Derived table (r .form) d) where
+    good : T (goodTable table)
+    good = table-good table (sym h ∙ test-passed c z)
+
+    derives : Derives table (formOf (r .form)) (stepsOf d) (formOf (d .last))
+    derives = wd .derives good (reduction-keeps-value table expr (formOf (r .form)) good (worked-given (reduced table expr) r worked e) .lettersTested)
+
+    -- form, steps and last form can be printed
+    pub log-printable : Printable (r .form) × StepsPrintable d × Printable (d .last)
+    unfolding stepsOf
+    log-printable = (
+      printable table good (r .form) (worked .valid e) (derives .firstTested),
+      record { few = wd .valid .few; steps = steps-printable table good (take (d .count) (d .steps)) (wd .valid .steps) (derives .stepsTested) },
+      printable table good (d .last) (wd .valid .last) (derives .lastTested),
+    )
+
+  module _ (before after : List ℕ) (m : ℕ) where
+    -- what holds by what reduction gives
+    by-result : (r : Result S.Form) → tableReduced table expr ≡ r → PrintedBy r table before after m → PrintedBy (tableReduced table expr) table before after m
+    by-result r e w = subst (λ (r : Result S.Form). PrintedBy r table before after m) (sym e) w
+
+    -- the table is refused
+    pub table-refused : (c ≡ 0 → ⊥) → TextWritten before after m (printResult (refused c)) → PrintedBy (tableReduced table expr) table before after m
+    unfolding PrintedBy
+    table-refused n w = by-result (refused c) (bad-table table expr c h n) w
+
+    module _ (z : c ≡ 0) (r : Closed) (worked : WorkedAs (reduced table expr) r) where
+      -- the expression is refused
+      pub expression-refused : (r .refusal ≡ 0 → ⊥) → TextWritten before after m (printResult (refused (r .refusal))) → PrintedBy (tableReduced table expr) table before after m
+      unfolding PrintedBy
+      expression-refused n w = by-result (refused (r .refusal)) (bad-expression table expr c h z r worked n) w
+
+      -- the log is printed
+      pub log-printed : (e : r .refusal ≡ 0) (d : Derivation) → Derived table (r .form) d → length (r .form .terms) ≡ 48 → length (d .last .terms) ≡ 48 → length (d .steps) ≡ 48
+          → TextWritten before after m (printResult (given (formOf (r .form))) ++ printSteps (stepsOf d) ++ printResult (given (formOf (d .last))))
+          → PrintedBy (tableReduced table expr) table before after m
+      unfolding PrintedBy printLog stepsOf
+      log-printed e d wd places rooms steps w =
+          let counted : d .count ≡ length (stepsOf d) = steps-counted (d .steps) (d .count) (omega (arith, wd .valid .few, steps)) in
+          let ds = derives z r worked e d wd in
+          by-result (given (formOf (r .form))) (form-reduced table expr c h z r worked e)
+          (record {
+            bytes = writeLog (formOf (r .form)) (stepsOf d) (formOf (d .last));
+            log = logOf (formOf (r .form)) (stepsOf d) (formOf (d .last));
+            reads = log-read-back (formOf (r .form)) (stepsOf d) (formOf (d .last)) (ds .inShape);
+            begins = refl;
+            isAccepted = derivation-accepted table (formOf (r .form)) (stepsOf d) (formOf (d .last)) ds;
+            saves = omega (arith, counted, wd .saves, form-long (r .form) (worked .valid e) places, form-long (d .last) (wd .valid .last) rooms);
+            shortest = wd .shortest (ds .firstTested);
+            text = w;
+          })
+
+-- ════ all that was read
+
+-- too few bytes are lent
+pub short-memory : (s before : List ℕ) → length before < 5426 → PrintedFor s before before 0
+unfolding PrintedFor
+short-memory s before h = rw (lt-leb 5426 (length before) h) (refl, refl)
+
+module _ (s before after : List ℕ) (m : ℕ) (enough : 5426 ≤ length before) where
+  by-tests : (r : Result S.Form) → printTested s ≡ r → PrintedBy r (inputTable s) before after m → PrintedFor s before after m
+  unfolding PrintedFor
+  by-tests r e w = rw (le-leb 5426 (length before) enough, e) w
+
+  -- the length byte is missing
+  pub nothing-there : length s ≡ 0 → TextWritten before after m (printResult (refused 1)) → PrintedFor s before after m
+  unfolding PrintedBy
+  nothing-there e w = by-tests (refused 1) (none-tested s e) w
+
+  -- the table is cut
+  pub table-cut : (length s ≡ 0 → ⊥) → length s < getD s 0 0 + 1 → TextWritten before after m (printResult (refused 1)) → PrintedFor s before after m
+  unfolding PrintedBy
+  table-cut n l w = by-tests (refused 1) (cut-tested s n l) w
+
+  -- the table and the expression as parts of it
+  pub parts-printed : getD s 0 0 + 1 ≤ length s
+      → PrintedBy (tableReduced (take (getD s 0 0 + 1 - 1) (drop 1 s)) (take (length s - (getD s 0 0 + 1)) (drop (getD s 0 0 + 1) s))) (take (getD s 0 0 + 1 - 1) (drop 1 s)) before after m
+      → PrintedFor s before after m
+  unfolding inputTable
+  parts-printed l w =
+      let e : getD s 0 0 + 1 - 1 ≡ getD s 0 0 = omega arith in
+      by-tests _ (parts-tested s l)
+      (subst (λ (k : ℕ). PrintedBy (tableReduced (take (getD s 0 0 + 1 - 1) (drop 1 s)) (take (length s - (getD s 0 0 + 1)) (drop (getD s 0 0 + 1) s))) (take k (drop 1 s)) before after m) e w)
+
+-- ════ what was written
+
+inside-by : (b : Bool) (r : Result S.Form) (table before after : List ℕ) (m : ℕ) → (if b then PrintedBy r table before after m else (m ≡ 0) × (after ≡ before)) → m ≤ length after
+unfolding PrintedBy
+inside-by true (refused n) table before after m w = written-inside _ before after m (w .ends) (w .bytes)
+inside-by true (given f) table before after m w = written-inside _ before after m (w .text .ends) (w .text .bytes)
+inside-by false r table before after m w = omega (arith, w .0)
+
+-- it lies inside the bytes lent
+pub printed-inside : (s before after : List ℕ) (m : ℕ) → PrintedFor s before after m → m ≤ length after
+unfolding PrintedFor
+printed-inside s before after m w = inside-by (leb 5426 (length before)) (printTested s) (inputTable s) before after m w

@@ -1,0 +1,84 @@
+-- `shorten_call::lines::print_steps` meets its contract: before each turn the steps from i on are left, with 55 bytes of room for each. Assumes nothing.
+use mathlib.Core.Path.{_≡_, sym, _∙_}
+use Prim.Native.Nat.{_+_, _-_, _*_, _≤_}
+use native.Mathlib.Omega.{arith}
+use lib.ListN.{length, length-map, getD}
+use Rattle.terms.proofs.Arrays.{all-at}
+use Rattle.checker.proofs.StepRecords.{noStep}
+use Rattle.shortening.specs.Writing.{stepsOf}
+use Rattle.printing.proofs.Progress.{UnderWay, begins, goes-on, ended}
+use Rattle.shorten_call.specs.Printed.{StepPrintable}
+use Rattle.shorten_call.proofs.Texts.{stepsFrom, step-text-short, step-next, steps-end}
+use Rattle.shorten_call.proofs.lines.print_steps.Statement.{statement}
+use Rattle.shorten_call.proofs.lines.print_steps.Tie as tie
+
+abbrev Inv-loop : tie.InvT-loop
+Inv-loop out₀ at d n next₀ i₀ out next i = (next + 55 * (n - i) ≤ length out) × UnderWay out₀ out at next (stepsFrom (d .steps) n 0) (stepsFrom (d .steps) n i)
+
+abbrev μ-loop : tie.MeasureT-loop
+μ-loop out₀ at d n next₀ i₀ out next i = n - i
+
+-- there are 48 places
+places : (c : tie.Start Inv-loop μ-loop) → length (c .args .t3 .steps) ≡ 48
+places c = sym (length-map (c .args .t3 .steps) _) ∙ c .good .1 .1 .0 .1 .1 .1 .0 .1 .0 .1
+
+-- so that the steps are among them
+few : (c : tie.Start Inv-loop μ-loop) → c .args .t3 .count ≤ length (c .args .t3 .steps)
+few c = omega (arith, places c, c .pre .0 .few)
+
+loop-holds : tie.Need-loop-holds Inv-loop μ-loop
+loop-holds c = (omega (arith, c .before .pre .1), begins _ _ _)
+
+mul-s : tie.Need-mul-s Inv-loop μ-loop
+mul-s c = omega (arith, c .before .before .before .pre .0 .few)
+
+element-copy-out-s : tie.Need-element-copy-out-s Inv-loop μ-loop
+element-copy-out-s c = omega (arith, c .before .before .before .pre .0 .few)
+
+print-step-requires : tie.Need-print-step-requires Inv-loop μ-loop
+print-step-requires c κs =
+    let v = c .before .before .before .loop in
+    let s = c .before .before .before .before .before in
+    let t = c .before .before .loop-test .taken in
+    (all-at StepPrintable (s .args .t3 .steps) (s .args .t3 .count) (v .i) _ (few s) t (s .pre .0 .steps), omega (arith, t, v .inv .0))
+
+add-i : tie.Need-add-i Inv-loop μ-loop
+add-i c = omega (arith, c .before .before .before .before .before .before .before .before .pre .0 .few)
+
+loop-less : tie.Need-loop-less Inv-loop μ-loop
+loop-less c = omega arith
+
+loop-again : tie.Need-loop-again Inv-loop μ-loop
+loop-again c =
+    let v = c .before .before .before .before .before .before .loop in
+    let s = c .before .before .before .before .before .before .before .before in
+    let t = c .before .before .before .before .before .loop-test .taken in
+    let w = c .before .before .print-step in
+    let h = step-text-short (getD (s .args .t3 .steps) (v .i) noStep) (all-at StepPrintable (s .args .t3 .steps) (s .args .t3 .count) (v .i) noStep (few s) t (s .pre .0 .steps)) in (
+      omega (arith, t, v .inv .0, w .ensures .ends, h, w .kept .0),
+      goes-on _ _ _ _ _ _ _ _ _ _ (step-next _ _ _ (few s) noStep t) (omega (arith, t, v .inv .0, h)) (v .inv .1) (w .ensures),
+    )
+
+same-length : tie.Need-same-length Inv-loop μ-loop
+same-length c = c .before .loop .inv .1 .kept
+
+returns : tie.Need-returns Inv-loop μ-loop
+unfolding stepsOf
+returns c =
+    let s = c .before .before .before in ended _ _ _ _ _ _ (steps-end (s .args .t3 .steps) (s .args .t3 .count) _ (few s) (c .loop-test .left)) (c .before .loop .inv .1)
+
+pub print-steps-spec : {M : Type 1} → statement M
+print-steps-spec =
+    tie.close
+    (tie.spec
+    Inv-loop
+    μ-loop
+    loop-holds
+    mul-s
+    element-copy-out-s
+    print-step-requires
+    add-i
+    loop-less
+    loop-again
+    same-length
+    returns)

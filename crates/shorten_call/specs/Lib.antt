@@ -1,0 +1,3 @@
+-- What the contracts cite.
+pub mod Text
+pub mod Printed
