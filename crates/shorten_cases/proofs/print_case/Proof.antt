@@ -1,0 +1,37 @@
+-- `shorten_cases::print_case`: what is written lies inside the bytes lent. Assumes nothing.
+use mathlib.Core.Path.{sym}
+use native.Mathlib.Omega.{arith}
+use lib.Seq.{length-take-le}
+use borrow.Author.Needs.{needs}
+use Rattle.shorten_call.proofs.Calls.{printed-inside}
+use Rattle.shorten_cases.proofs.print_case.Statement.{statement}
+use Rattle.shorten_cases.proofs.print_case.Tie as tie
+
+slice-aggregate-print-shortening : tie.Need-slice-aggregate-print-shortening
+slice-aggregate-print-shortening c = search needs
+
+print-shortening-requires : tie.Need-print-shortening-requires
+print-shortening-requires c κs = search needs
+
+array-share-prefix-out : tie.Need-array-share-prefix-out
+array-share-prefix-out c = let w = c .before .print-shortening in omega (arith, printed-inside _ _ _ _ (w .ensures), w .kept .1 .0)
+
+slice-aggregate-write-all : tie.Need-slice-aggregate-write-all
+slice-aggregate-write-all c = sym (length-take-le _ _ (printed-inside _ _ _ _ (c .before .before .print-shortening .ensures)))
+
+write-all-requires : tie.Need-write-all-requires
+write-all-requires c κs = search needs
+
+returns : tie.Need-returns
+returns c = search needs
+
+pub print-case-spec : {M : Type 1} → statement M
+print-case-spec =
+    tie.close
+    (tie.spec
+    slice-aggregate-print-shortening
+    print-shortening-requires
+    array-share-prefix-out
+    slice-aggregate-write-all
+    write-all-requires
+    returns)
