@@ -6,6 +6,10 @@ pub mod Picks
 pub mod Gains
 pub mod Trials
 pub mod Scalars
+pub mod MarkedTerms
+pub mod Growth
+pub mod RowMarks
+pub mod RowsPassed
 pub mod Searches
 pub mod Derivations
 pub mod WrittenLogs

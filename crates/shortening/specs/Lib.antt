@@ -5,3 +5,4 @@ pub mod Searching
 pub mod Writing
 pub mod Derived
 pub mod Answers
+pub mod Marks
