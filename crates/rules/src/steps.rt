@@ -53,7 +53,7 @@ pub fn rule_kind(rule: u8) -> u8
 }
 
 // How many rows of the table a rule has.
-fn row_count(rule: u8) -> usize
+pub fn row_count(rule: u8) -> usize
     ensures { λ r. ⌜ r ≡ rowCount rule ⌝ }
 {
     if rule == 5 { 7 } else { 4 }

@@ -7,6 +7,7 @@ pub mod Gains
 pub mod Trials
 pub mod Scalars
 pub mod MarkedTerms
+pub mod MarkSizes
 pub mod Growth
 pub mod RowMarks
 pub mod RowsPassed

@@ -4,7 +4,6 @@ use mathlib.Core.List.{List, [], _∷_, _++_, map}
 use Prim.Native.Nat.{ℕ, _+_, _*_, _%_, _<_, _≤_}
 use native.Mathlib.Nat as N
 use native.Mathlib.Omega.{arith}
-use lib.ListN.{length}
 use Rattle.specification.specs.Lists.{order, sorted}
 use Rattle.specification.specs.Terms.{compareLetters, timesTerm, tidy}
 use Rattle.specification.specs.Terms as S

@@ -1,24 +1,21 @@
 -- The rows of a step one after the other: how many products were surely new, and what follows once they are half of all. Assumes nothing.
 use mathlib.Core.Path.{_≡_, refl, sym, ap, subst, _∙_}
-use mathlib.Core.Logic.{_⊎_}
 use mathlib.Core.List.{List, [], _∷_, _++_, map, map-append}
-use Prim.Native.Nat.{ℕ, zero, suc, _+_, _*_, _%_, _<_, _≤_}
-use native.Mathlib.Nat as N
+use Prim.Native.Nat.{ℕ, zero, suc, _+_, _*_, _<_, _≤_}
 use native.Mathlib.Omega.{arith}
-use lib.Dec.{T}
 use lib.IntN.{ℤ}
 use lib.ListN.{length, length-map, getD, set, take, drop, length-append, take-append-drop}
 use Rattle.algebra.specs.Integers.{NonZero}
 use Rattle.specification.specs.Terms.{withCoef, timesTerm, gather, gatherInto}
 use Rattle.specification.specs.Terms as S
 use Rattle.specification.specs.Rules.{ruleLetters, stepTerms}
-use Rattle.theory.specs.Shape.Forms.{FormInShape, form-gathered}
+use Rattle.theory.specs.Shape.Forms.{form-gathered}
 use Rattle.theory.specs.Gathering.Gathered.{into-join, gather-onto}
 use Rattle.theory.specs.Rules.Table.{stepTerms-rule}
-use Rattle.terms.specs.Abstraction.{partOf, termOf}
+use Rattle.terms.specs.Abstraction.{termOf}
 use Rattle.terms.proofs.Arrays.{mapped-behind}
 use Rattle.rules.specs.declared.steps.Step.{Step}
-use Rattle.rules.specs.Table.{ruleRows, partAt, rowTerm, rowTerms, firstRow, rowCount}
+use Rattle.rules.specs.Table.{ruleRows, rowTerm, rowTerms, firstRow, rowCount}
 use Rattle.rules.specs.Steps.{stepOf, StepValid, StepFits}
 use Rattle.rules.proofs.Tied.{tied, rows-inside, row-next}
 use Rattle.rules.proofs.Taking.{row-fits}
@@ -103,3 +100,47 @@ module _ (marks : List ℕ) (s : Step) (v : StepValid s) (six : length (s .lette
       ∙ gather-onto (f .terms) (stepTerms (record { rule = s .rule; letters = take (ruleLetters (s .rule)) (s .letters); m = withCoef c (termOf (s .m)) })) (form-gathered f shape) in
       let few : length (f .terms) ≤ length (gatherInto d qs) = omega (arith, w c z (f .terms) q .long, into-long d qs, length-append ps qs, all, h) in
       subst (λ (ts : List S.Term). length (f .terms) ≤ length ts) reached few
+
+-- ════ every step of one rule, with one M and the same letters as far as their marks are known
+
+pub record Fitting (a b : ℕ) (l : List ℕ) (first n : ℕ) (s : Step) : Type 0 where
+  pub valid : StepValid s
+  pub fits : StepFits s
+  pub six : length (s .letters) ≡ 6
+  pub few : s .m .«factor_count» ≤ length (s .m .factors)
+  pub letters : LettersMarked (s .letters) l
+  pub factorsIs : a ≡ factorsMark (termOf (s .m) .factors)
+  pub partIs : b ≡ lettersMark (termOf (s .m) .part)
+  pub firstIs : first ≡ firstRow (s .rule)
+  pub countIs : n ≡ rowCount (s .rule)
+
+-- the first rows, for all of them
+pub record AllPassed (marks : List ℕ) (a b : ℕ) (l : List ℕ) (first n : ℕ) (seen : List ℕ) (new i : ℕ) : Type 0 where
+  pub each : (s : Step) → Fitting a b l first n s → Passed marks seen s new i
+
+module _ {marks : List ℕ} {a b : ℕ} {l : List ℕ} {first n : ℕ} where
+  pub all-none : {seen : List ℕ} → AllPassed marks a b l first n seen 0 0
+  all-none {seen} = record { each = λ s f. passed-none marks s (f .valid) (f .six) seen }
+
+  module _ {seen : List ℕ} {new i k h : ℕ} (w : AllPassed marks a b l first n seen new i) (long : length seen ≡ 256) (here : i < n)
+      (ek : k ≡ getD ruleRows (first + i) 0) (eh : h ≡ productMark a b l k) where
+    mark-there : (s : Step) → Fitting a b l first n s → h ≡ productMark a b l (getD ruleRows (firstRow (s .rule) + i) 0)
+    mark-there s f = eh ∙ ap (productMark a b l) (ek ∙ ap (λ (m : ℕ). getD ruleRows (m + i) 0) (f .firstIs))
+
+    pub all-more : AllPassed marks a b l first n (set seen h 1) new (i + 1)
+    all-more = record { each = λ s f. passed-more marks s (f .valid) (f .six) (f .fits) (f .few) l (f .letters) a b (f .factorsIs) (f .partIs) seen long new i (w .each s f) (omega (arith, f .countIs)) h (mark-there s f) }
+
+    pub all-new : SurelyNew marks seen h l k → AllPassed marks a b l first n (set seen h 1) (new + 1) (i + 1)
+    all-new v = record { each = new-there }
+      where
+        new-there : (s : Step) → Fitting a b l first n s → Passed marks (set seen h 1) s (new + 1) (i + 1)
+        new-there s f =
+            passed-new marks s (f .valid) (f .six) (f .fits) (f .few) l (f .letters) a b (f .factorsIs) (f .partIs) seen long new i (w .each s f) (omega (arith, f .countIs)) h (mark-there s f)
+            (subst (SurelyNew marks seen h l) (ek ∙ ap (λ (m : ℕ). getD ruleRows (m + i) 0) (f .firstIs)) v)
+
+  pub all-as : {seen : List ℕ} {new new′ i : ℕ} → new′ ≡ new → AllPassed marks a b l first n seen new i → AllPassed marks a b l first n seen new′ i
+  all-as {seen} {new} {new′} {i} e w = subst (λ (k : ℕ). AllPassed marks a b l first n seen k i) (sym e) w
+
+  -- half of the rows are surely new
+  pub all-half : {seen : List ℕ} {new i : ℕ} {s : Step} → AllPassed marks a b l first n seen new i → Fitting a b l first n s → n ≤ 2 * new → NotShorter marks (stepOf s)
+  all-half {seen} {new} {i} {s} w f h = passed-half marks s (f .valid) (f .six) seen new i (w .each s f) (omega (arith, f .countIs))

@@ -4,6 +4,7 @@ ghost use Rattle.specification.specs.Shortening.{Shortened};
 ghost use Rattle.shortening.specs.Answers.{shorteningOf, logLength};
 
 pub mod choosing;
+pub mod marks;
 pub mod rounds;
 pub mod searching;
 pub mod trying;
