@@ -104,7 +104,7 @@ loop-again c = let v = c .before .before .before .before .before .before .before
     let row = c .before .before .before .before .before .before .row .ensures in
     let mark = c .before .before .before .before .product-mark .ensures .0 in (
       omega arith,
-      length-set (v .seen) _ 1 ∙ v .inv .1,
+      length-set (v .seen) _ _ ∙ v .inv .1,
       ⊎-elim (λ x. omega (arith, x .1, v .inv .2)) (λ x. omega (arith, x .1, v .inv .2)) (c .if2 .came),
       ⊎-elim (λ x. all-as (x .1) (all-new (v .inv .3) (v .inv .1) here row mark (c .before .is-new .ensures (x .0 .taken))))
           (λ x. all-as (x .1) (all-more (v .inv .3) (v .inv .1) here row mark)) (c .if2 .came),
