@@ -156,11 +156,11 @@ letters-long t k r j h =
     let d = and-split (eqb (length l) (ruleLetters r) && eqb (length (taken j l)) (blockSize r)) (ascend ltb (taken j l)) (b .0) in
     eqb→eq (length l) (ruleLetters r) (and-split (eqb (length l) (ruleLetters r)) (eqb (length (taken j l)) (blockSize r)) (d .0) .0)
 
-module _ (t : S.Term) (k : ℕ) (scalars : all isVectors (leftOver k (t .factors)) ≡ false) where
+module _ (marks : List ℕ) (t : S.Term) (k : ℕ) (scalars : all isVectors (leftOver k (t .factors)) ≡ false) where
   -- nothing to hope for
-  pub scalars-hopeless : (kind r j : ℕ) → T (isRule r) → Hopeless kind t k r j
+  pub scalars-hopeless : (kind r j : ℕ) → T (isRule r) → Hopeless marks kind t k r j
   unfolding Hopeless pool candidate testStepLetters
-  scalars-hopeless kind r j rule hk hj table f c g e known can ex h =
+  scalars-hopeless kind r j rule hk hj table f c g shape cover e known can ex h =
       let l : List ℕ = pool t k r in
       let a = step-admitted table f (candidate t k r j c) g h in
       let ls : All (Known table vector) (inRuleOrder r (taken j l ++ leftOver j l)) = letters-known table vector (inRuleOrder r (taken j l ++ leftOver j l)) (tested (testLetters table vector (inRuleOrder r (taken j l ++ leftOver j l))) (testTerm table (candidate t k r j c .m)) tt (a .known) .0) in
@@ -174,19 +174,19 @@ module _ (t : S.Term) (k : ℕ) (scalars : all isVectors (leftOver k (t .factors
 
 -- ════ a mask that leaves too many letters, or too few
 
-module _ (t : S.Term) (k : ℕ) where
+module _ (marks : List ℕ) (t : S.Term) (k : ℕ) where
   -- other than the rule's letters
-  count-hopeless : (kind r j : ℕ) → (length (lettersLeft t k r) ≡ ruleLetters r → ⊥) → Hopeless kind t k r j
+  count-hopeless : (kind r j : ℕ) → (length (lettersLeft t k r) ≡ ruleLetters r → ⊥) → Hopeless marks kind t k r j
   unfolding Hopeless pool lettersLeft
-  count-hopeless kind r j h hk hj table f c g e known can ex s = absurd (h (sym (O.length-sorted order (lettersLeft t k r)) ∙ letters-long t k r j can))
+  count-hopeless kind r j h hk hj table f c g shape cover e known can ex s = absurd (h (sym (O.length-sorted order (lettersLeft t k r)) ∙ letters-long t k r j can))
 
   -- by the count
-  pub left-hopeless : (kind r j n : ℕ) → T (isRule r) → LeftBy (t .factors) k n → (n + length (if eqb (ruleKind r) vector then t .part else []) ≡ ruleLetters r → ⊥) → Hopeless kind t k r j
+  pub left-hopeless : (kind r j n : ℕ) → T (isRule r) → LeftBy (t .factors) k n → (n + length (if eqb (ruleKind r) vector then t .part else []) ≡ ruleLetters r → ⊥) → Hopeless marks kind t k r j
   unfolding lettersLeft
   left-hopeless kind r j n rule w h = go (all isVectors (leftOver k (t .factors))) refl
     where
-      go : (b : Bool) → all isVectors (leftOver k (t .factors)) ≡ b → Hopeless kind t k r j
-      go false e = scalars-hopeless t k e kind r j rule
+      go : (b : Bool) → all isVectors (leftOver k (t .factors)) ≡ b → Hopeless marks kind t k r j
+      go false e = scalars-hopeless marks t k e kind r j rule
       go true e = count-hopeless kind r j (λ q. h (ap (λ (m : ℕ). m + length (if eqb (ruleKind r) vector then t .part else [])) (w .is e) ∙ sym (length-append (joined (leftOver k (t .factors))) (if eqb (ruleKind r) vector then t .part else [])) ∙ q))
 
 -- ════ the places of such a mask
@@ -196,23 +196,23 @@ rule-there : (p : ℕ) → T (isRule (ruleOf p))
 unfolding ruleOf
 rule-there p = place-rule (p / 64)
 
-module _ (kind : ℕ) (t : S.Term) (from at : ℕ) (w : PlacesPassed kind t from at) (n : ℕ) where
+module _ (marks : List ℕ) (kind : ℕ) (t : S.Term) (from at : ℕ) (w : PlacesPassed marks kind t from at) (n : ℕ) where
   -- more than any rule takes: all places of the mask are passed
-  pub mask-skipped : (k : ℕ) → at / 64 / 5 ≡ k → LeftBy (t .factors) k n → 6 < n → PlacesPassed kind t from ((k + 1) * 320)
+  pub mask-skipped : (k : ℕ) → at / 64 / 5 ≡ k → LeftBy (t .factors) k n → 6 < n → PlacesPassed marks kind t from ((k + 1) * 320)
   unfolding PlacesPassed maskOf
   mask-skipped k e v h p a b = go (ltb p at) refl
     where
-      go : (x : Bool) → ltb p at ≡ x → Hopeless kind t (p / 320) (ruleOf p) (pickOf p)
+      go : (x : Bool) → ltb p at ≡ x → Hopeless marks kind t (p / 320) (ruleOf p) (pickOf p)
       go true y = w p a (ltb-true p at y)
       go false y =
           let same : k ≡ p / 320 = omega (arith, ltb-false p at y) in
-          subst (λ (m : ℕ). Hopeless kind t m (ruleOf p) (pickOf p)) same
-          (left-hopeless t k kind (ruleOf p) (pickOf p) n (rule-there p) v (λ q. N.lt-irrefl 6 (omega (arith, q, h, few-letters (ruleOf p)))))
+          subst (λ (m : ℕ). Hopeless marks kind t m (ruleOf p) (pickOf p)) same
+          (left-hopeless marks t k kind (ruleOf p) (pickOf p) n (rule-there p) v (λ q. N.lt-irrefl 6 (omega (arith, q, h, few-letters (ruleOf p)))))
 
   -- other than this rule takes: all its places are passed
-  pub rule-skipped : (q : ℕ) → at / 64 ≡ q → LeftBy (t .factors) (q / 5) n → (n + length (if eqb (ruleKind (q % 5 + 1)) vector then t .part else []) ≡ ruleLetters (q % 5 + 1) → ⊥) → PlacesPassed kind t from ((q + 1) * 64)
+  pub rule-skipped : (q : ℕ) → at / 64 ≡ q → LeftBy (t .factors) (q / 5) n → (n + length (if eqb (ruleKind (q % 5 + 1)) vector then t .part else []) ≡ ruleLetters (q % 5 + 1) → ⊥) → PlacesPassed marks kind t from ((q + 1) * 64)
   unfolding PlacesPassed
-  rule-skipped q e v h = by-opening (Hopeless kind t) from at q ((q + 1) * 64) e (omega arith) w (λ pick a i. left-hopeless t (q / 5) kind (q % 5 + 1) pick n (place-rule q) v h)
+  rule-skipped q e v h = by-opening (Hopeless marks kind t) from at q ((q + 1) * 64) e (omega arith) w (λ pick a i. left-hopeless marks t (q / 5) kind (q % 5 + 1) pick n (place-rule q) v h)
 
 -- a rule takes no more than two letters of a vector part
 pub part-short : (p : Part) (kind : ℕ) → length (if eqb kind vector then partOf p else []) ≤ 2

@@ -20,6 +20,7 @@ use Rattle.theory.specs.Elements as E
 use Rattle.theory.specs.Elements.{all-T}
 use Rattle.theory.specs.Tests.{and-split, given-same, refused≢given}
 use Rattle.theory.specs.Order.{monomial}
+use Rattle.theory.specs.Shape.Forms.{FormInShape}
 use Rattle.theory.specs.Shape.Letters.{MonomialKnown, AllKnown}
 use Rattle.theory.specs.Gathering.Coefficients.{termAt}
 use Rattle.theory.specs.Rules.Steps.{step-admitted}
@@ -39,6 +40,7 @@ use Rattle.rules.proofs.Taking.{few-letters}
 use Rattle.shortening.specs.declared.trying.Next.{Next}
 use Rattle.shortening.specs.declared.searching.Found.{Found}
 use Rattle.shortening.specs.Trying.{Hopeless, OnlyStep, Settled, maskOf, ruleOf, pickOf, NextPlace}
+use Rattle.shortening.specs.Marks.{Covering}
 use Rattle.shortening.specs.Searching.{Shorter, SearchedBy}
 
 -- no candidate by these indices shortens
@@ -65,10 +67,10 @@ unfolding RowPassed
 row-none table f first x a h = absurd (N.lt-irrefl x (omega arith))
 
 -- up to the next
-pub row-more : (table : List ℕ) (f : S.Form) (first at i : ℕ) (r : Next) → at / 40960 ≡ i → RowPassed table f first at → NextPlace (f .kind) (termAt (f .terms) i) (at % 40960) r → Useless table f (r .found) (r .step)
+pub row-more : (marks table : List ℕ) (f : S.Form) (first at i : ℕ) (r : Next) → FormInShape f → Covering marks (f .terms) → at / 40960 ≡ i → RowPassed table f first at → NextPlace marks (f .kind) (termAt (f .terms) i) (at % 40960) r → Useless table f (r .found) (r .step)
     → RowPassed table f first (i * 40960 + r .next)
 unfolding RowPassed NothingAt Settled Hopeless OnlyStep Useless
-row-more table f first at i r e w n u x b h = go (ltb x at) refl
+row-more marks table f first at i r shape cover e w n u x b h = go (ltb x at) refl
   where
     go : (b : Bool) → ltb x at ≡ b → NothingAt table f (x / 40960) (x % 40960)
     go true q = w x b (ltb-true x at q)
@@ -77,7 +79,7 @@ row-more table f first at i r e w n u x b h = go (ltb x at) refl
         let from : at % 40960 ≤ x % 40960 = omega (arith, ltb-false x at q, n .inside) in
         let before : x % 40960 < r .next = omega (arith, ltb-false x at q, n .inside) in
         subst (λ (k : ℕ). NothingAt table f k (x % 40960)) (sym same)
-        (λ c g inside hk hj known can ex s. ⊎-elim (λ hope. hope hk hj table f c g refl known can ex s) (λ v. u (v .0) g (ap (stepAt table f) (sym (v .1 c can ex)) ∙ s)) (n .all (x % 40960) from before))
+        (λ c g inside hk hj known can ex s. ⊎-elim (λ hope. hope hk hj table f c g shape cover refl known can ex s) (λ v. u (v .0) g (ap (stepAt table f) (sym (v .1 c can ex)) ∙ s)) (n .all (x % 40960) from before))
 
 -- the whole row
 pub row-all : (table : List ℕ) (f : S.Form) (at : ℕ) → ((i : ℕ) → i < length (f .terms) → length (termAt (f .terms) i .factors) ≤ 7) → length (f .terms) * 40960 ≤ at → RowPassed table f 0 at → AllKnown table (f .terms) → NoCandidate table f

@@ -19,9 +19,12 @@ use Rattle.specification.specs.Lists.{ascend}
 use Rattle.specification.specs.Terms.{coefWithin, withCoef, gather, termInShape}
 use Rattle.specification.specs.Terms as S
 use Rattle.specification.specs.Rules.{isRule, ruleLetters, stepTerms}
+use Rattle.specification.specs.Rules as R
 use Rattle.theory.specs.Tests.{is-true, and-both}
 use Rattle.theory.specs.Order.{monomial}
 use Rattle.theory.specs.Shape.Terms.{term-opens}
+use Rattle.theory.specs.Shape.Forms.{within-given}
+use Rattle.theory.specs.Rules.Steps.{step-taken, step-admitted}
 use Rattle.theory.specs.Gathering.Coefficients.{coeff}
 use Rattle.theory.specs.Shortening.Masks.{taken, leftOver}
 use Rattle.theory.specs.Shortening.Candidates.{blockSize, inRuleOrder, blockIsFirst, multiplier, pool, candidate, gain, isCandidate}
@@ -35,6 +38,7 @@ use Rattle.shortening.specs.declared.choosing.Picked.{Picked}
 use Rattle.shortening.specs.declared.trying.Trial.{Trial}
 use Rattle.shortening.specs.declared.trying.Next.{Next}
 use Rattle.shortening.specs.Choosing.{Shut, Opened, OpenedBy, picks, PickedBy}
+use Rattle.shortening.specs.Marks.{NotShorter}
 use Rattle.shortening.specs.Trying.{Hopeless, OnlyStep, Settled, SomeOpened, Tried, NextPick, maskOf, ruleOf, pickOf, NextPlace}
 
 -- a coefficient in shape
@@ -44,6 +48,10 @@ in-limit t h = leb→le (natAbs (t .coef)) 2147483647 (term-opens t h .within)
 
 neg-zero : (z : ℤ) → negℤ z ≡ pos 0 → z ≡ pos 0
 neg-zero z e = natAbs-zero z (sym (natAbs-neg z) ∙ ap natAbs e)
+
+-- a factor of a number that is not 0
+factor-alive : (c g z : ℤ) → NonZero z → c *ℤ g ≡ negℤ z → NonZero c
+factor-alive c g z h e q = h (neg-zero z (sym e ∙ ap (λ (y : ℤ). y *ℤ g) q ∙ I.zero-*ℤ g))
 
 -- ════ the step with the coefficient 1
 
@@ -61,7 +69,7 @@ candidate-picks : (a b c d e : Bool) → T (a && b && c && d && e) → T (b && c
 candidate-picks true b c d e h = h
 candidate-picks false b c d e h = absurd h
 
-module _ (t : Term) (rule : ℕ) (o : Opening) (j : ℕ) (p : Picked) (w : PickedBy (take (ruleLetters rule) (o .pool)) rule j p) where
+module _ (marks : List ℕ) (t : Term) (rule : ℕ) (o : Opening) (j : ℕ) (p : Picked) (w : PickedBy (take (ruleLetters rule) (o .pool)) rule j p) where
   module _ (kind k : ℕ) (opened : Opened kind t k rule o) where
     pub picked-there : T (isCandidate (termOf t) k rule j) → p .fits ≡ true
     unfolding isCandidate picks
@@ -83,17 +91,32 @@ module _ (t : Term) (rule : ℕ) (o : Opening) (j : ℕ) (p : Picked) (w : Picke
         h ∙ (λ i. coeff (monomial (termOf t)) (gather (stepTerms (record { rule = rule; letters = sym (letters-are e) i; m = opened .m .is i }))))
 
   -- no pick
-  pub tried-none : (s : Step) → Counted (s .m) → p .fits ≡ false → Tried t rule o j (record { found = false; step = s })
+  pub tried-none : (s : Step) → Counted (s .m) → p .fits ≡ false → Tried marks t rule o j (record { found = false; step = s })
   unfolding Settled Hopeless
   tried-none s c e = record {
-    is = λ kind k opened. inl (λ hk hj table f c g q known can ex h. absurd (subst T (sym (picked-there kind k opened can) ∙ e) tt));
+    is = λ kind k opened. inl (λ hk hj table f c g shape cover q known can ex h. absurd (subst T (sym (picked-there kind k opened can) ∙ e) tt));
     counted = c;
+  }
+
+  -- surely no fewer terms
+  pub tried-long : (s : Step) → s ≡ record { rule = rule; letters = p .letters; m = o .m } → Counted (s .m) → TermValid t → p .fits ≡ true → NotShorter marks (stepOf s) → Tried marks t rule o j (record { found = false; step = s })
+  unfolding Settled Hopeless NotShorter stepOf termOf
+  tried-long s es counted valid fits long = record {
+    is = λ kind k opened. inl (λ hk hj table f c g shape cover q known can ex h.
+        let a = step-admitted table f (candidate (termOf t) k rule j c) g h in
+        let reached = within-given (f .kind) (gather (f .terms ++ stepTerms (candidate (termOf t) k rule j c))) g (step-taken f (candidate (termOf t) k rule j c) g (a .takes) .gathers) in
+        let alive : NonZero c = factor-alive c (gain (termOf t) k rule j) (t .coef) (term-opens (termOf t) (valid .inShape) .nonzero) ex in
+        let is : candidate (termOf t) k rule j c ≡ record { rule = rule; letters = take (ruleLetters rule) (p .letters); m = withCoef c (termOf (o .m)) } = step-is kind k opened c fits in
+        subst (λ (l : List S.Term). length (f .terms) ≤ length l) (sym (ap (λ (g : S.Form). g .terms) (reached .is)))
+        (subst (λ (u : R.Step). length (f .terms) ≤ length (gather (f .terms ++ stepTerms u))) (sym is)
+        (subst (λ (s : Step). length (f .terms) ≤ length (gather (f .terms ++ stepTerms (record { rule = s .rule; letters = take (ruleLetters (s .rule)) (s .letters); m = withCoef c (termOf (s .m)) })))) es (long c alive f shape cover))));
+    counted = counted;
   }
 
   -- the quotient decides
   pub tried-by : (q : Quotient) (g c : ℤ) (m : Term) → TermValid t → p .fits ≡ true → g ≡ coeff (monomial (termOf t)) (gather (stepTerms (stepOf (record { rule = rule; letters = p .letters; m = o .m }))))
       → c ≡ negℤ (t .coef) → Divided c g q → Counted (o .m) → m ≡ record { coef = q .value; factors = o .m .factors; «factor_count» = o .m .«factor_count»; part = o .m .part }
-      → Tried t rule o j (record { found = q .exact; step = record { rule = rule; letters = p .letters; m = m } })
+      → Tried marks t rule o j (record { found = q .exact; step = record { rule = rule; letters = p .letters; m = m } })
   unfolding Settled Hopeless OnlyStep termOf
   tried-by q g c m valid fits eg ec d counted em = record {
     is = λ kind k opened. go kind k opened (q .exact) refl;
@@ -118,42 +141,42 @@ module _ (t : Term) (rule : ℕ) (o : Opening) (j : ℕ) (p : Picked) (w : Picke
           *ℤ-cancel g n (q .value) (λ z. subst T (sym x ∙ d .byZero z) tt)
           (I.*ℤ-comm g n ∙ ap (λ (z : ℤ). n *ℤ z) is ∙ e ∙ sym ec ∙ sym (d .product x) ∙ I.*ℤ-comm (q .value) g)
 
-      go : (kind k : ℕ) → Opened kind t k rule o → (b : Bool) → q .exact ≡ b → Settled kind (termOf t) k rule j b (record { rule = rule; letters = p .letters; m = m })
+      go : (kind k : ℕ) → Opened kind t k rule o → (b : Bool) → q .exact ≡ b → Settled marks kind (termOf t) k rule j b (record { rule = rule; letters = p .letters; m = m })
       go kind k opened true x = inr (
         refl,
         λ n can e. ap (candidate (termOf t) k rule j) (one kind k opened x n e) ∙ step-is kind k opened (q .value) fits
             ∙ ap (λ (u : Term). stepOf (record { rule = rule; letters = p .letters; m = u })) (sym em),
       )
-      go kind k opened false x = inl (λ hk hj table f n h r known can e s. absurd (none kind k opened x n e))
+      go kind k opened false x = inl (λ hk hj table f n h shape cover r known can e s. absurd (none kind k opened x n e))
 
 -- ════ one pick after the other
 
 -- there is nothing to hope for from those passed
-unfoldable pub PicksPassed : (t : Term) (rule : ℕ) (o : Opening) (from j : ℕ) → Type 0
-PicksPassed t rule o from j = (kind k pick : ℕ) → Opened kind t k rule o → from ≤ pick → pick < j → Hopeless kind (termOf t) k rule pick
+unfoldable pub PicksPassed : (marks : List ℕ) (t : Term) (rule : ℕ) (o : Opening) (from j : ℕ) → Type 0
+PicksPassed marks t rule o from j = (kind k pick : ℕ) → Opened kind t k rule o → from ≤ pick → pick < j → Hopeless marks kind (termOf t) k rule pick
 
-module _ (t : Term) (rule : ℕ) (o : Opening) (from : ℕ) where
-  pub picks-none : PicksPassed t rule o from from
+module _ (marks : List ℕ) (t : Term) (rule : ℕ) (o : Opening) (from : ℕ) where
+  pub picks-none : PicksPassed marks t rule o from from
   unfolding PicksPassed
   picks-none kind k pick op a b = absurd (N.lt-irrefl from (omega arith))
 
-  module _ (j : ℕ) (w : PicksPassed t rule o from j) (here : from ≤ j) where
-    module _ (r : Trial) (v : Tried t rule o j r) where
+  module _ (j : ℕ) (w : PicksPassed marks t rule o from j) (here : from ≤ j) where
+    module _ (r : Trial) (v : Tried marks t rule o j r) where
       -- all up to this one
-      up-to : (kind k pick : ℕ) → Opened kind t k rule o → from ≤ pick → pick < j + 1 → Settled kind (termOf t) k rule pick (r .found) (r .step)
+      up-to : (kind k pick : ℕ) → Opened kind t k rule o → from ≤ pick → pick < j + 1 → Settled marks kind (termOf t) k rule pick (r .found) (r .step)
       unfolding PicksPassed Settled
       up-to kind k pick op a b = go (ltb pick j) refl
         where
-          go : (x : Bool) → ltb pick j ≡ x → Settled kind (termOf t) k rule pick (r .found) (r .step)
+          go : (x : Bool) → ltb pick j ≡ x → Settled marks kind (termOf t) k rule pick (r .found) (r .step)
           go true e = inl (w kind k pick op a (ltb-true pick j e))
-          go false e = let same : j ≡ pick = omega (arith, ltb-false pick j e) in subst (λ (i : ℕ). Settled kind (termOf t) k rule i (r .found) (r .step)) same (v .is kind k op)
+          go false e = let same : j ≡ pick = omega (arith, ltb-false pick j e) in subst (λ (i : ℕ). Settled marks kind (termOf t) k rule i (r .found) (r .step)) same (v .is kind k op)
 
-      pub picks-more : r .found ≡ false → PicksPassed t rule o from (j + 1)
+      pub picks-more : r .found ≡ false → PicksPassed marks t rule o from (j + 1)
       unfolding PicksPassed Settled
       picks-more f kind k pick op a b = ⊎-elim (λ x. x) (λ x. absurd (subst T (sym (x .0) ∙ f) tt)) (up-to kind k pick op a b)
 
       -- one is worth a trial
-      pub picks-found : r .found ≡ true → j < 64 → NextPick t rule o from (record { found = true; next = j + 1; step = r .step })
+      pub picks-found : r .found ≡ true → j < 64 → NextPick marks t rule o from (record { found = true; next = j + 1; step = r .step })
       unfolding Settled
       picks-found f h = record {
         all = λ kind k pick op a b. ⊎-elim inl (λ x. inr (refl, x .1)) (up-to kind k pick op a b);
@@ -164,7 +187,7 @@ module _ (t : Term) (rule : ℕ) (o : Opening) (from : ℕ) where
       }
 
     -- none is
-    pub picks-end : (s : Step) → Counted (s .m) → 2 ^ ruleLetters rule ≤ j → from < 64 → NextPick t rule o from (record { found = false; next = 64; step = s })
+    pub picks-end : (s : Step) → Counted (s .m) → 2 ^ ruleLetters rule ≤ j → from < 64 → NextPick marks t rule o from (record { found = false; next = 64; step = s })
     unfolding PicksPassed Settled Hopeless
     picks-end s c e h = record {
       all = λ kind k pick op a b. inl (go kind k pick op a (ltb pick j) refl);
@@ -174,15 +197,15 @@ module _ (t : Term) (rule : ℕ) (o : Opening) (from : ℕ) where
       whole = λ e. refl;
     }
       where
-        go : (kind k pick : ℕ) → Opened kind t k rule o → from ≤ pick → (x : Bool) → ltb pick j ≡ x → Hopeless kind (termOf t) k rule pick
+        go : (kind k pick : ℕ) → Opened kind t k rule o → from ≤ pick → (x : Bool) → ltb pick j ≡ x → Hopeless marks kind (termOf t) k rule pick
         go kind k pick op a true q = w kind k pick op a (ltb-true pick j q)
         go kind k pick op a false q = λ hk hj. absurd (N.lt-irrefl pick (omega (arith, ltb-false pick j q, hj, e)))
 
 -- ════ one place after the other
 
 -- there is nothing to hope for from those passed
-unfoldable pub PlacesPassed : (kind : ℕ) (t : S.Term) (from at : ℕ) → Type 0
-PlacesPassed kind t from at = (p : ℕ) → from ≤ p → p < at → Hopeless kind t (maskOf p) (ruleOf p) (pickOf p)
+unfoldable pub PlacesPassed : (marks : List ℕ) (kind : ℕ) (t : S.Term) (from at : ℕ) → Type 0
+PlacesPassed marks kind t from at = (p : ℕ) → from ≤ p → p < at → Hopeless marks kind t (maskOf p) (ruleOf p) (pickOf p)
 
 -- a place has a rule
 pub place-rule : (q : ℕ) → T (isRule (q % 5 + 1))
@@ -198,9 +221,9 @@ rule-there : (p q : ℕ) → p / 64 ≡ q → ruleOf p ≡ q % 5 + 1
 unfolding ruleOf
 rule-there p q e = ap (λ (n : ℕ). n % 5 + 1) e
 
-pub places-none : (kind : ℕ) (t : S.Term) (from : ℕ) → PlacesPassed kind t from from
+pub places-none : (marks : List ℕ) (kind : ℕ) (t : S.Term) (from : ℕ) → PlacesPassed marks kind t from from
 unfolding PlacesPassed
-places-none kind t from p a b = absurd (N.lt-irrefl from (omega arith))
+places-none marks kind t from p a b = absurd (N.lt-irrefl from (omega arith))
 
 -- what holds of the places before one and of the picks of its opening holds of all up to the next
 pub by-opening : (P : (mask rule pick : ℕ) → Type 0) (from at q next : ℕ) → at / 64 ≡ q → next ≤ (q + 1) * 64
@@ -217,11 +240,11 @@ by-opening P from at q next eq h before f p a b = go (ltb p at) refl
         let inside : q * 64 + p % 64 < next = omega arith in
         subst (λ (k : ℕ). P k (ruleOf p) (p % 64)) (sym (mask-there p q same)) (subst (λ (r : ℕ). P (q / 5) r (p % 64)) (sym (rule-there p q same)) (f (p % 64) pick inside))
 
-module _ (kind : ℕ) (t : Term) (from at q : ℕ) (w : PlacesPassed kind (termOf t) from at) (eq : at / 64 ≡ q) where
+module _ (marks : List ℕ) (kind : ℕ) (t : Term) (from at q : ℕ) (w : PlacesPassed marks kind (termOf t) from at) (eq : at / 64 ≡ q) where
   -- the mask and the rule leave nothing
-  pub places-shut : (o : Opening) (b : Bool) → OpenedBy b kind t (q / 5) (q % 5 + 1) o → b ≡ false → PlacesPassed kind (termOf t) from ((q + 1) * 64)
+  pub places-shut : (o : Opening) (b : Bool) → OpenedBy b kind t (q / 5) (q % 5 + 1) o → b ≡ false → PlacesPassed marks kind (termOf t) from ((q + 1) * 64)
   unfolding PlacesPassed OpenedBy Shut Hopeless
-  places-shut o b v e = by-opening (Hopeless kind (termOf t)) from at q ((q + 1) * 64) eq (omega arith) w (λ pick a i hk hj table f c g x known can ex h. absurd (shut table f pick c g x can h))
+  places-shut o b v e = by-opening (Hopeless marks kind (termOf t)) from at q ((q + 1) * 64) eq (omega arith) w (λ pick a i hk hj table f c g shape cover x known can ex h. absurd (shut table f pick c g x can h))
     where
       shut : Shut kind (termOf t) (q / 5) (q % 5 + 1)
       shut = subst (λ (b : Bool). OpenedBy b kind t (q / 5) (q % 5 + 1) o) e v
@@ -231,22 +254,22 @@ module _ (kind : ℕ) (t : Term) (from at q : ℕ) (w : PlacesPassed kind (termO
     unfolding OpenedBy
     opened-there = subst (λ (b : Bool). OpenedBy b kind t (q / 5) (q % 5 + 1) o) e v
 
-    module _ (r : Next) (n : NextPick t (q % 5 + 1) o (at % 64) r) where
+    module _ (r : Next) (n : NextPick marks t (q % 5 + 1) o (at % 64) r) where
       -- no pick is worth a trial
-      pub places-passed : r .found ≡ false → PlacesPassed kind (termOf t) from ((q + 1) * 64)
+      pub places-passed : r .found ≡ false → PlacesPassed marks kind (termOf t) from ((q + 1) * 64)
       unfolding PlacesPassed Settled
       places-passed f =
-          by-opening (Hopeless kind (termOf t)) from at q ((q + 1) * 64) eq (omega arith) w
+          by-opening (Hopeless marks kind (termOf t)) from at q ((q + 1) * 64) eq (omega arith) w
           (λ pick a i. ⊎-elim (λ x. x) (λ x. absurd (subst T (sym (x .0) ∙ f) tt)) (n .all kind (q / 5) pick opened-there a (inside pick i)))
         where
           inside : (pick : ℕ) → q * 64 + pick < (q + 1) * 64 → pick < r .next
           inside pick i = omega (arith, n .whole f)
 
       -- one is
-      pub places-found : from ≤ at → at < 40960 → r .found ≡ true → NextPlace kind (termOf t) from (record { found = true; next = q * 64 + r .next; step = r .step })
+      pub places-found : from ≤ at → at < 40960 → r .found ≡ true → NextPlace marks kind (termOf t) from (record { found = true; next = q * 64 + r .next; step = r .step })
       unfolding PlacesPassed Settled
       places-found h k f = record {
-        all = by-opening (λ m u j. Settled kind (termOf t) m u j true (r .step)) from at q (q * 64 + r .next) eq (omega (arith, n .inside)) (λ p a i. inl (w p a i))
+        all = by-opening (λ m u j. Settled marks kind (termOf t) m u j true (r .step)) from at q (q * 64 + r .next) eq (omega (arith, n .inside)) (λ p a i. inl (w p a i))
             (λ pick a i. ⊎-elim inl (λ x. inr (refl, x .1)) (n .all kind (q / 5) pick opened-there a (inside pick i)));
         counted = n .counted;
         forward = omega (arith, n .forward);
@@ -257,17 +280,17 @@ module _ (kind : ℕ) (t : Term) (from at q : ℕ) (w : PlacesPassed kind (termO
           inside pick i = omega arith
 
 -- all places passed
-pub places-end : (kind : ℕ) (t : Term) (from at end : ℕ) (s : Step) → Counted (s .m) → PlacesPassed kind (termOf t) from at → length (termOf t .factors) ≡ t .«factor_count» → end ≡ 320 * 2 ^ t .«factor_count»
-    → end ≤ at → from < 40960 → NextPlace kind (termOf t) from (record { found = false; next = 40960; step = s })
+pub places-end : (marks : List ℕ) (kind : ℕ) (t : Term) (from at end : ℕ) (s : Step) → Counted (s .m) → PlacesPassed marks kind (termOf t) from at → length (termOf t .factors) ≡ t .«factor_count» → end ≡ 320 * 2 ^ t .«factor_count»
+    → end ≤ at → from < 40960 → NextPlace marks kind (termOf t) from (record { found = false; next = 40960; step = s })
 unfolding PlacesPassed Settled Hopeless maskOf
-places-end kind t from at end s counted w long e h g = record {
+places-end marks kind t from at end s counted w long e h g = record {
   all = λ p a b. inl (go p a (ltb p at) refl);
   counted = counted;
   forward = g;
   inside = omega arith;
 }
   where
-    go : (p : ℕ) → from ≤ p → (x : Bool) → ltb p at ≡ x → Hopeless kind (termOf t) (p / 320) (ruleOf p) (pickOf p)
+    go : (p : ℕ) → from ≤ p → (x : Bool) → ltb p at ≡ x → Hopeless marks kind (termOf t) (p / 320) (ruleOf p) (pickOf p)
     go p a true q = w p a (ltb-true p at q)
     go p a false q = λ hk hj. absurd (N.lt-irrefl p (omega (arith, ltb-false p at q, subst (λ (n : ℕ). p / 320 < 2 ^ n) long hk, e, h)))
 

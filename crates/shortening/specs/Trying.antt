@@ -11,6 +11,7 @@ use Rattle.specification.specs.Results.{given}
 use Rattle.specification.specs.Terms as S
 use Rattle.specification.specs.Rules.{ruleLetters, stepAt}
 use Rattle.theory.specs.Order.{monomial}
+use Rattle.theory.specs.Shape.Forms.{FormInShape}
 use Rattle.theory.specs.Shape.Letters.{MonomialKnown}
 use Rattle.theory.specs.Shortening.Candidates.{candidate, gain, isCandidate}
 use Rattle.terms.specs.declared.types.Term.{Term}
@@ -21,15 +22,16 @@ use Rattle.shortening.specs.declared.choosing.Opening.{Opening}
 use Rattle.shortening.specs.declared.trying.Trial.{Trial}
 use Rattle.shortening.specs.declared.trying.Next.{Next}
 use Rattle.shortening.specs.Choosing.{Opened}
+use Rattle.shortening.specs.Marks.{Covering}
 
 -- ════ one candidate
 
--- at every form of the kind, with the term's letters in the table, the candidate whose M takes the term away exactly is no admissible step to fewer terms
-unfoldable pub Hopeless : (kind : ℕ) (t : S.Term) (mask rule pick : ℕ) → Type 0
-Hopeless kind t k r j =
+-- at every form of the kind whose terms the marks cover, with the term's letters in the table, the candidate whose M takes the term away exactly is no admissible step to fewer terms
+unfoldable pub Hopeless : (marks : List ℕ) (kind : ℕ) (t : S.Term) (mask rule pick : ℕ) → Type 0
+Hopeless marks kind t k r j =
     k < 2 ^ length (t .factors) → j < 2 ^ ruleLetters r
     → (table : List ℕ) (f : S.Form) (c : ℤ) (reached : S.Form)
-    → f .kind ≡ kind → MonomialKnown table (monomial t) → T (isCandidate t k r j) → c *ℤ gain t k r j ≡ negℤ (t .coef) → stepAt table f (candidate t k r j c) ≡ given reached
+    → FormInShape f → Covering marks (f .terms) → f .kind ≡ kind → MonomialKnown table (monomial t) → T (isCandidate t k r j) → c *ℤ gain t k r j ≡ negℤ (t .coef) → stepAt table f (candidate t k r j c) ≡ given reached
     → length (f .terms) ≤ length (reached .terms)
 
 -- the candidate is this step and no other
@@ -37,8 +39,8 @@ unfoldable pub OnlyStep : (t : S.Term) (mask rule pick : ℕ) (s : Step) → Typ
 OnlyStep t k r j s = (c : ℤ) → T (isCandidate t k r j) → c *ℤ gain t k r j ≡ negℤ (t .coef) → candidate t k r j c ≡ stepOf s
 
 -- nothing to hope for, or it is the step found
-unfoldable pub Settled : (kind : ℕ) (t : S.Term) (mask rule pick : ℕ) (found : Bool) (s : Step) → Type 0
-Settled kind t k r j found s = Hopeless kind t k r j ⊎ ((found ≡ true) × OnlyStep t k r j s)
+unfoldable pub Settled : (marks : List ℕ) (kind : ℕ) (t : S.Term) (mask rule pick : ℕ) (found : Bool) (s : Step) → Type 0
+Settled marks kind t k r j found s = Hopeless marks kind t k r j ⊎ ((found ≡ true) × OnlyStep t k r j s)
 
 -- an opening of some kind of form and some mask
 pub record SomeOpened (t : Term) (rule : ℕ) (o : Opening) : Type 0 where
@@ -47,15 +49,15 @@ pub record SomeOpened (t : Term) (rule : ℕ) (o : Opening) : Type 0 where
   pub opened : Opened kind t mask rule o
 
 -- what trying a pick gives
-pub record Tried (t : Term) (rule : ℕ) (o : Opening) (pick : ℕ) (r : Trial) : Type 0 where
-  pub is : (kind mask : ℕ) → Opened kind t mask rule o → Settled kind (termOf t) mask rule pick (r .found) (r .step)
+pub record Tried (marks : List ℕ) (t : Term) (rule : ℕ) (o : Opening) (pick : ℕ) (r : Trial) : Type 0 where
+  pub is : (kind mask : ℕ) → Opened kind t mask rule o → Settled marks kind (termOf t) mask rule pick (r .found) (r .step)
   pub counted : Counted (r .step .m)
 
 -- ════ the next
 
 -- all picks from one on, before the next
-pub record NextPick (t : Term) (rule : ℕ) (o : Opening) (from : ℕ) (r : Next) : Type 0 where
-  pub all : (kind mask pick : ℕ) → Opened kind t mask rule o → from ≤ pick → pick < r .next → Settled kind (termOf t) mask rule pick (r .found) (r .step)
+pub record NextPick (marks : List ℕ) (t : Term) (rule : ℕ) (o : Opening) (from : ℕ) (r : Next) : Type 0 where
+  pub all : (kind mask pick : ℕ) → Opened kind t mask rule o → from ≤ pick → pick < r .next → Settled marks kind (termOf t) mask rule pick (r .found) (r .step)
   pub counted : Counted (r .step .m)
   pub forward : from < r .next
   pub inside : r .next ≤ 64
@@ -72,8 +74,8 @@ unfoldable pub pickOf : (place : ℕ) → ℕ
 pickOf p = p % 64
 
 -- all places from one on, before the next; 128 masks have 40960 places
-pub record NextPlace (kind : ℕ) (t : S.Term) (from : ℕ) (r : Next) : Type 0 where
-  pub all : (p : ℕ) → from ≤ p → p < r .next → Settled kind t (maskOf p) (ruleOf p) (pickOf p) (r .found) (r .step)
+pub record NextPlace (marks : List ℕ) (kind : ℕ) (t : S.Term) (from : ℕ) (r : Next) : Type 0 where
+  pub all : (p : ℕ) → from ≤ p → p < r .next → Settled marks kind t (maskOf p) (ruleOf p) (pickOf p) (r .found) (r .step)
   pub counted : Counted (r .step .m)
   pub forward : from < r .next
   pub inside : r .next ≤ 40960

@@ -2,6 +2,7 @@
 ghost use Prim.Native.Nat.{_≤_};
 ghost use Rattle.terms.specs.Valid.{FormValid};
 ghost use Rattle.shortening.specs.Searching.{SearchedBy};
+use crate::marks::mark_form;
 use crate::trying::next_candidate;
 use crate::trying::no_step;
 use rules::admissible::step_at;
@@ -23,12 +24,13 @@ pub fn search(table: &[u8], f: Form, first: usize) -> Found
 {
     let n = f.count;
     let kind = f.kind;
+    let marks = mark_form(f);
     let end = n * 40960;
     let mut at = first * 40960;
     while at < end {
         let i = at / 40960;
         let t = f.terms[i];
-        let c = next_candidate(kind, t, at % 40960);
+        let c = next_candidate(&marks, kind, t, at % 40960);
         at = i * 40960 + c.next;
         if c.found {
             let s = c.step;

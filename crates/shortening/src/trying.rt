@@ -19,6 +19,7 @@ use crate::choosing::letters_left;
 use crate::choosing::mask_count;
 use crate::choosing::open;
 use crate::choosing::pick;
+use crate::marks::surely_longer;
 use gathering::are_like;
 use integers::add;
 use integers::divide;
@@ -81,9 +82,9 @@ fn with_coef(c: i64, t: Term) -> Term
 }
 
 // The candidate by a pick: its M takes the term away exactly.
-fn try_pick(t: Term, rule: u8, o: Opening, j: usize) -> Trial
-    requires { ⌜ TermValid t × T (isRule rule) × SomeOpened t rule o × (j < 2 ^ ruleLetters rule) ⌝ }
-    ensures { λ r. ⌜ Tried t rule o j r ⌝ }
+fn try_pick(marks: &[u8; 256], t: Term, rule: u8, o: Opening, j: usize) -> Trial
+    requires { ⌜ (length (now marks) ≡ 256) × TermValid t × T (isRule rule) × SomeOpened t rule o × (j < 2 ^ ruleLetters rule) ⌝ }
+    ensures { λ r. ⌜ Tried (now (marks .entry)) t rule o j r ⌝ }
 {
     let m = o.m;
     let p = pick(&o.pool, rule, j);
@@ -94,6 +95,12 @@ fn try_pick(t: Term, rule: u8, o: Opening, j: usize) -> Trial
         m: m,
     };
     if !p.fits {
+        return Trial {
+            found: false,
+            step: s,
+        };
+    }
+    if surely_longer(marks, s) {
         return Trial {
             found: false,
             step: s,
@@ -133,14 +140,14 @@ pub fn no_step() -> Step
 }
 
 // The next pick of an opening that is worth a trial.
-fn next_pick(t: Term, rule: u8, o: Opening, from: usize) -> Next
-    requires { ⌜ TermValid t × T (isRule rule) × SomeOpened t rule o × (from < 64) ⌝ }
-    ensures { λ r. ⌜ NextPick t rule o from r ⌝ }
+fn next_pick(marks: &[u8; 256], t: Term, rule: u8, o: Opening, from: usize) -> Next
+    requires { ⌜ (length (now marks) ≡ 256) × TermValid t × T (isRule rule) × SomeOpened t rule o × (from < 64) ⌝ }
+    ensures { λ r. ⌜ NextPick (now (marks .entry)) t rule o from r ⌝ }
 {
     let end = mask_count(rule_letters(rule) as u8);
     let mut j = from;
     while j < end {
-        let r = try_pick(t, rule, o, j);
+        let r = try_pick(marks, t, rule, o, j);
         j += 1;
         if r.found {
             let s = r.step;
@@ -170,9 +177,9 @@ fn rule_part(rule: u8, p: Part) -> usize
 }
 
 // The next candidate of a term that is worth a trial.
-pub fn next_candidate(kind: u8, t: Term, from: usize) -> Next
-    requires { ⌜ TermValid t × (from < 40960) ⌝ }
-    ensures { λ r. ⌜ NextPlace kind (termOf t) from r ⌝ }
+pub fn next_candidate(marks: &[u8; 256], kind: u8, t: Term, from: usize) -> Next
+    requires { ⌜ (length (now marks) ≡ 256) × TermValid t × (from < 40960) ⌝ }
+    ensures { λ r. ⌜ NextPlace (now (marks .entry)) kind (termOf t) from r ⌝ }
 {
     let end = 320 * mask_count(t.factor_count);
     let p = t.part;
@@ -192,7 +199,7 @@ pub fn next_candidate(kind: u8, t: Term, from: usize) -> Next
         }
         let o = open(kind, t, k, rule);
         if o.fits {
-            let r = next_pick(t, rule, o, at % 64);
+            let r = next_pick(marks, t, rule, o, at % 64);
             if r.found {
                 let s = r.step;
                 let next = q * 64 + r.next;

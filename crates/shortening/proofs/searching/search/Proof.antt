@@ -12,10 +12,10 @@ use Rattle.specification.specs.Terms as S
 use Rattle.shortening.specs.Searching.{SearchedBy}
 
 abbrev Inv-loop : tie.InvT-loop
-Inv-loop table first f n kind end at₀ at = RowPassed table (formOf f) first at
+Inv-loop table first f n kind marks end at₀ at = RowPassed table (formOf f) first at
 
 abbrev μ-loop : tie.MeasureT-loop
-μ-loop table first f n kind end at₀ at = end - at
+μ-loop table first f n kind marks end at₀ at = end - at
 
 places : (c : tie.Start Inv-loop μ-loop) → length (c .args .t2 .terms) ≡ 48
 places c = sym (length-map (c .args .t2 .terms) _) ∙ c .good .1 .0 .1 .1 .1 .1 .0 .1 .0 .1
@@ -23,74 +23,80 @@ places c = sym (length-map (c .args .t2 .terms) _) ∙ c .good .1 .0 .1 .1 .1 .1
 reached-places : (c : tie.After-step-at Inv-loop μ-loop) → length (c .step-at .result .form .terms) ≡ 48
 reached-places c = sym (length-map (c .step-at .result .form .terms) _) ∙ c .step-at .ok .1 .1 .1 .0 .1 .1 .1 .1 .0 .1 .0 .1
 
+mark-form-requires : tie.Need-mark-form-requires Inv-loop μ-loop
+mark-form-requires c κs = c .before .pre .0
+
 mul-end : tie.Need-mul-end Inv-loop μ-loop
-mul-end c = omega (arith, c .before .pre .0 .few)
+mul-end c = omega (arith, c .before .before .pre .0 .few)
 
 mul-at : tie.Need-mul-at Inv-loop μ-loop
-mul-at c = omega (arith, c .before .pre .1)
+mul-at c = omega (arith, c .before .before .pre .1)
 
 loop-holds : tie.Need-loop-holds Inv-loop μ-loop
 loop-holds c = row-none _ _ _
 
 mul-t : tie.Need-mul-t Inv-loop μ-loop
-mul-t c = omega (arith, c .before .before .before .pre .0 .few, c .loop-test .taken)
+mul-t c = omega (arith, c .before .before .before .before .pre .0 .few, c .loop-test .taken)
 
 element-copy-out-t : tie.Need-element-copy-out-t Inv-loop μ-loop
-element-copy-out-t c = omega (arith, c .before .before .before .pre .0 .few, c .loop-test .taken)
+element-copy-out-t c = omega (arith, c .before .before .before .before .pre .0 .few, c .loop-test .taken)
 
 next-candidate-requires : tie.Need-next-candidate-requires Inv-loop μ-loop
-next-candidate-requires c κs = let w = c .before .before .before .before in (term-valid (w .args .t2) (w .pre .0) (places w) (c .before .before .loop .at / 40960) (omega (arith, c .before .loop-test .taken)), omega arith)
+next-candidate-requires c κs = let w = c .before .before .before .before .before .before in (c .before .before .before .before .mark-form .ensures .1, term-valid (w .args .t2) (w .pre .0) (places w) (c .before .before .before .loop .at / 40960) (omega (arith, c .before .before .loop-test .taken)), omega arith)
 
 mul-at-2 : tie.Need-mul-at-2 Inv-loop μ-loop
-mul-at-2 c = omega (arith, c .before .before .before .before .before .pre .0 .few, c .before .before .loop-test .taken)
+mul-at-2 c = omega (arith, c .before .before .before .before .before .before .before .pre .0 .few, c .before .before .before .loop-test .taken)
 
 add-at : tie.Need-add-at Inv-loop μ-loop
-add-at c = omega (arith, c .before .before .before .before .before .before .pre .0 .few, c .before .before .before .loop-test .taken, c .before .next-candidate .ensures .inside)
+add-at c = omega (arith, c .before .before .before .before .before .before .before .before .pre .0 .few, c .before .before .before .before .loop-test .taken, c .before .next-candidate .ensures .inside)
 
 step-at-requires : tie.Need-step-at-requires Inv-loop μ-loop
-step-at-requires c κs = (c .before .before .before .before .before .before .before .before .pre .0, c .before .before .before .next-candidate .ensures .counted)
+step-at-requires c κs = (c .before .before .before .before .before .before .before .before .before .before .pre .0, c .before .before .before .next-candidate .ensures .counted)
 
 returns : tie.Need-returns Inv-loop μ-loop
 unfolding SearchedBy
-returns c = let w = c .before .before .before .before .before .before .before .before .before .before .before .before .before .before in shorter (now (w .args .table)) (w .args .t2) (w .pre .0) (places w) _ _ (c .before .before .before .before .before .step-at .ensures) (c .before .before .if2 .taken) (reached-places (c .before .before .before .before .before)) (c .if3 .taken) (c .before .before .before .before .before .before .before .before .before .next-candidate .ensures .counted) _ (omega (arith, w .pre .0 .few, c .before .before .before .before .before .before .before .before .before .before .before .loop-test .taken))
+returns c = let w = c .before .before .before .before .before .before .before .before .before .before .before .before .before .before .before .before in shorter (now (w .args .table)) (w .args .t2) (w .pre .0) (places w) _ _ (c .before .before .before .before .before .step-at .ensures) (c .before .before .if2 .taken) (reached-places (c .before .before .before .before .before)) (c .if3 .taken) (c .before .before .before .before .before .before .before .before .before .next-candidate .ensures .counted) _ (omega (arith, w .pre .0 .few, c .before .before .before .before .before .before .before .before .before .before .before .before .loop-test .taken))
 
 loop-less : tie.Need-loop-less Inv-loop μ-loop
-loop-less c = let n = c .before .before .before .before .before .before .before .before .before .next-candidate .ensures in let v = c .before .before .before .before .before .before .before .before .before .before .before .before .loop in omega (arith, c .before .before .before .before .before .before .before .before .before .before .before .loop-test .taken, n .forward, n .inside)
+loop-less c = let n = c .before .before .before .before .before .before .before .before .before .next-candidate .ensures in let v = c .before .before .before .before .before .before .before .before .before .before .before .before .before .loop in omega (arith, c .before .before .before .before .before .before .before .before .before .before .before .before .loop-test .taken, n .forward, n .inside)
 
 loop-again : tie.Need-loop-again Inv-loop μ-loop
 unfolding formOf
-loop-again c = let w = c .before .before .before .before .before .before .before .before .before .before .before .before .before .before in
+loop-again c = let w = c .before .before .before .before .before .before .before .before .before .before .before .before .before .before .before .before in
     let f = w .args .t2 in
-    let v = c .before .before .before .before .before .before .before .before .before .before .before .before .loop in
-    let inside : v .at / 40960 < f .count = omega (arith, c .before .before .before .before .before .before .before .before .before .before .before .loop-test .taken) in
-    row-more (now (w .args .table)) (formOf f) (w .args .first) (v .at) (v .at / 40960) (c .before .before .before .before .before .before .before .before .before .next-candidate .result) refl (v .inv)
-    (subst (λ (t : S.Term). NextPlace (f .kind) t (v .at % 40960) (c .before .before .before .before .before .before .before .before .before .next-candidate .result)) (term-is f (w .pre .0) (places w) (v .at / 40960) inside) (c .before .before .before .before .before .before .before .before .before .next-candidate .ensures))
+    let v = c .before .before .before .before .before .before .before .before .before .before .before .before .before .loop in
+    let marks = c .before .before .before .before .before .before .before .before .before .before .before .before .before .before .mark-form .result in
+    let inside : v .at / 40960 < f .count = omega (arith, c .before .before .before .before .before .before .before .before .before .before .before .before .loop-test .taken) in
+    row-more marks (now (w .args .table)) (formOf f) (w .args .first) (v .at) (v .at / 40960) (c .before .before .before .before .before .before .before .before .before .next-candidate .result) (w .pre .0 .inShape) (c .before .before .before .before .before .before .before .before .before .before .before .before .before .before .mark-form .ensures .0) refl (v .inv)
+    (subst (λ (t : S.Term). NextPlace marks (f .kind) t (v .at % 40960) (c .before .before .before .before .before .before .before .before .before .next-candidate .result)) (term-is f (w .pre .0) (places w) (v .at / 40960) inside) (c .before .before .before .before .before .before .before .before .before .next-candidate .ensures))
     (long-useless (now (w .args .table)) f (w .pre .0) (places w) _ _ (c .before .before .before .before .before .step-at .ensures) (c .before .before .if2 .taken) (reached-places (c .before .before .before .before .before)) _ (c .if3 .left))
 
 loop-less-2 : tie.Need-loop-less-2 Inv-loop μ-loop
-loop-less-2 c = let n = c .before .before .before .before .before .before .before .next-candidate .ensures in let v = c .before .before .before .before .before .before .before .before .before .before .loop in omega (arith, c .before .before .before .before .before .before .before .before .before .loop-test .taken, n .forward, n .inside)
+loop-less-2 c = let n = c .before .before .before .before .before .before .before .next-candidate .ensures in let v = c .before .before .before .before .before .before .before .before .before .before .before .loop in omega (arith, c .before .before .before .before .before .before .before .before .before .before .loop-test .taken, n .forward, n .inside)
 
 loop-again-2 : tie.Need-loop-again-2 Inv-loop μ-loop
 unfolding formOf
-loop-again-2 c = let w = c .before .before .before .before .before .before .before .before .before .before .before .before in
+loop-again-2 c = let w = c .before .before .before .before .before .before .before .before .before .before .before .before .before .before in
     let f = w .args .t2 in
-    let v = c .before .before .before .before .before .before .before .before .before .before .loop in
-    let inside : v .at / 40960 < f .count = omega (arith, c .before .before .before .before .before .before .before .before .before .loop-test .taken) in
-    row-more (now (w .args .table)) (formOf f) (w .args .first) (v .at) (v .at / 40960) (c .before .before .before .before .before .before .before .next-candidate .result) refl (v .inv)
-    (subst (λ (t : S.Term). NextPlace (f .kind) t (v .at % 40960) (c .before .before .before .before .before .before .before .next-candidate .result)) (term-is f (w .pre .0) (places w) (v .at / 40960) inside) (c .before .before .before .before .before .before .before .next-candidate .ensures))
+    let v = c .before .before .before .before .before .before .before .before .before .before .before .loop in
+    let marks = c .before .before .before .before .before .before .before .before .before .before .before .before .mark-form .result in
+    let inside : v .at / 40960 < f .count = omega (arith, c .before .before .before .before .before .before .before .before .before .before .loop-test .taken) in
+    row-more marks (now (w .args .table)) (formOf f) (w .args .first) (v .at) (v .at / 40960) (c .before .before .before .before .before .before .before .next-candidate .result) (w .pre .0 .inShape) (c .before .before .before .before .before .before .before .before .before .before .before .before .mark-form .ensures .0) refl (v .inv)
+    (subst (λ (t : S.Term). NextPlace marks (f .kind) t (v .at % 40960) (c .before .before .before .before .before .before .before .next-candidate .result)) (term-is f (w .pre .0) (places w) (v .at / 40960) inside) (c .before .before .before .before .before .before .before .next-candidate .ensures))
     (refused-useless (now (w .args .table)) f (w .pre .0) (places w) _ _ (c .before .before .before .step-at .ensures) _ (c .if2 .left))
 
 loop-less-3 : tie.Need-loop-less-3 Inv-loop μ-loop
-loop-less-3 c = let n = c .before .before .next-candidate .ensures in let v = c .before .before .before .before .before .loop in omega (arith, c .before .before .before .before .loop-test .taken, n .forward, n .inside)
+loop-less-3 c = let n = c .before .before .next-candidate .ensures in let v = c .before .before .before .before .before .before .loop in omega (arith, c .before .before .before .before .before .loop-test .taken, n .forward, n .inside)
 
 loop-again-3 : tie.Need-loop-again-3 Inv-loop μ-loop
 unfolding formOf
-loop-again-3 c = let w = c .before .before .before .before .before .before .before in
+loop-again-3 c = let w = c .before .before .before .before .before .before .before .before .before in
     let f = w .args .t2 in
-    let v = c .before .before .before .before .before .loop in
-    let inside : v .at / 40960 < f .count = omega (arith, c .before .before .before .before .loop-test .taken) in
-    row-more (now (w .args .table)) (formOf f) (w .args .first) (v .at) (v .at / 40960) (c .before .before .next-candidate .result) refl (v .inv)
-    (subst (λ (t : S.Term). NextPlace (f .kind) t (v .at % 40960) (c .before .before .next-candidate .result)) (term-is f (w .pre .0) (places w) (v .at / 40960) inside) (c .before .before .next-candidate .ensures))
+    let v = c .before .before .before .before .before .before .loop in
+    let marks = c .before .before .before .before .before .before .before .mark-form .result in
+    let inside : v .at / 40960 < f .count = omega (arith, c .before .before .before .before .before .loop-test .taken) in
+    row-more marks (now (w .args .table)) (formOf f) (w .args .first) (v .at) (v .at / 40960) (c .before .before .next-candidate .result) (w .pre .0 .inShape) (c .before .before .before .before .before .before .before .mark-form .ensures .0) refl (v .inv)
+    (subst (λ (t : S.Term). NextPlace marks (f .kind) t (v .at % 40960) (c .before .before .next-candidate .result)) (term-is f (w .pre .0) (places w) (v .at / 40960) inside) (c .before .before .next-candidate .ensures))
     (not-found (now (w .args .table)) (formOf f) _ _ (c .if1 .left))
 
 no-step-requires : tie.Need-no-step-requires Inv-loop μ-loop
@@ -98,7 +104,7 @@ no-step-requires c κs = tt
 
 returns-2 : tie.Need-returns-2 Inv-loop μ-loop
 unfolding SearchedBy
-returns-2 c = let w = c .before .before .before .before in row-searched (w .args .t2) (w .pre .0) (places w) (now (w .args .table)) (w .args .first) (c .before .before .loop .at) _ refl (c .before .loop-test .left) (c .before .before .loop .inv)
+returns-2 c = let w = c .before .before .before .before .before in row-searched (w .args .t2) (w .pre .0) (places w) (now (w .args .table)) (w .args .first) (c .before .before .loop .at) _ refl (c .before .loop-test .left) (c .before .before .loop .inv)
 
 pub search-spec : {M : Type 1} → statement M
 search-spec =
@@ -106,6 +112,7 @@ search-spec =
     (tie.spec
     Inv-loop
     μ-loop
+    mark-form-requires
     mul-end
     mul-at
     loop-holds
