@@ -54,6 +54,29 @@ def whole(table, expression):
     return bytes([len(table)]) + table + expression
 
 
+# The longest text: 48 terms, each a sign, ten digits, two scalar letters, two dots, a star and a wedge.
+LONGEST = whole(WIDE, times(total([wedged(letter(i), letter(j)) for i in range(6) for j in range(i + 1, 6)][:8]),
+                            times(constant(-2147483647), times(times(letter(12), dotted(letter(0), letter(1))), times(dotted(letter(2), letter(3)), total([letter(13 + i) for i in range(6)]))))))
+
+
+def refused(both):
+    """An input for each refusal that reduction gives, and both for 3 by length and for 9, if so."""
+    yield whole(SMALL, chain(16, A))                                   # 3, too deep
+    if both:
+        yield whole(SMALL, add(constant(0), constant(0)) + bytes(502))  # 3, too long
+    yield whole(SMALL, bytes(600))                                     # 3, beyond what is read
+    yield whole(SMALL, b"")                                            # 4
+    yield whole(SMALL, A + b"\x00")                                    # 4
+    yield whole(SMALL, letter(7))                                      # 5
+    yield whole(SMALL, add(A, E))                                      # 6
+    yield whole(WIDE, times(many(12, 7), many(0, 7)))                  # 7
+    yield whole(SMALL, times(FIVE, dotted(A, A)))                      # 8
+    yield whole(SMALL, times(constant(46341), constant(46341)))        # 9
+    if both:
+        yield whole(SMALL, constant(-2147483648))                      # 9
+    yield whole(WIDE, add(times(many(12, 6), many(0, 8)), A))          # 10
+
+
 def inputs():
     yield bytes.fromhex("03010101 08010008 01010102")
     # the table: missing, cut, empty, too long, of another kind
@@ -73,23 +96,9 @@ def inputs():
     # every line to try
     for table, x in lines_to_try():
         yield whole(table, x)
-    # each refusal that reduction gives
-    yield whole(SMALL, chain(16, A))                               # 3, too deep
-    yield whole(SMALL, add(constant(0), constant(0)) + bytes(502))  # 3, too long
-    yield whole(SMALL, bytes(600))                                 # 3, beyond what is read
-    yield whole(SMALL, b"")                                        # 4
-    yield whole(SMALL, A + b"\x00")                                # 4
-    yield whole(SMALL, letter(7))                                  # 5
-    yield whole(SMALL, add(A, E))                                  # 6
-    yield whole(WIDE, times(many(12, 7), many(0, 7)))              # 7
-    yield whole(SMALL, times(FIVE, dotted(A, A)))                  # 8
-    yield whole(SMALL, times(constant(46341), constant(46341)))    # 9
-    yield whole(SMALL, constant(-2147483648))                      # 9
-    yield whole(WIDE, add(times(many(12, 6), many(0, 8)), A))      # 10
+    yield from refused(True)
     yield whole(WIDE, times(many(12, 6), many(0, 8)))              # 48 terms
-    # the longest text: 48 terms, each a sign, ten digits, two scalar letters, two dots, a star and a wedge
-    yield whole(WIDE, times(total([wedged(letter(i), letter(j)) for i in range(6) for j in range(i + 1, 6)][:8]),
-                            times(constant(-2147483647), times(times(letter(12), dotted(letter(0), letter(1))), times(dotted(letter(2), letter(3)), total([letter(13 + i) for i in range(6)]))))))
+    yield LONGEST
 
 
 def main():

@@ -18,10 +18,10 @@ import pathlib
 import random
 
 from check_cases import LETTERS, reached, sides
-from printer_cases import name, text, whole
+from printer_cases import LONGEST, name, refused, text, whole
 from reduction_cases import (
-    A, B, C, D, E, F, FIVE, LIMIT, NOTHING, SMALL, WIDE, ZERO, Refused, add, chain, constant, demand, dotted, letter, lines_to_try, many, neg, read, record,
-    record_value, sub, terms_of, times, total, triple, wedged, work,
+    A, B, C, D, E, F, LIMIT, NOTHING, SMALL, ZERO, Refused, add, constant, demand, dotted, letter, lines_to_try, neg, read, record, record_value, sub,
+    terms_of, times, triple, wedged, work,
 )
 from shortening_cases import VECTORS, letters_of, lots, shorter, terms_of_letters, without
 
@@ -128,20 +128,8 @@ def inputs():
     # the table: missing, cut, empty, too long, of another kind
     for data in (b"", b"\x00", b"\x01", b"\x03\x01\x01", b"\x18" + bytes(23), b"\x19" + bytes(25) + A, b"\xff" * 600, b"\x01\x02" + A, b"\x02\x01\x01"):
         yield data
-    # each refusal that reduction gives
-    yield whole(SMALL, chain(16, A))                             # 3, too deep
-    yield whole(SMALL, bytes(600))                               # 3, beyond what is read
-    yield whole(SMALL, b"")                                      # 4
-    yield whole(SMALL, A + b"\x00")                              # 4
-    yield whole(SMALL, letter(7))                                # 5
-    yield whole(SMALL, add(A, E))                                # 6
-    yield whole(WIDE, times(many(12, 7), many(0, 7)))            # 7
-    yield whole(SMALL, times(FIVE, dotted(A, A)))                # 8
-    yield whole(SMALL, times(constant(46341), constant(46341)))  # 9
-    yield whole(WIDE, add(times(many(12, 6), many(0, 8)), A))    # 10
-    # the longest lines: 48 terms, each a sign, ten digits, two scalar letters, two dots, a star and a wedge
-    yield whole(WIDE, times(total([wedged(letter(i), letter(j)) for i in range(6) for j in range(i + 1, 6)][:8]),
-                            times(constant(-LIMIT), times(times(letter(12), dotted(letter(0), letter(1))), times(dotted(letter(2), letter(3)), total([letter(13 + i) for i in range(6)]))))))
+    yield from refused(False)
+    yield LONGEST
 
 
 def main():
