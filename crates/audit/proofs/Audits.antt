@@ -1,13 +1,13 @@
 -- Demand 3 at the calls: what the checker and the decision say of a log that shortening wrote, and of any log that is accepted. Assumes nothing.
 use mathlib.Core.Path.{_≡_, refl, sym, ap, subst, _∙_}
-use mathlib.Core.Bool.{Bool, true, false, _&&_}
+use mathlib.Core.Bool.{Bool, true, false}
 use mathlib.Core.List.{List}
 use Prim.Native.Nat.{ℕ, _<_, _≤_}
 use native.Mathlib.Omega.{arith}
 use borrow.Author.Tests.{le-leb, lt-leb}
-use lib.Dec.{T, leb}
+use lib.Dec.{T}
 use lib.ListN.{length, take, drop}
-use Rattle.specification.specs.Results.{Result, Test, refused, given, _>>_, require}
+use Rattle.specification.specs.Results.{Result, refused, given}
 use Rattle.specification.specs.Letters.{testTable}
 use Rattle.specification.specs.Terms.{Form}
 use Rattle.specification.specs.Logs.{accepted, checkCall}
@@ -42,16 +42,16 @@ accepted-places e = (cc, cc, cc)
 
 module _ (table log : List ℕ) (bytes : Bytes log) (steps : ℕ) (buffer work : List ℕ) (c : Checked) (called : checkedOf c ≡ checkCall table log) where
   -- a log that the checker refuses is not accepted
-  pub refused-audit : (m k : ℕ) (r : Bool) (buffer′ work′ : List ℕ) → c ≡ Refused m k → LogAudited table log steps buffer work r buffer′ work′
-  refused-audit m k r buffer′ work′ e = record { found = λ a b q hb hw. absurd (no a b q); decided = λ a b q hb hw. absurd (no a b q) }
+  pub refused-audit : (m k : ℕ) (buffer′ work′ : List ℕ) → c ≡ Refused m k → LogAudited table log steps buffer work false buffer′ work′
+  refused-audit m k buffer′ work′ e = record { found = λ a b q hb hw. absurd (no a b q); decided = λ a b q hb hw. absurd (no a b q); only = λ q. absurd (subst T (sym q) tt) }
     where
       no : (a b : ℕ) → checkCall table log ≡ accepted a b steps → ⊥
       no a b q = apart (sym e ∙ accepts-exactly table log c called a b steps .1 q)
 
   module _ (a b n : ℕ) (e : c ≡ Accepted a b n) where
     -- nor is one with other steps, with these
-    pub other-steps : (r : Bool) (buffer′ work′ : List ℕ) → (n ≡ steps → ⊥) → LogAudited table log steps buffer work r buffer′ work′
-    other-steps r buffer′ work′ h = record { found = λ a′ b′ q hb hw. absurd (no a′ b′ q); decided = λ a′ b′ q hb hw. absurd (no a′ b′ q) }
+    pub other-steps : (buffer′ work′ : List ℕ) → (n ≡ steps → ⊥) → LogAudited table log steps buffer work false buffer′ work′
+    other-steps buffer′ work′ h = record { found = λ a′ b′ q hb hw. absurd (no a′ b′ q); decided = λ a′ b′ q hb hw. absurd (no a′ b′ q); only = λ q. absurd (subst T (sym q) tt) }
       where
         no : (a′ b′ : ℕ) → checkCall table log ≡ accepted a′ b′ steps → ⊥
         no a′ b′ q = h (accepted-places (sym e ∙ accepts-exactly table log c called a′ b′ steps .1 q) .2)
@@ -66,6 +66,12 @@ module _ (table log : List ℕ) (bytes : Bytes log) (steps : ℕ) (buffer work :
           subst (λ (x : ℕ). Decided table (take x log) (drop b′ log) buffer work holds buffer′ work′) (p .0)
           (subst (λ (y : ℕ). Decided table (take a log) (drop y log) buffer work holds buffer′ work′) (p .1)
           (subst (λ (o : D.Decision). Decided table (take a log) (drop b log) buffer work o buffer′ work′) (holding hb hw) decided));
+      only = λ q. record {
+        firstEnd = a;
+        lastStart = b;
+        isAccepted = accepts-exactly table log c called a b n .0 e ∙ ap (accepted a b) same;
+        decided = subst (λ (o : D.Decision). Decided table (take a log) (drop b log) buffer work o buffer′ work′) (said .only q) decided;
+      };
     }
       where
         holding : 72 ≤ length buffer → 55296 ≤ length work → decisionOf d ≡ holds
@@ -80,10 +86,11 @@ decided-as table first last first′ last′ buffer work buffer′ work′ answe
 -- ════ the decision's answer
 
 pub holds-said : (d : Decision) → d ≡ decided.Holds → Said d true
-holds-said d e = record { is = λ q. refl }
+unfolding decisionOf
+holds-said d e = record { is = λ q. refl; only = λ q. ap decisionOf e }
 
-pub other-said : (d : Decision) (r : Bool) → (decisionOf d ≡ holds → ⊥) → Said d r
-other-said d r h = record { is = λ q. absurd (h q) }
+pub other-said : (d : Decision) → (decisionOf d ≡ holds → ⊥) → Said d false
+other-said d h = record { is = λ q. absurd (h q); only = λ q. absurd (subst T (sym q) tt) }
 
 pub differs-not : (d : Decision) → d ≡ decided.Differs → decisionOf d ≡ holds → ⊥
 unfolding decisionOf

@@ -16,14 +16,23 @@ use Rattle.decision.specs.Answers.{decisionOf}
 use Rattle.audit.specs.declared.Verdict.{Verdict}
 use Rattle.audit.specs.declared.Verdict.the-variants.{Agreed, Refused}
 
--- true of a decision that holds
+-- true of a decision that holds, and of no other
 pub record Said (d : Decision) (r : Bool) : Type 0 where
   pub is : decisionOf d ≡ holds → r ≡ true
+  pub only : r ≡ true → decisionOf d ≡ holds
 
--- an accepted log with as many steps: the audit of it finds that its ends hold
+-- a log that is accepted with so many steps and whose ends hold
+pub record EndsHold (table log : List ℕ) (steps : ℕ) (buffer work buffer′ work′ : List ℕ) : Type 0 where
+  pub firstEnd : ℕ
+  pub lastStart : ℕ
+  pub isAccepted : checkCall table log ≡ accepted firstEnd lastStart steps
+  pub decided : Decided table (take firstEnd log) (drop lastStart log) buffer work holds buffer′ work′
+
+-- the audit of a log finds it so where it is accepted with so many steps, and nowhere else
 pub record LogAudited (table log : List ℕ) (steps : ℕ) (buffer work : List ℕ) (r : Bool) (buffer′ work′ : List ℕ) : Type 0 where
   pub found : (a b : ℕ) → checkCall table log ≡ accepted a b steps → 72 ≤ length buffer → 55296 ≤ length work → r ≡ true
   pub decided : (a b : ℕ) → checkCall table log ≡ accepted a b steps → 72 ≤ length buffer → 55296 ≤ length work → Decided table (take a log) (drop b log) buffer work holds buffer′ work′
+  pub only : r ≡ true → EndsHold table log steps buffer work buffer′ work′
 
 -- the tests in their order: 1; 2 for any of the three memories; then shortening's of the contents
 unfoldable pub auditTested : (table form out buffer work : List ℕ) → Result Form

@@ -1,13 +1,12 @@
 -- What shortening answers, test by test. Assumes nothing.
-use mathlib.Core.Path.{_≡_, refl, sym, ap, subst, _∙_}
-use mathlib.Core.List.{List, map}
+use mathlib.Core.Path.{_≡_, refl, sym, subst, _∙_}
+use mathlib.Core.List.{List}
 use Prim.Native.Nat.{ℕ, _+_, _<_, _≤_}
 use native.Mathlib.Omega.{arith}
 use borrow.Author.Tests.{le-leb, lt-leb, eq-eqb, ne-eqb}
-use lib.Dec.{T}
 use lib.ListN.{length, length-map, take}
 use lib.Seq.{length-take-le}
-use Rattle.specification.specs.Results.{Result, Test, refused, given, _>>_}
+use Rattle.specification.specs.Results.{Result, refused, given, _>>_}
 use Rattle.specification.specs.Letters.{testTable}
 use Rattle.specification.specs.Terms as S
 use Rattle.specification.specs.Records.{readForm, takeForm, testTerms}
@@ -16,10 +15,8 @@ use Rattle.specification.specs.Shortening as H
 use Rattle.theory.specs.Tests.{given-same, bound, tested}
 use Rattle.theory.specs.Shape.Letters.{table-good}
 use Rattle.theory.specs.Records.Positions.{Bytes}
-use Rattle.theory.specs.Records.Logs.{writeLog}
 use Rattle.theory.specs.Replay.Accepted.{Derives}
 use Rattle.terms.specs.Abstraction.{formOf}
-use Rattle.terms.specs.Valid.{FormValid}
 use Rattle.records.specs.declared.take.Taken.{Taken}
 use Rattle.records.specs.Tested.{testOf}
 use Rattle.records.specs.Reading.{takenOf, FormTaken}

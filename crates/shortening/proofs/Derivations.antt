@@ -8,18 +8,16 @@ use lib.Dec.{T}
 use lib.ListN.{length, length-map, length-set, take, set}
 use lib.Seq.{length-take-le}
 use Rattle.specification.specs.Results.{Test, given, _>>=_, _>>_}
-use Rattle.specification.specs.Letters.{goodTable}
 use Rattle.specification.specs.Terms as S
 use Rattle.specification.specs.Records.{testTerms}
-use Rattle.specification.specs.Rules.{stepInShape, testStepLetters, takeStep, stepAt}
+use Rattle.specification.specs.Rules.{stepInShape, testStepLetters, takeStep}
 use Rattle.specification.specs.Rules as R
-use Rattle.specification.specs.Shortening.{Shortest}
 use Rattle.theory.specs.Elements.{All, all-append}
 use Rattle.theory.specs.Tests.{given-same, bound, tested}
 use Rattle.theory.specs.Shape.Letters.{AllKnown, terms-known, known-terms}
 use Rattle.theory.specs.Rules.Steps.{step-closes, step-admitted}
 use Rattle.theory.specs.Records.Logs.{StepsInShape}
-use Rattle.theory.specs.Replay.Accepted.{takeSteps, testSteps, Derives}
+use Rattle.theory.specs.Replay.Accepted.{takeSteps, testSteps}
 use Rattle.theory.specs.Replay.Ends.{steps-keep}
 use Rattle.theory.specs.Shortening.Completeness.{no-candidate-shortest}
 use Rattle.terms.specs.declared.types.Form.{Form}
@@ -29,9 +27,8 @@ use Rattle.terms.proofs.Arrays.{stored-behind, mapped-behind}
 use Rattle.rules.specs.declared.steps.Step.{Step}
 use Rattle.rules.specs.Steps.{stepOf, StepValid}
 use Rattle.shortening.specs.declared.searching.Found.{Found}
-use Rattle.shortening.specs.declared.writing.Derivation.{Derivation}
 use Rattle.shortening.specs.Searching.{Shorter, SearchedBy}
-use Rattle.shortening.specs.Writing.{stepsOf, DerivationValid}
+use Rattle.shortening.specs.Writing.{stepsOf}
 use Rattle.shortening.specs.Derived.{Derived}
 
 -- ════ one step more

@@ -12,19 +12,18 @@ use lib.ListN.{length, getD, take}
 use lib.Seq.{take-suc}
 use Rattle.algebra.specs.Integers as R
 use Rattle.specification.specs.Lists.{byOrder}
-use Rattle.specification.specs.Terms.{compareTerms, gather}
+use Rattle.specification.specs.Terms.{gather}
 use Rattle.specification.specs.Terms as S
 use Rattle.specification.specs.Rules.{stepTerms}
-use Rattle.theory.specs.Elements.{All}
-use Rattle.theory.specs.Order.{Monomial, monomial, compareMonomials, compareTerms-monomial}
+use Rattle.theory.specs.Order.{monomial, compareMonomials, compareTerms-monomial}
 use Rattle.theory.specs.Gathering.Weights.{weight, weigh, weigh-append}
 use Rattle.theory.specs.Gathering.Coefficients.{only, coeff}
 use Rattle.theory.specs.Gathering.Gathered.{gather-coefficient}
 use Rattle.terms.specs.declared.types.Term.{Term}
-use Rattle.terms.specs.Abstraction.{termOf, Counted}
+use Rattle.terms.specs.Abstraction.{termOf}
 use Rattle.terms.specs.Tidy.{Tidied}
 use Rattle.terms.proofs.Arrays.{mapped-behind}
-use Rattle.gathering.specs.Sums.{isLike, Bringable}
+use Rattle.gathering.specs.Sums.{isLike}
 use Rattle.rules.specs.declared.steps.Step.{Step}
 use Rattle.rules.specs.declared.steps.StepTerms.{StepTerms}
 use Rattle.rules.specs.Steps.{stepOf, StepAdds}

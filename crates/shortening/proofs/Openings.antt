@@ -11,21 +11,21 @@ use lib.IntN.{ℤ, pos}
 use lib.ListN.{length, take, length-map}
 use lib.Seq.{length-take-le}
 use Rattle.algebra.specs.Integers.{NonZero, pos-nonzero}
-use Rattle.specification.specs.Results.{Test, refused, given, _>>_, require, if_then_else_}
-use Rattle.specification.specs.Lists.{joined, ascend, order, sorted}
+use Rattle.specification.specs.Results.{Test, refused, given, require, if_then_else_}
+use Rattle.specification.specs.Lists.{joined, ascend, order}
 use Rattle.specification.specs.Letters.{vector}
-use Rattle.specification.specs.Terms.{termKind, withCoef, coefWithin, vectorLetters, within, termInShape, gather}
+use Rattle.specification.specs.Terms.{termKind, withCoef, coefWithin, vectorLetters, within, termInShape}
 use Rattle.specification.specs.Terms as S
-use Rattle.specification.specs.Rules.{ruleLetters, ruleKind, isRule, stepKindsFit, stepTerms, takeStep, stepAt}
+use Rattle.specification.specs.Rules.{ruleLetters, ruleKind, stepKindsFit, takeStep, stepAt}
 use Rattle.specification.specs.Rules as R
 use Rattle.theory.specs.Elements.{All}
 use Rattle.theory.specs.Tests.{and-split, required, passes, refused≢given}
 use Rattle.theory.specs.Reordering.{reordered-sorted, reordered-all}
 use Rattle.theory.specs.Sorting as O
-use Rattle.theory.specs.Shape.Terms.{TermShape, term-opens, term-closes}
-use Rattle.theory.specs.Rules.Steps.{Admitted, step-admitted}
+use Rattle.theory.specs.Shape.Terms.{term-opens, term-closes}
+use Rattle.theory.specs.Rules.Steps.{step-admitted}
 use Rattle.theory.specs.Shortening.Masks.{taken, leftOver}
-use Rattle.theory.specs.Shortening.Candidates.{blockSize, inRuleOrder, blockIsFirst, multiplier, pool, candidate, isCandidate}
+use Rattle.theory.specs.Shortening.Candidates.{blockSize, blockIsFirst, multiplier, pool, candidate, isCandidate}
 use Rattle.terms.specs.declared.types.Part.{Part}
 use Rattle.terms.specs.declared.types.Term.{Term}
 use Rattle.terms.specs.Numbers.{lettersOf}
@@ -34,8 +34,7 @@ use Rattle.records.specs.Tested.{testOf}
 use Rattle.records.proofs.LetterTests.{test-passed, test-refused}
 use Rattle.rules.specs.Steps.{stepTests}
 use Rattle.rules.proofs.Taking.{few-letters}
-use Rattle.shortening.specs.declared.choosing.Opening.{Opening}
-use Rattle.shortening.specs.Choosing.{MaskTaken, Pooled, Adds, lettersLeft, MultiplierOf, Shut, Passes, Fails, PassesBy, Opened, OpenedBy}
+use Rattle.shortening.specs.Choosing.{MaskTaken, Pooled, Adds, lettersLeft, MultiplierOf, Shut, Fails, PassesBy, OpenedBy}
 use Rattle.shortening.proofs.Masks.{taken-map, left-taken, taken-all}
 
 -- ════ the factors of a term by a mask

@@ -1,6 +1,6 @@
 -- The letters of a rule by a mask over the pool. Assumes nothing.
 use mathlib.Core.Path.{_≡_, refl, sym, ap, subst, _∙_}
-use mathlib.Core.Bool.{Bool, true, false, _&&_}
+use mathlib.Core.Bool.{Bool, true, false}
 use mathlib.Core.List.{List, [], _∷_, _++_}
 use Prim.Native.Nat.{ℕ, _+_, _-_, _%_, _^_, _<_, _≤_}
 use native.Mathlib.Omega.{arith}
@@ -12,7 +12,6 @@ use Rattle.specification.specs.Results.{if_then_else_}
 use Rattle.specification.specs.Lists.{ascend}
 use Rattle.specification.specs.Rules.{ruleLetters, isRule}
 use Rattle.theory.specs.Elements.{All}
-use Rattle.theory.specs.Tests.{and-false}
 use Rattle.theory.specs.Rules.Table.{by-rule}
 use Rattle.theory.specs.Shortening.Masks.{taken, leftOver}
 use Rattle.theory.specs.Shortening.Candidates.{blockSize, inRuleOrder, blockIsFirst}

@@ -1,13 +1,11 @@
 -- Letters brought into a pool, one after the other. Assumes nothing.
 use mathlib.Core.Path.{_≡_, refl, sym, ap, subst, _∙_}
-use mathlib.Core.Bool.{Bool, true, false}
 use mathlib.Core.List.{List, [], _∷_, _++_, map, append-assoc, append-nil}
 use Prim.Native.Nat.{ℕ, _+_, _-_, _/_, _%_, _<_, _≤_}
 use native.Mathlib.Omega.{arith}
 use borrow.Author.Tests.{lt-ltb, le-ltb}
-use lib.ListN.{length, getD, take, drop, length-append}
+use lib.ListN.{length, getD, take, drop}
 use Rattle.specification.specs.Lists.{joined, order, putInto, sorted}
-use Rattle.theory.specs.Elements.{All}
 use Rattle.terms.specs.Numbers.{lettersOf}
 use Rattle.terms.specs.Build.{Placed, PutAt}
 use Rattle.terms.proofs.Arrays.{rest-at, nothing-left}

@@ -2,25 +2,23 @@
 use mathlib.Core.Path.{_≡_, refl, sym, ap, subst, _∙_}
 use mathlib.Core.Bool.{Bool, true, false, not, _&&_}
 use mathlib.Core.List.{List, [], _∷_, _++_, map}
-use Prim.Native.Nat.{ℕ, zero, suc, _+_, _-_, _*_, _/_, _%_, _<_, _≤_}
+use Prim.Native.Nat.{ℕ, suc, _+_, _-_, _*_, _/_, _%_, _<_, _≤_}
 use native.Mathlib.Nat as N
 use native.Mathlib.Omega.{arith}
-use borrow.Author.Tests.{lt-ltb, le-ltb, ltb-true, ltb-false, eqb-true, eq-eqb, ne-eqb}
+use borrow.Author.Tests.{ltb-true, ltb-false, eq-eqb, ne-eqb}
 use lib.Dec.{T, eqb, ltb, eqb→eq}
-use lib.IntN.{ℤ}
 use lib.ListN.{length, length-append, getD, take, drop}
-use Rattle.specification.specs.Results.{given, if_then_else_}
-use Rattle.specification.specs.Lists.{joined, all, ascend, order, sorted}
+use Rattle.specification.specs.Results.{if_then_else_}
+use Rattle.specification.specs.Lists.{joined, all, ascend, order}
 use Rattle.specification.specs.Letters.{scalar, vector, testLetters}
 use Rattle.specification.specs.Terms as S
 use Rattle.specification.specs.Records.{testTerm}
 use Rattle.specification.specs.Rules.{isRule, ruleLetters, ruleKind, testStepLetters}
-use Rattle.theory.specs.Elements.{All, all-append, all-split}
+use Rattle.theory.specs.Elements.{All, all-split}
 use Rattle.theory.specs.Tests.{and-split, tested}
-use Rattle.theory.specs.Order.{monomial}
 use Rattle.theory.specs.Sorting as O
 use Rattle.theory.specs.Reordering.{reordered-back, reordered-all, reordered-sorted}
-use Rattle.theory.specs.Shape.Letters.{Known, known-is, letters-known, FactorKnown, MonomialKnown}
+use Rattle.theory.specs.Shape.Letters.{Known, known-is, letters-known, FactorKnown}
 use Rattle.theory.specs.Rules.Table.{by-rule}
 use Rattle.theory.specs.Rules.Steps.{step-admitted}
 use Rattle.theory.specs.Shortening.Masks.{taken, leftOver}

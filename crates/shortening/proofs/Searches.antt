@@ -1,9 +1,9 @@
 -- The search over all terms and their places in one row: where every place is passed, no candidate is an admissible step to fewer terms. Assumes nothing.
 use mathlib.Core.Path.{_≡_, refl, sym, ap, subst, _∙_}
 use mathlib.Core.Bool.{Bool, true, false}
-use mathlib.Core.Logic.{_⊎_, inl, inr, ⊎-elim}
-use mathlib.Core.List.{List, [], _∷_, map}
-use Prim.Native.Nat.{ℕ, zero, suc, _+_, _-_, _*_, _/_, _%_, _^_, _<_, _≤_}
+use mathlib.Core.Logic.{⊎-elim}
+use mathlib.Core.List.{List}
+use Prim.Native.Nat.{ℕ, _+_, _-_, _*_, _/_, _%_, _^_, _<_, _≤_}
 use native.Mathlib.Nat as N
 use native.Mathlib.Omega.{arith}
 use borrow.Author.Tests.{ltb-true, ltb-false}
@@ -35,13 +35,12 @@ use Rattle.gathering.specs.declared.Closed.{Closed}
 use Rattle.gathering.specs.Closing.{WorkedAs}
 use Rattle.gathering.proofs.Closing.{worked-given, worked-refused}
 use Rattle.rules.specs.declared.steps.Step.{Step}
-use Rattle.rules.specs.Steps.{stepOf, StepValid}
+use Rattle.rules.specs.Steps.{stepOf}
 use Rattle.rules.proofs.Taking.{few-letters}
 use Rattle.shortening.specs.declared.trying.Next.{Next}
-use Rattle.shortening.specs.declared.searching.Found.{Found}
 use Rattle.shortening.specs.Trying.{Hopeless, OnlyStep, Settled, maskOf, ruleOf, pickOf, NextPlace}
 use Rattle.shortening.specs.Marks.{Covering}
-use Rattle.shortening.specs.Searching.{Shorter, SearchedBy}
+use Rattle.shortening.specs.Searching.{Shorter}
 
 -- no candidate by these indices shortens
 abbrev Nothing : (table : List ℕ) (f : S.Form) (i mask rule pick : ℕ) → Type 0

@@ -2,7 +2,6 @@ use borrow.Author.Needs.{needs}
 use Rattle.audit.proofs.audit.Statement.{statement}
 use Rattle.audit.proofs.audit.Tie as tie
 use mathlib.Core.Path.{sym, refl, subst, _∙_}
-use Prim.Native.Nat.{_-_}
 use denote.Ref.{now}
 use Rattle.audit.proofs.Audits.{audit-table, buffer-short, work-short, audit-refused, log-inside, audit-agrees}
 use lib.Dec.{T}

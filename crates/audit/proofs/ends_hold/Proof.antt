@@ -1,8 +1,7 @@
 use borrow.Author.Needs.{needs}
 use Rattle.audit.proofs.ends_hold.Statement.{statement}
 use Rattle.audit.proofs.ends_hold.Tie as tie
-use Prim.Native.Nat.{ℕ, _-_}
-use mathlib.Core.Bool.{false}
+use Prim.Native.Nat.{ℕ}
 use denote.Ref.{now}
 use Rattle.records.proofs.Takers.{bytes-all}
 use Rattle.audit.proofs.Audits.{refused-audit, other-steps, ends-audited, decided-as}
@@ -17,7 +16,7 @@ enum-known-c : tie.Need-enum-known-c
 enum-known-c c = search needs
 
 returns : tie.Need-returns
-returns c = let w = c .before .before .before .before .before .before .before .before .before in other-steps (now (w .args .table)) (now (w .args .log)) (bytes-all (now (w .args .log)) (λ (k : ℕ). c .before .before .before .before .before .before .before .shared-slice-known2 .given k .fits)) (w .args .steps) (now (w .args .buffer)) (now (w .args .work)) _ (c .before .before .before .before .check .ensures) _ _ _ (c .before .before .c .given .1) false _ _ (c .if1 .taken)
+returns c = let w = c .before .before .before .before .before .before .before .before .before in other-steps (now (w .args .table)) (now (w .args .log)) (bytes-all (now (w .args .log)) (λ (k : ℕ). c .before .before .before .before .before .before .before .shared-slice-known2 .given k .fits)) (w .args .steps) (now (w .args .buffer)) (now (w .args .work)) _ (c .before .before .before .before .check .ensures) _ _ _ (c .before .before .c .given .1) _ _ (c .if1 .taken)
 
 first-form-requires : tie.Need-first-form-requires
 first-form-requires c κs = search needs
@@ -32,7 +31,7 @@ says-holds-requires : tie.Need-says-holds-requires
 says-holds-requires c κs = search needs
 
 returns-2 : tie.Need-returns-2
-returns-2 c = let w = c .before .before .before .before .before .before .before in refused-audit (now (w .args .table)) (now (w .args .log)) (bytes-all (now (w .args .log)) (λ (k : ℕ). c .before .before .before .before .before .shared-slice-known2 .given k .fits)) (w .args .steps) (now (w .args .buffer)) (now (w .args .work)) _ (c .before .before .check .ensures) _ _ false _ _ (c .enum-told .given .1)
+returns-2 c = let w = c .before .before .before .before .before .before .before in refused-audit (now (w .args .table)) (now (w .args .log)) (bytes-all (now (w .args .log)) (λ (k : ℕ). c .before .before .before .before .before .shared-slice-known2 .given k .fits)) (w .args .steps) (now (w .args .buffer)) (now (w .args .work)) _ (c .before .before .check .ensures) _ _ _ _ (c .enum-told .given .1)
 
 same-length : tie.Need-same-length
 same-length c = search needs

@@ -1,8 +1,6 @@
 use borrow.Author.Needs.{needs}
 use Rattle.audit.proofs.says_holds.Statement.{statement}
 use Rattle.audit.proofs.says_holds.Tie as tie
-use Prim.Native.Nat.{_-_}
-use mathlib.Core.Bool.{false}
 use Rattle.audit.proofs.Audits.{holds-said, other-said, differs-not, refused-not}
 
 enum-told : tie.Need-enum-told
@@ -18,10 +16,10 @@ returns : tie.Need-returns
 returns c = holds-said (c .before .before .args .d) (c .enum-told .given .1)
 
 returns-2 : tie.Need-returns-2
-returns-2 c = other-said (c .before .before .args .d) false (differs-not (c .before .before .args .d) (c .enum-told2 .given .1))
+returns-2 c = other-said (c .before .before .args .d) (differs-not (c .before .before .args .d) (c .enum-told2 .given .1))
 
 returns-3 : tie.Need-returns-3
-returns-3 c = other-said (c .before .before .args .d) false (refused-not (c .before .before .args .d) _ (c .enum-told3 .given .1))
+returns-3 c = other-said (c .before .before .args .d) (refused-not (c .before .before .args .d) _ (c .enum-told3 .given .1))
 
 pub says-holds-spec : {M : Type 1} → statement M
 says-holds-spec =

@@ -2,7 +2,6 @@ use borrow.Author.Needs.{needs}
 use Rattle.exports.proofs.kalzunbi_shorten.Statement.{statement}
 use Rattle.exports.proofs.kalzunbi_shorten.Tie as tie
 use mathlib.Core.Path.{_∙_}
-use Prim.Native.Nat.{_-_}
 use Rattle.integers.proofs.Machine.{back-is}
 use Rattle.exports.proofs.ReturnedLogs.{step-stored, written-short, shorten-table, shorten-short, shorten-refused, shorten-given}
 use denote.Ref.{now}

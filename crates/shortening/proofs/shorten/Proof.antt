@@ -2,7 +2,7 @@ use borrow.Author.Needs.{needs}
 use Rattle.shortening.proofs.shorten.Statement.{statement}
 use Rattle.shortening.proofs.shorten.Tie as tie
 use mathlib.Core.Path.{_≡_, sym, _∙_}
-use Prim.Native.Nat.{ℕ, _-_}
+use Prim.Native.Nat.{ℕ}
 use lib.ListN.{length, length-map}
 use denote.Ref.{now}
 use Rattle.records.proofs.Takers.{bytes-all}

@@ -3,7 +3,7 @@ use Rattle.shortening.proofs.choosing.add_factor.Statement.{statement}
 use Rattle.shortening.proofs.choosing.add_factor.Tie as tie
 use native.Mathlib.Omega.{arith}
 use Rattle.shortening.proofs.Pools.{adds-both, scalar-letters, dot-letters, triple-letters, adds-as}
-use mathlib.Core.Path.{_≡_, refl}
+use mathlib.Core.Path.{refl}
 
 add-letter-requires : tie.Need-add-letter-requires
 add-letter-requires c κs = search needs

@@ -1,11 +1,9 @@
 use borrow.Author.Needs.{needs}
 use Rattle.shortening.proofs.choosing.add_part.Statement.{statement}
 use Rattle.shortening.proofs.choosing.add_part.Tie as tie
-use mathlib.Core.Path.{_≡_, ap, _∙_}
+use mathlib.Core.Path.{ap}
 use Rattle.shortening.proofs.Pools.{adds-both, adds-as, adds-first, pooled-none, pooled-as}
-use Prim.Native.Nat.{_≤_, _<_, _+_, _-_}
 use Rattle.terms.specs.Abstraction.{partOf}
-use mathlib.Core.Logic.{_⊎_}
 
 enum-told : tie.Need-enum-told
 enum-told c = search needs

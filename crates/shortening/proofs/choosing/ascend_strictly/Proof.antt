@@ -2,7 +2,7 @@ use Rattle.shortening.proofs.choosing.ascend_strictly.Statement.{statem
 use Rattle.shortening.proofs.choosing.ascend_strictly.Tie as tie
 use native.Mathlib.Omega.{arith}
 use mathlib.Core.Path.{_≡_, sym, refl, _∙_}
-use Prim.Native.Nat.{_≤_, _<_, _+_, _-_}
+use Prim.Native.Nat.{_≤_, _-_}
 use lib.ListN.{length, take, drop}
 use denote.Ref.{now}
 use lib.Dec.{ltb}

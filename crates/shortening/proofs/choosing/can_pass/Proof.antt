@@ -1,10 +1,7 @@
 use borrow.Author.Needs.{needs}
 use Rattle.shortening.proofs.choosing.can_pass.Statement.{statement}
 use Rattle.shortening.proofs.choosing.can_pass.Tie as tie
-use mathlib.Core.Path.{_≡_, _∙_}
-use Prim.Native.Nat.{_≤_, _<_, _+_, _-_}
 use Rattle.terms.specs.Abstraction.{termOf}
-use mathlib.Core.Logic.{_⊎_}
 use borrow.Author.Tests.{not-true, not-false}
 use Rattle.rules.specs.Steps.{stepOf}
 use Rattle.shortening.proofs.Openings.{out-of-shape, in-shape-by, tests-by}

@@ -2,11 +2,11 @@ use borrow.Author.Needs.{needs}
 use Rattle.shortening.proofs.choosing.fill_pool.Statement.{statement}
 use Rattle.shortening.proofs.choosing.fill_pool.Tie as tie
 use mathlib.Core.Path.{_≡_, ap, _∙_, sym}
-use Prim.Native.Nat.{ℕ, _≤_, _<_, _+_, _-_}
+use Prim.Native.Nat.{ℕ, _-_}
 use mathlib.Core.List.{[]}
 use lib.ListN.{length}
 use Rattle.terms.specs.Abstraction.{partOf}
-use mathlib.Core.Logic.{_⊎_, ⊎-elim}
+use mathlib.Core.Logic.{⊎-elim}
 use Rattle.specification.specs.Results.{if_then_else_}
 use lib.Dec.{eqb}
 use Rattle.specification.specs.Rules.{ruleKind}

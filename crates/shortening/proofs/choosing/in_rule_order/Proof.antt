@@ -2,11 +2,11 @@ use borrow.Author.Needs.{needs}
 use Rattle.shortening.proofs.choosing.in_rule_order.Statement.{statement}
 use Rattle.shortening.proofs.choosing.in_rule_order.Tie as tie
 use mathlib.Core.Path.{_≡_, _∙_, ap}
-use Prim.Native.Nat.{_≤_, _<_, _+_, _-_, ℕ, _%_, _^_}
+use Prim.Native.Nat.{ℕ, _%_}
 use mathlib.Core.List.{_∷_, []}
 use lib.ListN.{getD}
 use denote.Ref.{now}
-use mathlib.Core.Logic.{_⊎_, ⊎-elim}
+use mathlib.Core.Logic.{⊎-elim}
 use lib.Dec.{eqb}
 use Rattle.specification.specs.Results.{if_then_else_}
 use Rattle.shortening.proofs.Picks.{rule-ordered, chosen, not-chosen}

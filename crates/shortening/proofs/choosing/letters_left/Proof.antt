@@ -6,7 +6,7 @@ use Prim.Native.Nat.{_≤_, _-_, _*_, _+_}
 use mathlib.Core.List.{map}
 use lib.ListN.{length, take, drop, getD}
 use denote.Ref.{now}
-use mathlib.Core.Logic.{_⊎_, ⊎-elim}
+use mathlib.Core.Logic.{⊎-elim}
 use Rattle.terms.specs.Numbers.{lettersOf}
 use Rattle.shortening.proofs.Scalars.{letters-few, Counting, counting-none, scalar-stays, counting-all, counting-as, vectors-stay, factor-goes}
 

@@ -1,10 +1,8 @@
 use borrow.Author.Needs.{needs}
 use Rattle.shortening.proofs.choosing.open.Statement.{statement}
 use Rattle.shortening.proofs.choosing.open.Tie as tie
-use mathlib.Core.Path.{_≡_, ap, sym, _∙_}
-use Prim.Native.Nat.{_≤_, _<_, _+_, _-_}
+use mathlib.Core.Path.{ap, sym, _∙_}
 use Rattle.terms.specs.Abstraction.{termOf}
-use mathlib.Core.Logic.{_⊎_}
 use Rattle.specification.specs.Terms as S
 use Rattle.theory.specs.Shortening.Candidates.{multiplier}
 use Rattle.shortening.proofs.Openings.{opened-by, shut-by}

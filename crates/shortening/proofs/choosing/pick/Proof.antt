@@ -3,11 +3,10 @@ use Rattle.shortening.proofs.choosing.pick.Statement.{statement}
 use Rattle.shortening.proofs.choosing.pick.Tie as tie
 use native.Mathlib.Omega.{arith}
 use mathlib.Core.Path.{_≡_, ap, sym, subst, _∙_}
-use Prim.Native.Nat.{ℕ, _≤_, _<_, _+_, _-_, _%_, _^_}
-use mathlib.Core.List.{_∷_}
+use Prim.Native.Nat.{ℕ, _≤_, _<_, _-_, _^_}
 use lib.ListN.{length, take}
 use denote.Ref.{now}
-use mathlib.Core.Logic.{_⊎_, ⊎-elim}
+use mathlib.Core.Logic.{⊎-elim}
 use borrow.Author.Tests.{not-true, not-false}
 use lib.Seq.{length-take-le}
 use Rattle.theory.specs.Elements.{All}

@@ -2,12 +2,11 @@ use Rattle.shortening.proofs.choosing.take_by_mask.Statement.{statement
 use Rattle.shortening.proofs.choosing.take_by_mask.Tie as tie
 use native.Mathlib.Omega.{arith}
 use borrow.Author.Needs.{needs}
-use mathlib.Core.Path.{_≡_}
 use Prim.Native.Nat.{_-_, _≤_}
 use denote.Ref.{now}
 use lib.ListN.{length, take}
 use Rattle.shortening.proofs.Masks.{Under, under-none, under-all, under-as, under-taken, under-left}
-use mathlib.Core.Logic.{_⊎_, ⊎-elim}
+use mathlib.Core.Logic.{⊎-elim}
 
 abbrev Inv-loop : tie.InvT-loop
 Inv-loop from n mask to₀ m b₀ c₀ i₀ to b c i = (i ≤ n) × Under (take n from) mask to b c i

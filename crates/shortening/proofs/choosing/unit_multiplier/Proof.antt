@@ -2,8 +2,7 @@ use borrow.Author.Needs.{needs}
 use Rattle.shortening.proofs.choosing.unit_multiplier.Statement.{statement}
 use Rattle.shortening.proofs.choosing.unit_multiplier.Tie as tie
 use mathlib.Core.Path.{_≡_, _∙_, ap, sym}
-use Prim.Native.Nat.{_≤_, _<_, _+_, _-_}
-use mathlib.Core.Logic.{_⊎_, ⊎-elim}
+use mathlib.Core.Logic.{⊎-elim}
 use lib.ListN.{length}
 use Rattle.shortening.proofs.Openings.{unit-multiplier-is, part-gone, part-stays}
 use Rattle.terms.specs.Abstraction.{partOf}

@@ -2,7 +2,6 @@ use Rattle.shortening.proofs.rounds.derive.Statement.{statement}
 use Rattle.shortening.proofs.rounds.derive.Tie as tie
 use native.Mathlib.Omega.{arith}
 use mathlib.Core.Path.{refl}
-use Prim.Native.Nat.{_-_}
 use denote.Ref.{now}
 use borrow.Author.Tests.{not-false}
 use Rattle.shortening.specs.Searching.{SearchedBy}

@@ -3,7 +3,7 @@ use Rattle.shortening.proofs.trying.gain.Tie as tie
 use native.Mathlib.Omega.{arith}
 use mathlib.Core.Path.{_≡_, _∙_, ap, sym, subst}
 use Prim.Native.Nat.{_≤_, _-_, ℕ, _<_, _+_}
-use mathlib.Core.Logic.{_⊎_, ⊎-elim}
+use mathlib.Core.Logic.{⊎-elim}
 use Rattle.shortening.proofs.Gains.{Gained, gained-none, gained-all, gained-like, gained-unlike}
 use mir.Val.{toZ}
 use mir.Syntax.{w64}

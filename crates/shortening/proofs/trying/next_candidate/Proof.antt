@@ -6,7 +6,7 @@ use mathlib.Core.Path.{_≡_, ap, sym, refl, subst, _∙_}
 use Prim.Native.Nat.{ℕ, _≤_, _<_, _+_, _-_, _*_, _/_, _%_}
 use lib.ListN.{length}
 use denote.Ref.{now}
-use mathlib.Core.Logic.{_⊎_, ⊎-elim}
+use mathlib.Core.Logic.{⊎-elim}
 use lib.Pow.{pow-mono}
 use Rattle.terms.specs.Abstraction.{termOf}
 use Rattle.shortening.proofs.Trials.{PlacesPassed, place-rule, mask-inside, places-none, places-shut, opened-there, places-passed, places-found, places-end, factors-long}

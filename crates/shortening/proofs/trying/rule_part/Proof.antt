@@ -2,7 +2,6 @@ use borrow.Author.Needs.{needs}
 use Rattle.shortening.proofs.trying.rule_part.Statement.{statement}
 use Rattle.shortening.proofs.trying.rule_part.Tie as tie
 use mathlib.Core.Path.{ap, sym, _∙_}
-use Prim.Native.Nat.{_-_}
 use lib.ListN.{length}
 use Rattle.specification.specs.Rules.{ruleKind}
 use Rattle.shortening.proofs.Openings.{part-left, part-kept}

@@ -3,7 +3,7 @@ use Rattle.shortening.proofs.trying.try_pick.Statement.{statement}
 use Rattle.shortening.proofs.trying.try_pick.Tie as tie
 use native.Mathlib.Omega.{arith}
 use mathlib.Core.Path.{_≡_, ap, sym, refl, subst, _∙_}
-use Prim.Native.Nat.{ℕ, _<_, _-_}
+use Prim.Native.Nat.{ℕ, _<_}
 use denote.Ref.{now}
 use borrow.Author.Tests.{not-true, not-false}
 use lib.IntN.{natAbs, negℤ}
