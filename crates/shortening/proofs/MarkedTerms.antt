@@ -1,7 +1,7 @@
 -- Marks do not depend on the order of letters and factors, so a term put in the order of forms keeps its mark. Assumes nothing.
 use mathlib.Core.Path.{_≡_, refl, sym, ap, _∙_}
 use mathlib.Core.List.{List, [], _∷_, _++_, map}
-use Prim.Native.Nat.{ℕ, _+_, _*_, _%_, _<_, _≤_}
+use Prim.Native.Nat.{ℕ, _+_, _*_, _%_, _<_}
 use native.Mathlib.Nat as N
 use native.Mathlib.Omega.{arith}
 use Rattle.specification.specs.Lists.{order, sorted}
@@ -63,10 +63,6 @@ unfolding markOf timesTerm
 mark-product t u = λ i. (factors-joined (t .factors) (u .factors) i + 3 * letters-joined (t .part) (u .part) i) % 251
 
 -- ════ marks are small
-
-pub letter-small : (x : ℕ) → letterMark x ≤ 250
-unfolding letterMark
-letter-small x = omega arith
 
 pub mark-small : (t : S.Term) → markOf t < 251
 unfolding markOf

@@ -3,11 +3,11 @@ ghost use Prim.Native.Nat.{_≤_};
 ghost use Rattle.specification.specs.Shortening.{Shortened};
 ghost use Rattle.shortening.specs.Answers.{shorteningOf, logLength};
 
-pub mod choosing;
-pub mod marks;
+mod choosing;
+mod marks;
 pub mod rounds;
-pub mod searching;
-pub mod trying;
+mod searching;
+mod trying;
 pub mod writing;
 
 use crate::rounds::derive;
