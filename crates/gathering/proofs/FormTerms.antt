@@ -12,7 +12,7 @@ use Rattle.specification.specs.Terms as S
 use Rattle.theory.specs.Elements.{All, all-T}
 use Rattle.theory.specs.Gathering.Coefficients.{Ascending}
 use Rattle.theory.specs.Shape.Forms.{form-gathered}
-use Rattle.theory.specs.Shape.Terms.{term-opens}
+use Rattle.theory.specs.Shape.Terms.{in-limit}
 use Rattle.terms.specs.declared.types.Term.{Term}
 use Rattle.terms.specs.declared.types.Form.{Form}
 use Rattle.terms.specs.Abstraction.{termOf, formOf, Counted}
@@ -20,12 +20,7 @@ use Rattle.terms.specs.Valid.{FormValid}
 use Rattle.gathering.specs.declared.Sum.{Sum}
 use Rattle.gathering.specs.Sums.{held, sumOf, Standing, SumValid, Holding}
 
--- a term in shape has a coefficient within the limit
-in-limit : (t : S.Term) → T (termInShape t) → natAbs (t .coef) ≤ 2147483647
-unfolding coefWithin
-in-limit t h = leb→le (natAbs (t .coef)) 2147483647 (term-opens t h .within)
-
--- so the terms of a form may stand after as many were brought in
+-- the terms of a form may stand after as many were brought in
 standing : (n : ℕ) (ts : List Term) → 1 ≤ n → All Counted ts → All (λ (t : S.Term). T (termInShape t)) (map termOf ts) → All (Standing n) ts
 unfolding termOf
 standing n [] h a b = tt

@@ -73,7 +73,7 @@ pub fn holding(f: Form) -> Sum
 }
 
 // Whether a term comes behind another.
-fn comes_behind(t: Term, u: Term) -> bool
+pub fn comes_behind(t: Term, u: Term) -> bool
     requires { ⌜ Counted t × Counted u ⌝ }
     ensures { λ r. ⌜ r ≡ isBehind (termOf t) (termOf u) ⌝ }
 {

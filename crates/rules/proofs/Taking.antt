@@ -15,7 +15,7 @@ use Rattle.specification.specs.Terms.{timesTerm, termKind, vectorLetters, scala
 use Rattle.specification.specs.Terms as S
 use Rattle.specification.specs.Rules.{ruleKind, ruleLetters, stepKindsFit, stepTerms, takeStep}
 use Rattle.theory.specs.Elements.{All, all-append}
-use Rattle.theory.specs.Shape.Terms.{kindOfPart, term-opens}
+use Rattle.theory.specs.Shape.Terms.{kindOfPart, term-opens, in-limit}
 use Rattle.theory.specs.Tests.{required, passed}
 use Rattle.theory.specs.Shape.Forms.{FormInShape, AllFit, form-gathered, within-given, within-in-shape}
 use Rattle.theory.specs.Gathering.Gathered.{gather-onto}
@@ -106,15 +106,10 @@ few-factors s v l h =
       length-take-le (s .m .«factor_count») (s .m .factors) l,
     )
 
--- a term in shape has a coefficient within the limit
-in-limit : (t : S.Term) → T (termInShape t) → natAbs (t .coef) ≤ 2147483647
-unfolding coefWithin
-in-limit t h = leb→le (natAbs (t .coef)) 2147483647 (term-opens t h .within)
-
 -- ════ the products
 
 -- the rule's rows at the letters
-abbrev rows : Step → List S.Term
+abbrev pub rows : Step → List S.Term
 rows s = rowTerms (s .letters) (firstRow (s .rule)) (rowCount (s .rule))
 
 -- the products of M with the first of them
@@ -166,11 +161,11 @@ module _ (s : Step) (v : StepValid s) (six : length (s .letters) ≡ 6) where
 
     -- a row times M
     pub row-fits : (i : ℕ) → i < rowCount (s .rule) → s .m .«factor_count» ≤ length (s .m .factors)
-        → (Counted (s .m) × (s .m .«factor_count» ≤ 4) × (natAbs (s .m .coef) ≤ 2147483647) × (firstRow (s .rule) + i < 23))
+        → (Counted (s .m) × (s .m .«factor_count» ≤ 4) × (natAbs (s .m .coef) ≤ 2147483647))
         × ((partOf (s .m .part) ≡ []) ⊎ (partAt (s .letters) (getD ruleRows (firstRow (s .rule) + i) 0 % 64) ≡ []))
     unfolding stepOf termOf rowTerm
     row-fits i h n = (
-      (v .m .counted, few-factors s v n few-vectors, in-limit (termOf (s .m)) (v .m .inShape), omega (arith, rows-inside (s .rule) (v .rule) .0)),
+      (v .m .counted, few-factors s v n few-vectors, in-limit (termOf (s .m)) (v .m .inShape)),
       ⊎-elim inl
           (λ a. inr (row-at (λ (u : S.Term). u .part ≡ []) (s .letters) (firstRow (s .rule)) (rowCount (s .rule)) i h
           (subst (All (λ (u : S.Term). u .part ≡ [])) (sym (tied (s .rule) (v .rule) (s .letters) six)) a)))

@@ -6,12 +6,13 @@ use native.Mathlib.Nat as N
 use native.Mathlib.Numerals.{add-one}
 use native.Mathlib.Omega.{arith}
 use lib.Dec.{T}
-use lib.ListN.{length, getD, take}
+use lib.ListN.{length, getD, take, drop}
+use lib.Seq.{getD-take, getD-drop}
 use Rattle.specification.specs.Rules.{rule1, rule2, rule3, rule4, bracket, rule5, sides, ruleLetters, isRule}
 use Rattle.specification.specs.Terms as S
 use Rattle.theory.specs.Elements.{All}
 use Rattle.theory.specs.Rules.Table.{by-rule, ruleTerms}
-use Rattle.rules.specs.Table.{ruleRows, letter, letterAt, factorAt, partAt, signOf, rowTerm, rowTerms, firstRow, rowCount}
+use Rattle.rules.specs.Table.{ruleRows, letter, letterAt, factorAt, partAt, signOf, rowTerm, rowTerms, firstRow, rowCount, RowsOf}
 
 -- six letters
 by-letters : (P : List ℕ → Type 0) → ((a b c d e f : ℕ) → P (a ∷ b ∷ c ∷ d ∷ e ∷ f ∷ [])) → (l : List ℕ) → length l ≡ 6 → P l
@@ -42,9 +43,8 @@ unfolding firstRow rowCount
 rows-inside = by-rule (λ (r : ℕ). (firstRow r + rowCount r ≤ 23) × (rowCount r ≤ 7)) (omega arith, omega arith) (omega arith, omega arith) (omega arith, omega arith) (omega arith, omega arith) (omega arith, omega arith)
 
 -- in numbers
-pub rows-few : (r n : ℕ) → T (isRule r) → n ≡ rowCount r → (4 * (r - 1) + n ≤ 23) × (n ≤ 7)
-unfolding firstRow
-rows-few r n h e = let w = rows-inside r h in (omega (arith, w .0, e), omega (arith, w .1, e))
+pub rows-few : (r n : ℕ) → T (isRule r) → n ≡ rowCount r → n ≤ 7
+rows-few r n h e = omega (arith, rows-inside r h .1, e)
 
 -- one row after the other
 pub row-next : (l : List ℕ) (k n i : ℕ) → i < n → take (i + 1) (rowTerms l k n) ≡ take i (rowTerms l k n) ++ rowTerm l (getD ruleRows (k + i) 0) ∷ []
@@ -76,3 +76,15 @@ some-rule = by-rule (λ (r : ℕ). 1 ≤ r) (omega arith) (omega arith) (omega a
 
 pub few-rules : (r : ℕ) → T (isRule r) → r ≤ 5
 few-rules = by-rule (λ (r : ℕ). r ≤ 5) (omega arith) (omega arith) (omega arith) (omega arith) (omega arith)
+
+-- the last one
+pub fifth-rule : (r : ℕ) → T (isRule r) → (r ≡ 1 → ⊥) → (r ≡ 2 → ⊥) → (r ≡ 3 → ⊥) → (r ≡ 4 → ⊥) → r ≡ 5
+fifth-rule =
+    by-rule (λ (r : ℕ). (r ≡ 1 → ⊥) → (r ≡ 2 → ⊥) → (r ≡ 3 → ⊥) → (r ≡ 4 → ⊥) → r ≡ 5)
+    (λ a b c d. absurd (a refl)) (λ a b c d. absurd (b refl)) (λ a b c d. absurd (c refl)) (λ a b c d. absurd (d refl)) (λ a b c d. refl)
+
+-- one of the rows that are given
+pub row-given : (r : ℕ) (rows : List ℕ) (i : ℕ) → RowsOf r rows → i < rowCount r → getD rows i 0 ≡ getD ruleRows (firstRow r + i) 0
+row-given r rows i w h =
+    sym (getD-take (rowCount r) rows i 0 h) ∙ ap (λ (l : List ℕ). getD l i 0) (w .is)
+    ∙ getD-take (rowCount r) (drop (firstRow r) ruleRows) i 0 h ∙ getD-drop (firstRow r) ruleRows i 0

@@ -4,7 +4,7 @@ use mathlib.Core.List.{List, [], _∷_, _++_, map}
 use Prim.Native.Nat.{ℕ, zero, suc, _+_, _-_, _*_, _/_, _%_, _<_, _≤_}
 use lib.Dec.{eqb}
 use lib.IntN.{ℤ, pos, negsuc, natAbs}
-use lib.ListN.{length, getD, take}
+use lib.ListN.{length, getD, take, drop}
 use Rattle.specification.specs.Results.{if_then_else_}
 use Rattle.specification.specs.Terms.{timesTerm}
 use Rattle.specification.specs.Terms as S
@@ -87,6 +87,11 @@ unfoldable pub rowCount : (rule : ℕ) → ℕ
 rowCount r = if eqb r 5 then 7 else 4
 
 -- ════ what the functions give
+
+-- the rows of a rule, in their order, in front of eight places
+pub record RowsOf (rule : ℕ) (r : List ℕ) : Type 0 where
+  pub is : take (rowCount rule) r ≡ take (rowCount rule) (drop (firstRow rule) ruleRows)
+  pub places : length r ≡ 8
 
 -- at most one more factor behind n others
 pub record FactorPut (fs : List (List ℕ)) (n : ℕ) (before after : List ℕ) (r : ℕ) : Type 0 where

@@ -12,7 +12,8 @@ ghost use Rattle.rules.specs.Table.{rowCount};
 ghost use Rattle.theory.specs.Shape.Terms.{kindOfPart};
 ghost use Rattle.records.specs.Tested.{testOf};
 ghost use Rattle.rules.specs.Steps.{stepOf, StepValid, stepTests, StepFits, StepAdds};
-use crate::table::row_product;
+use crate::table::rule_rows;
+use crate::table::times_row;
 use gathering::Closed;
 use gathering::bring_all;
 use gathering::close;
@@ -126,13 +127,13 @@ pub fn step_terms(s: Step) -> StepTerms
 {
     let m = s.m;
     let letters = s.letters;
-    let rule = s.rule as usize;
-    let first = 4 * (rule - 1);
-    let n = row_count(s.rule);
+    let rule = s.rule;
+    let n = row_count(rule);
+    let rows = rule_rows(rule);
     let mut ts = [m; 16];
     let mut i: usize = 0;
     while i < n {
-        let t = row_product(m, letters, first + i);
+        let t = times_row(m, letters, rows[i]);
         ts[i] = t;
         i += 1;
     }

@@ -21,6 +21,7 @@ use Rattle.theory.specs.Reduction.Work.{reduction-keeps-value}
 use Rattle.theory.specs.Records.Logs.{writeLog, logOf, log-read-back}
 use Rattle.theory.specs.Replay.Accepted.{testSteps, Derives, derivation-accepted}
 use Rattle.terms.specs.Abstraction.{termOf, formOf}
+use Rattle.terms.proofs.Forms.{form-long}
 use Rattle.gathering.specs.declared.Closed.{Closed}
 use Rattle.gathering.specs.Closing.{WorkedAs}
 use Rattle.gathering.proofs.Closing.{worked-given}
@@ -32,7 +33,6 @@ use Rattle.rules.specs.Steps.{stepOf, StepValid}
 use Rattle.shortening.specs.declared.writing.Derivation.{Derivation}
 use Rattle.shortening.specs.Writing.{stepsOf}
 use Rattle.shortening.specs.Derived.{Derived}
-use Rattle.shortening.proofs.Searches.{form-long}
 use Rattle.shortening.proofs.WrittenLogs.{steps-counted}
 use Rattle.printing.specs.Printable.{Printable}
 use Rattle.printing.specs.Text.{TextWritten}

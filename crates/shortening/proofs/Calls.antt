@@ -17,6 +17,7 @@ use Rattle.theory.specs.Shape.Letters.{table-good}
 use Rattle.theory.specs.Records.Positions.{Bytes}
 use Rattle.theory.specs.Replay.Accepted.{Derives}
 use Rattle.terms.specs.Abstraction.{formOf}
+use Rattle.terms.proofs.Forms.{form-long}
 use Rattle.records.specs.declared.take.Taken.{Taken}
 use Rattle.records.specs.Tested.{testOf}
 use Rattle.records.specs.Reading.{takenOf, FormTaken}
@@ -27,7 +28,6 @@ use Rattle.shortening.specs.Writing.{stepsOf, LogWritten}
 use Rattle.shortening.specs.Derived.{Derived}
 use Rattle.shortening.proofs.WrittenLogs.{log-short}
 use Rattle.shortening.proofs.Shortened.{shortened-to}
-use Rattle.shortening.proofs.Searches.{form-long}
 
 -- the letters of a form that is taken are in the table
 taken-tested : (table s : List ℕ) (f : S.Form) → takeForm table s ≡ given f → testTerms table (f .terms) ≡ given tt

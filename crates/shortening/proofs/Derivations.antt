@@ -77,8 +77,8 @@ module _ (table : List ℕ) (f : Form) (v : FormValid f) (steps : List Step) (n 
     pub round-room : n < 48
     round-room = omega (arith, w .saves, shorter .fewer, v .few)
 
-    pub round-term : r .term ≤ 48
-    round-term = shorter .term
+    pub round-behind : r .behind ≤ 48
+    round-behind = shorter .behind
 
     pub round-fewer : r .form .count < g .count
     round-fewer = shorter .fewer

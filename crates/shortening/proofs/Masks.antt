@@ -1,18 +1,23 @@
 -- Numbers taken by a mask, one after the other; what a mask leaves is what the other mask takes. Assumes nothing.
 use mathlib.Core.Path.{_≡_, refl, sym, ap, subst, _∙_}
 use mathlib.Core.Bool.{Bool, true, false}
+use mathlib.Core.Logic.{_⊎_, inl, inr}
 use mathlib.Core.List.{List, [], _∷_, _++_, map, append-nil}
 use Prim.Native.Nat.{ℕ, zero, suc, _+_, _-_, _/_, _%_, _^_, _<_, _≤_}
 use native.Mathlib.Nat as N
+use native.Mathlib.Numerals.{add-one}
 use native.Mathlib.Omega.{arith}
 use lib.Dec.{eqb}
 use lib.ListN.{length, getD, take, drop, set, length-set}
+use lib.Pow.{pow-mono}
 use lib.Seq.{length-take-le, append-snoc}
 use Rattle.specification.specs.Results.{if_then_else_}
-use Rattle.theory.specs.Elements.{All}
+use Rattle.theory.specs.Elements.{All, all-implies}
+use Rattle.theory.specs.Order.{nat-laws}
+use Rattle.theory.specs.Sorting as O
 use Rattle.theory.specs.Shortening.Masks.{taken, leftOver}
 use Rattle.terms.proofs.Arrays.{rest-at, nothing-left, stored-behind}
-use Rattle.shortening.specs.Choosing.{MaskTaken}
+use Rattle.shortening.specs.Choosing.{MaskTaken, bitCount, bitCounts}
 
 module _ {A : Type 0} where
   pub taken-map : {B : Type 0} (f : A → B) (k : ℕ) (l : List A) → taken k (map f l) ≡ map f (taken k l)
@@ -59,6 +64,84 @@ module _ {A : Type 0} where
       go true w = (a .0, w)
       go false w = w
 
+-- a bit that is not 1
+pub even : (b : ℕ) → (b % 2 ≡ 1 → ⊥) → b % 2 ≡ 0
+even b e = go (b % 2) refl
+  where
+    go : (r : ℕ) → b % 2 ≡ r → b % 2 ≡ 0
+    go zero q = q
+    go (suc zero) q = absurd (e q)
+    go (suc (suc r)) q = absurd (omega arith)
+
+-- ════ how many a mask takes
+
+module _ {A : Type 0} where
+  -- as many as bits stand
+  taken-count : (k : ℕ) (l : List A) → length (taken k l) ≡ bitCount (length l) k
+  unfolding taken bitCount
+  taken-count k [] = refl
+  taken-count k (x ∷ l) = go (k % 2) refl (taken-count (k / 2) l)
+    where
+      go : (b : ℕ) → k % 2 ≡ b → length (taken (k / 2) l) ≡ bitCount (length l) (k / 2) → length (if eqb b 1 then x ∷ taken (k / 2) l else taken (k / 2) l) ≡ b + bitCount (length l) (k / 2)
+      go zero e ih = ih ∙ sym (N.zero-add (bitCount (length l) (k / 2)))
+      go (suc zero) e ih = ap suc ih ∙ sym (N.add-comm 1 (bitCount (length l) (k / 2)) ∙ add-one (bitCount (length l) (k / 2)))
+      go (suc (suc b)) e ih = absurd (omega arith)
+
+no-bits : (m : ℕ) → bitCount m 0 ≡ 0
+unfolding bitCount
+no-bits zero = refl
+no-bits (suc m) = N.zero-add (bitCount m 0) ∙ no-bits m
+
+-- no bit stands behind those of the mask
+bits-wider : (n m k : ℕ) → k < 2 ^ n → bitCount (n + m) k ≡ bitCount n k
+unfolding bitCount
+bits-wider zero m k h =
+    let z : k ≡ 0 = omega arith in
+    ap (λ (w : ℕ). bitCount w k) (N.zero-add m) ∙ ap (bitCount m) z ∙ no-bits m
+bits-wider (suc n) m k h =
+    ap (λ (w : ℕ). bitCount w k) (N.suc-add n m) ∙ ap (λ (b : ℕ). k % 2 + b) (bits-wider n m (k / 2) (omega (arith, N.two-pow-succ n)))
+
+counts-at : (from n j : ℕ) → j < n → getD (bitCounts from n) j 0 ≡ bitCount 6 (from + j)
+unfolding bitCounts
+counts-at from zero j h = absurd (omega arith)
+counts-at from (suc n) zero h = ap (bitCount 6) (sym (N.add-zero from))
+counts-at from (suc n) (suc j) h = counts-at (from + 1) n j (omega arith) ∙ ap (bitCount 6) (omega arith)
+
+-- by the table of counts
+pub taken-counted : {A : Type 0} (counts : List ℕ) (j : ℕ) (l : List A) → counts ≡ bitCounts 0 64 → length l ≤ 6 → j < 2 ^ length l → length (taken j l) ≡ getD counts j 0
+taken-counted {A} counts j l e few h =
+    let wide : length l + (6 - length l) ≡ 6 = omega arith in
+    let below : j < 64 = N.lt-of-lt-of-le h (pow-mono few) in
+    taken-count j l ∙ sym (bits-wider (length l) (6 - length l) j h) ∙ ap (λ (w : ℕ). bitCount w j) wide
+    ∙ sym (ap (λ (c : List ℕ). getD c j 0) e ∙ counts-at 0 64 j below ∙ ap (bitCount 6) (N.zero-add j))
+
+-- ════ a mask that leaves the first number of an ascending list
+
+rises-all : (b : ℕ) (l : List ℕ) → O.Asc nat-laws (b ∷ l) → All (λ (n : ℕ). b ≤ n) (b ∷ l)
+rises-all b [] a = (omega arith, tt)
+rises-all b (x ∷ l) a = (
+  omega arith,
+  all-implies (λ (n : ℕ). x ≤ n) (λ (n : ℕ). b ≤ n) (λ n h. omega (arith, not-less b x (a .0))) (x ∷ l) (rises-all x l (a .1)),
+)
+  where
+    not-less : (b x : ℕ) → (b < x) ⊎ (b ≡ x) → b ≤ x
+    not-less b x (inl h) = omega arith
+    not-less b x (inr e) = omega arith
+
+first-of : (P : ℕ → Type 0) (l : List ℕ) → All P l → 0 < length l → P (getD l 0 0)
+first-of P [] a h = absurd (omega arith)
+first-of P (x ∷ l) a h = a .0
+
+-- what it takes begins with more than what it leaves, unless the second number is the first
+pub left-first : (l : List ℕ) (j : ℕ) → O.Asc nat-laws l → j % 2 ≡ 0 → getD l 0 0 < getD l 1 0 → 0 < length (taken j l) → getD (leftOver j l) 0 0 < getD (taken j l) 0 0
+unfolding taken leftOver
+left-first [] j a e h t = absurd (omega arith)
+left-first (x ∷ []) j a e h t = absurd (omega arith)
+left-first (x ∷ y ∷ l) j a e h t =
+    let some : 0 < length (taken (j / 2) (y ∷ l)) = rw e at t in
+    let big : y ≤ getD (taken (j / 2) (y ∷ l)) 0 0 = first-of (λ (n : ℕ). y ≤ n) (taken (j / 2) (y ∷ l)) (taken-all (λ (n : ℕ). y ≤ n) (j / 2) (y ∷ l) (rises-all y l (a .1))) some in
+    rw e (omega (arith, big, h))
+
 -- ════ one number after the other
 
 -- those taken so far stand in front, the others are taken by what is left of the mask
@@ -101,14 +184,6 @@ module _ (from : List ℕ) (n mask : ℕ) (h : n ≤ length from) (seven : n ≤
           few = omega (arith, u .few);
           places = u .places;
         }
-      where
-        even : (b : ℕ) → (b % 2 ≡ 1 → ⊥) → b % 2 ≡ 0
-        even b e = go (b % 2) refl
-          where
-            go : (r : ℕ) → b % 2 ≡ r → b % 2 ≡ 0
-            go zero q = q
-            go (suc zero) q = absurd (e q)
-            go (suc (suc r)) q = absurd (omega arith)
 
   -- all passed
   pub under-all : (to : List ℕ) (b c i : ℕ) → i ≡ n → Under (take n from) mask to b c i → MaskTaken (take n from) mask to c

@@ -150,6 +150,20 @@ module _ (kind rule : ℕ) (m : Term) (one : m .coef ≡ pos 1) where
           let r : stepTests kind (record { rule = rule; letters = ls; m = withCoef c (termOf m) }) ≡ given tt = taken-passes f (record { rule = rule; letters = ls; m = withCoef c (termOf m) }) g k (a .takes) in
           refused≢given (sym (sym h ∙ test-refused n (eqb-false n 0 q)) ∙ r)
 
+-- ════ what a candidate has
+
+-- the rule's letters, a whole block, and in rule 5 the block first
+pub candidate-opens : (t : S.Term) (k r j : ℕ) → T (isCandidate t k r j)
+    → (length (pool t k r) ≡ ruleLetters r) × (length (taken j (pool t k r)) ≡ blockSize r) × T (blockIsFirst r (taken j (pool t k r)) (leftOver j (pool t k r)))
+unfolding isCandidate
+candidate-opens t k r j h =
+    let l : List ℕ = pool t k r in
+    let a = and-split (eqb (length l) (ruleLetters r) && eqb (length (taken j l)) (blockSize r) && ascend ltb (taken j l) && ascend ltb (leftOver j l)) (blockIsFirst r (taken j l) (leftOver j l)) h in
+    let b = and-split (eqb (length l) (ruleLetters r) && eqb (length (taken j l)) (blockSize r) && ascend ltb (taken j l)) (ascend ltb (leftOver j l)) (a .0) in
+    let d = and-split (eqb (length l) (ruleLetters r) && eqb (length (taken j l)) (blockSize r)) (ascend ltb (taken j l)) (b .0) in
+    let i = and-split (eqb (length l) (ruleLetters r)) (eqb (length (taken j l)) (blockSize r)) (d .0) in
+    (eqb→eq (length l) (ruleLetters r) (i .0), eqb→eq (length (taken j l)) (blockSize r) (i .1), a .1)
+
 -- ════ what is opened
 
 module _ (kind rule k : ℕ) (t : Term) (p : List ℕ) (n : ℕ) (m : Term) (w : Pooled (lettersLeft (termOf t) k rule) p n) (wm : MultiplierOf t k rule m) where
@@ -166,14 +180,9 @@ module _ (kind rule k : ℕ) (t : Term) (p : List ℕ) (n : ℕ) (m : Term) (w :
       (ap (λ (u : S.Term). stepAt table f (record { rule = rule; letters = candidate (termOf t) k rule j c .letters; m = withCoef c u })) (wm .is) ∙ h)
 
   pub shut-by : (n ≡ ruleLetters rule → ⊥) → OpenedBy false kind t k rule (record { fits = false; m = m; pool = p })
-  unfolding OpenedBy Shut isCandidate pool lettersLeft
+  unfolding OpenedBy Shut pool lettersLeft
   shut-by e table f j c g q can h =
-      let l : List ℕ = pool (termOf t) k rule in
-      let a = and-split (eqb (length l) (ruleLetters rule) && eqb (length (taken j l)) (blockSize rule) && ascend ltb (taken j l) && ascend ltb (leftOver j l)) (blockIsFirst rule (taken j l) (leftOver j l)) can in
-      let b = and-split (eqb (length l) (ruleLetters rule) && eqb (length (taken j l)) (blockSize rule) && ascend ltb (taken j l)) (ascend ltb (leftOver j l)) (a .0) in
-      let d = and-split (eqb (length l) (ruleLetters rule) && eqb (length (taken j l)) (blockSize rule)) (ascend ltb (taken j l)) (b .0) in
-      let i = and-split (eqb (length l) (ruleLetters rule)) (eqb (length (taken j l)) (blockSize rule)) (d .0) in
-      let long : length (lettersLeft (termOf t) k rule) ≡ ruleLetters rule = sym (O.length-sorted order (lettersLeft (termOf t) k rule)) ∙ eqb→eq (length l) (ruleLetters rule) (i .0) in
+      let long : length (lettersLeft (termOf t) k rule) ≡ ruleLetters rule = sym (O.length-sorted order (lettersLeft (termOf t) k rule)) ∙ candidate-opens (termOf t) k rule j can .0 in
       go (ltb n 7) refl long
     where
       go : (b : Bool) → ltb n 7 ≡ b → length (lettersLeft (termOf t) k rule) ≡ ruleLetters rule → ⊥

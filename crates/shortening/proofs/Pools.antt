@@ -77,19 +77,6 @@ adds-first {xs} {p} {q} {n} e a = subst (λ (l : List ℕ). Pooled l q n) (appen
 
 -- ════ factors
 
--- the letters of a factor's number
-pub scalar-letters : (k : ℕ) → k < 256 → lettersOf k ≡ k ∷ []
-unfolding lettersOf
-scalar-letters k h = rw (lt-ltb k 256 h)
-
-pub dot-letters : (k j : ℕ) → 256 ≤ k → k < 65792 → j ≡ k - 256 → lettersOf k ≡ j / 256 ∷ j % 256 ∷ []
-unfolding lettersOf
-dot-letters k j g h e = rw (le-ltb k 256 g, lt-ltb k 65792 h, e)
-
-pub triple-letters : (k j : ℕ) → 65792 ≤ k → j ≡ k - 65792 → lettersOf k ≡ j / 65536 ∷ j / 256 % 256 ∷ j % 256 ∷ []
-unfolding lettersOf
-triple-letters k j g e = rw (le-ltb k 256 (omega arith), le-ltb k 65792 g, e)
-
 -- the factors from a place on
 pub factors-more : {p q r : List ℕ} {k m n : ℕ} (f : List ℕ) (count i : ℕ) → count ≤ length f → i < count
     → Adds (joined (map lettersOf (drop (i + 1) (take count f)))) p k q m → Adds (lettersOf (getD f i 0)) q m r n → Adds (joined (map lettersOf (drop i (take count f)))) p k r n

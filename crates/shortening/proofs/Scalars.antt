@@ -1,28 +1,30 @@
 -- A mask that leaves a scalar letter to the rule: no step by it is admissible, since a rule's letters are vectors. Assumes nothing.
 use mathlib.Core.Path.{_≡_, refl, sym, ap, subst, _∙_}
 use mathlib.Core.Bool.{Bool, true, false, not, _&&_}
+use mathlib.Core.Logic.{inl, inr}
 use mathlib.Core.List.{List, [], _∷_, _++_, map}
 use Prim.Native.Nat.{ℕ, suc, _+_, _-_, _*_, _/_, _%_, _<_, _≤_}
 use native.Mathlib.Nat as N
 use native.Mathlib.Omega.{arith}
-use borrow.Author.Tests.{ltb-true, ltb-false, eq-eqb, ne-eqb}
+use borrow.Author.Tests.{eq-eqb, ne-eqb}
 use lib.Dec.{T, eqb, ltb, eqb→eq}
 use lib.ListN.{length, length-append, getD, take, drop}
 use Rattle.specification.specs.Results.{if_then_else_}
-use Rattle.specification.specs.Lists.{joined, all, ascend, order}
+use Rattle.specification.specs.Lists.{joined, all, order}
 use Rattle.specification.specs.Letters.{scalar, vector, testLetters}
+use Rattle.specification.specs.Terms.{termKind}
 use Rattle.specification.specs.Terms as S
 use Rattle.specification.specs.Records.{testTerm}
-use Rattle.specification.specs.Rules.{isRule, ruleLetters, ruleKind, testStepLetters}
+use Rattle.specification.specs.Rules.{isRule, ruleLetters, ruleKind, stepKindsFit, takeStep, testStepLetters}
 use Rattle.theory.specs.Elements.{All, all-split}
-use Rattle.theory.specs.Tests.{and-split, tested}
+use Rattle.theory.specs.Tests.{and-split, tested, required}
 use Rattle.theory.specs.Sorting as O
 use Rattle.theory.specs.Reordering.{reordered-back, reordered-all, reordered-sorted}
 use Rattle.theory.specs.Shape.Letters.{Known, known-is, letters-known, FactorKnown}
 use Rattle.theory.specs.Rules.Table.{by-rule}
 use Rattle.theory.specs.Rules.Steps.{step-admitted}
 use Rattle.theory.specs.Shortening.Masks.{taken, leftOver}
-use Rattle.theory.specs.Shortening.Candidates.{blockSize, inRuleOrder, blockIsFirst, pool, candidate, isCandidate}
+use Rattle.theory.specs.Shortening.Candidates.{inRuleOrder, multiplier, pool, candidate, isCandidate}
 use Rattle.terms.specs.declared.types.Part.{Part}
 use Rattle.terms.specs.Numbers.{lettersOf}
 use Rattle.terms.specs.Abstraction.{partOf}
@@ -30,9 +32,10 @@ use Rattle.terms.proofs.Arrays.{rest-at, nothing-left}
 use Rattle.terms.proofs.InShape.{part-few}
 use Rattle.rules.proofs.Taking.{few-letters}
 use Rattle.shortening.specs.Choosing.{isVectors, LeftBy, lettersLeft}
-use Rattle.shortening.specs.Trying.{Hopeless, maskOf, ruleOf, pickOf}
+use Rattle.shortening.specs.Trying.{Hopeless, RuledOut}
 use Rattle.shortening.proofs.Masks.{taken-left-long}
-use Rattle.shortening.proofs.Trials.{PlacesPassed, place-rule, by-opening}
+use Rattle.shortening.proofs.Openings.{candidate-opens}
+use Rattle.shortening.proofs.Trials.{place-rule}
 
 -- ════ one factor after the other
 
@@ -144,16 +147,6 @@ known-vectors table (f ∷ fs) a b =
         unlike z = omega arith
     go (x ∷ y ∷ f) h k e = rw (ne-eqb (suc (suc (length f))) 1 (λ z. absurd (N.lt-irrefl 0 (omega arith)))) e
 
--- a candidate has the rule's letters
-pub letters-long : (t : S.Term) (k r j : ℕ) → T (isCandidate t k r j) → length (pool t k r) ≡ ruleLetters r
-unfolding isCandidate
-letters-long t k r j h =
-    let l : List ℕ = pool t k r in
-    let a = and-split (eqb (length l) (ruleLetters r) && eqb (length (taken j l)) (blockSize r) && ascend ltb (taken j l) && ascend ltb (leftOver j l)) (blockIsFirst r (taken j l) (leftOver j l)) h in
-    let b = and-split (eqb (length l) (ruleLetters r) && eqb (length (taken j l)) (blockSize r) && ascend ltb (taken j l)) (ascend ltb (leftOver j l)) (a .0) in
-    let d = and-split (eqb (length l) (ruleLetters r) && eqb (length (taken j l)) (blockSize r)) (ascend ltb (taken j l)) (b .0) in
-    eqb→eq (length l) (ruleLetters r) (and-split (eqb (length l) (ruleLetters r)) (eqb (length (taken j l)) (blockSize r)) (d .0) .0)
-
 module _ (marks : List ℕ) (t : S.Term) (k : ℕ) (scalars : all isVectors (leftOver k (t .factors)) ≡ false) where
   -- nothing to hope for
   pub scalars-hopeless : (kind r j : ℕ) → T (isRule r) → Hopeless marks kind t k r j
@@ -162,7 +155,7 @@ module _ (marks : List ℕ) (t : S.Term) (k : ℕ) (scalars : all isVectors (lef
       let l : List ℕ = pool t k r in
       let a = step-admitted table f (candidate t k r j c) g h in
       let ls : All (Known table vector) (inRuleOrder r (taken j l ++ leftOver j l)) = letters-known table vector (inRuleOrder r (taken j l ++ leftOver j l)) (tested (testLetters table vector (inRuleOrder r (taken j l ++ leftOver j l))) (testTerm table (candidate t k r j c .m)) tt (a .known) .0) in
-      let long : length (taken j l ++ leftOver j l) ≡ ruleLetters r = length-append (taken j l) (leftOver j l) ∙ taken-left-long j l ∙ letters-long t k r j can in
+      let long : length (taken j l ++ leftOver j l) ≡ ruleLetters r = length-append (taken j l) (leftOver j l) ∙ taken-left-long j l ∙ candidate-opens t k r j can .0 in
       let split = all-split (Known table vector) (taken j l) (leftOver j l) (order-all (Known table vector) r rule (taken j l ++ leftOver j l) long ls) in
       let inPool : All (Known table vector) l = both-all (Known table vector) j l (split .0) (split .1) in
       let left : All (Known table vector) (joined (leftOver k (t .factors)) ++ (if eqb (ruleKind r) vector then t .part else [])) =
@@ -176,7 +169,7 @@ module _ (marks : List ℕ) (t : S.Term) (k : ℕ) where
   -- other than the rule's letters
   count-hopeless : (kind r j : ℕ) → (length (lettersLeft t k r) ≡ ruleLetters r → ⊥) → Hopeless marks kind t k r j
   unfolding Hopeless pool lettersLeft
-  count-hopeless kind r j h hk hj table f c g shape cover e known can ex s = absurd (h (sym (O.length-sorted order (lettersLeft t k r)) ∙ letters-long t k r j can))
+  count-hopeless kind r j h hk hj table f c g shape cover e known can ex s = absurd (h (sym (O.length-sorted order (lettersLeft t k r)) ∙ candidate-opens t k r j can .0))
 
   -- by the count
   pub left-hopeless : (kind r j n : ℕ) → T (isRule r) → LeftBy (t .factors) k n → (n + length (if eqb (ruleKind r) vector then t .part else []) ≡ ruleLetters r → ⊥) → Hopeless marks kind t k r j
@@ -187,30 +180,31 @@ module _ (marks : List ℕ) (t : S.Term) (k : ℕ) where
       go false e = scalars-hopeless marks t k e kind r j rule
       go true e = count-hopeless kind r j (λ q. h (ap (λ (m : ℕ). m + length (if eqb (ruleKind r) vector then t .part else [])) (w .is e) ∙ sym (length-append (joined (leftOver k (t .factors))) (if eqb (ruleKind r) vector then t .part else [])) ∙ q))
 
--- ════ the places of such a mask
+-- ════ a rule of vectors at a form of scalars
 
--- a place has a rule
-rule-there : (p : ℕ) → T (isRule (ruleOf p))
-unfolding ruleOf
-rule-there p = place-rule (p / 64)
+kinds-hopeless : (marks : List ℕ) (t : S.Term) (k kind r j : ℕ) → kind ≡ scalar → ruleKind r ≡ vector → Hopeless marks kind t k r j
+unfolding Hopeless takeStep stepKindsFit candidate
+kinds-hopeless marks t k kind r j z v hk hj table f c g shape cover e known can ex h =
+    let a = step-admitted table f (candidate t k r j c) g h in
+    let fits : T (stepKindsFit f (candidate t k r j c)) = required (stepKindsFit f (candidate t k r j c)) 6 _ g (a .takes) .0 in
+    let both = and-split (eqb (termKind (multiplier t k r c)) scalar) (eqb (f .kind) vector) (rw (eq-eqb (ruleKind r) vector v) at fits) in
+    absurd (unlike (sym z ∙ sym e ∙ eqb→eq (f .kind) vector (both .1)))
+  where
+    unlike : scalar ≡ vector → ⊥
+    unlike z = omega arith
 
-module _ (marks : List ℕ) (kind : ℕ) (t : S.Term) (from at : ℕ) (w : PlacesPassed marks kind t from at) (n : ℕ) where
-  -- more than any rule takes: all places of the mask are passed
-  pub mask-skipped : (k : ℕ) → at / 64 / 5 ≡ k → LeftBy (t .factors) k n → 6 < n → PlacesPassed marks kind t from ((k + 1) * 320)
-  unfolding PlacesPassed maskOf
-  mask-skipped k e v h p a b = go (ltb p at) refl
-    where
-      go : (x : Bool) → ltb p at ≡ x → Hopeless marks kind t (p / 320) (ruleOf p) (pickOf p)
-      go true y = w p a (ltb-true p at y)
-      go false y =
-          let same : k ≡ p / 320 = omega (arith, ltb-false p at y) in
-          subst (λ (m : ℕ). Hopeless marks kind t m (ruleOf p) (pickOf p)) same
-          (left-hopeless marks t k kind (ruleOf p) (pickOf p) n (rule-there p) v (λ q. N.lt-irrefl 6 (omega (arith, q, h, few-letters (ruleOf p)))))
+-- ════ the places of such a mask or rule
 
-  -- other than this rule takes: all its places are passed
-  pub rule-skipped : (q : ℕ) → at / 64 ≡ q → LeftBy (t .factors) (q / 5) n → (n + length (if eqb (ruleKind (q % 5 + 1)) vector then t .part else []) ≡ ruleLetters (q % 5 + 1) → ⊥) → PlacesPassed marks kind t from ((q + 1) * 64)
-  unfolding PlacesPassed
-  rule-skipped q e v h = by-opening (Hopeless marks kind t) from at q ((q + 1) * 64) e (omega arith) w (λ pick a i. left-hopeless marks t (q / 5) kind (q % 5 + 1) pick n (place-rule q) v h)
+-- no rule takes so many letters
+pub many-hopeless : (marks : List ℕ) (kind : ℕ) (t : S.Term) (k n : ℕ) → LeftBy (t .factors) k n → 6 < n → (p : ℕ) → p < 320 → Hopeless marks kind t k (p / 64 + 1) (p % 64)
+many-hopeless marks kind t k n v h p i =
+    left-hopeless marks t k kind (p / 64 + 1) (p % 64) n (place-rule (p / 64) (omega arith)) v (λ q. N.lt-irrefl 6 (omega (arith, q, h, few-letters (p / 64 + 1))))
+
+-- the rule is ruled out
+pub ruled-hopeless : (marks : List ℕ) (kind : ℕ) (t : S.Term) (k n r : ℕ) → T (isRule r) → LeftBy (t .factors) k n → RuledOut kind n (t .part) r → (pick : ℕ) → Hopeless marks kind t k r pick
+unfolding RuledOut
+ruled-hopeless marks kind t k n r rule v (inl w) pick = kinds-hopeless marks t k kind r pick (w .0) (w .1)
+ruled-hopeless marks kind t k n r rule v (inr h) pick = left-hopeless marks t k kind r pick n rule v h
 
 -- a rule takes no more than two letters of a vector part
 pub part-short : (p : Part) (kind : ℕ) → length (if eqb kind vector then partOf p else []) ≤ 2

@@ -30,7 +30,8 @@ use Rattle.terms.specs.declared.types.Form.{Form}
 use Rattle.terms.specs.Abstraction.{partOf, termOf, formOf, Counted}
 use Rattle.terms.specs.Valid.{TermValid, FormValid}
 use Rattle.terms.specs.Numbers.{lettersOf}
-use Rattle.terms.proofs.Arrays.{noTerm, all-at}
+use Rattle.terms.proofs.Arrays.{noTerm}
+use Rattle.terms.proofs.Forms.{form-long, term-is, term-valid}
 use Rattle.gathering.specs.declared.Closed.{Closed}
 use Rattle.gathering.specs.Closing.{WorkedAs}
 use Rattle.gathering.proofs.Closing.{worked-given, worked-refused}
@@ -39,7 +40,7 @@ use Rattle.rules.specs.Steps.{stepOf}
 use Rattle.rules.proofs.Taking.{few-letters}
 use Rattle.shortening.specs.declared.trying.Next.{Next}
 use Rattle.shortening.specs.Trying.{Hopeless, OnlyStep, Settled, maskOf, ruleOf, pickOf, NextPlace}
-use Rattle.shortening.specs.Marks.{Covering}
+use Rattle.marks.specs.Marks.{Covering}
 use Rattle.shortening.specs.Searching.{Shorter}
 
 -- no candidate by these indices shortens
@@ -105,34 +106,17 @@ row-all table f at few h w known i k r j c g hi hk rule hj can ex s =
 -- ════ the forms of the code
 
 module _ (f : Form) (v : FormValid f) (places : length (f .terms) ≡ 48) where
-  -- a form has as many terms as it counts
-  pub form-long : length (formOf f .terms) ≡ f .count
-  unfolding formOf
-  form-long = length-map (take (f .count) (f .terms)) termOf ∙ length-take-le (f .count) (f .terms) (omega (arith, v .few, places))
-
-  module _ (i : ℕ) (h : i < f .count) where
-    -- the term at a place
-    pub term-is : termOf (getD (f .terms) i noTerm) ≡ termAt (formOf f .terms) i
-    unfolding formOf termOf partOf
-    term-is = sym (List·getD-map termOf (take (f .count) (f .terms)) i noTerm ∙ ap termOf (getD-take (f .count) (f .terms) i noTerm h))
-
-    pub term-valid : TermValid (getD (f .terms) i noTerm)
-    term-valid = record {
-      counted = all-at Counted (f .terms) (f .count) i noTerm (omega (arith, v .few, places)) h (v .counted);
-      inShape = subst (λ (t : S.Term). T (termInShape t)) (sym term-is) (E.all-at (λ (t : S.Term). T (termInShape t)) (formOf f .terms) i _ (all-T termInShape (formOf f .terms) (v .inShape .terms)) (omega (arith, form-long)));
-    }
-
   terms-few : (i : ℕ) → i < length (formOf f .terms) → length (termAt (formOf f .terms) i .factors) ≤ 7
   unfolding termOf
   terms-few i h =
-      let inside : i < f .count = omega (arith, form-long) in
-      let c = term-valid i inside .counted in
-      subst (λ (t : S.Term). length (t .factors) ≤ 7) (term-is i inside)
+      let inside : i < f .count = omega (arith, form-long f v places) in
+      let c = term-valid f v places i inside .counted in
+      subst (λ (t : S.Term). length (t .factors) ≤ 7) (term-is f v places i inside)
       (omega (arith, length-map (take (getD (f .terms) i noTerm .«factor_count») (getD (f .terms) i noTerm .factors)) lettersOf, c .few, length-take (getD (f .terms) i noTerm .«factor_count») (getD (f .terms) i noTerm .factors)))
 
   -- the row by the code's numbers
   pub row-searched : (table : List ℕ) (first at end : ℕ) → end ≡ f .count * 40960 → end ≤ at → RowPassed table (formOf f) first at → first ≡ 0 → AllKnown table (formOf f .terms) → NoCandidate table (formOf f)
-  row-searched table first at end e h w z = row-all table (formOf f) at terms-few (omega (arith, form-long, e, h)) (subst (λ (n : ℕ). RowPassed table (formOf f) n at) z w)
+  row-searched table first at end e h w z = row-all table (formOf f) at terms-few (omega (arith, form-long f v places, e, h)) (subst (λ (n : ℕ). RowPassed table (formOf f) n at) z w)
 
 -- ════ trials
 
@@ -148,11 +132,11 @@ module _ (table : List ℕ) (f : Form) (v : FormValid f) (places : length (f .te
         let same : formOf (r .form) ≡ g = given-same (sym (worked-given _ r w h) ∙ q) in
         subst (λ (g : S.Form). length (formOf f .terms) ≤ length (g .terms)) same (omega (arith, form-long f v places, form-long (r .form) (w .valid h) room))
 
-    pub shorter : r .form .count < f .count → Counted (s .m) → (i : ℕ) → i ≤ 48 → Shorter table f (record { found = true; term = i; step = s; form = r .form })
+    pub shorter : r .form .count < f .count → Counted (s .m) → (i : ℕ) → i ≤ 48 → Shorter table f (record { found = true; behind = i; step = s; form = r .form })
     unfolding stepOf
     shorter k c i few =
         let a = step-admitted table (formOf f) (stepOf s) (formOf (r .form)) (worked-given _ r w h) in
-        record { admissible = worked-given _ r w h; fewer = k; form = w .valid h; step = record { rule = a .shape .rule; m = record { counted = c; inShape = a .shape .m } }; term = few }
+        record { admissible = worked-given _ r w h; fewer = k; form = w .valid h; step = record { rule = a .shape .rule; m = record { counted = c; inShape = a .shape .m } }; behind = few }
 
 -- no step found
 pub not-found : (table : List ℕ) (f : S.Form) (s : Step) (b : Bool) → b ≡ false → Useless table f b s

@@ -5,4 +5,3 @@ pub mod Searching
 pub mod Writing
 pub mod Derived
 pub mod Answers
-pub mod Marks

@@ -21,7 +21,7 @@ pub record Shorter (table : List ℕ) (f : Form) (r : Found) : Type 0 where
   pub fewer : r .form .count < f .count
   pub form : FormValid (r .form)
   pub step : StepValid (r .step)
-  pub term : r .term ≤ 48
+  pub behind : r .behind ≤ 48
 
 -- such a step, or, where no term was left out and the letters are in the table, there is none
 unfoldable pub SearchedBy : (found : Bool) (first : ℕ) (table : List ℕ) (f : Form) (r : Found) → Type 0

@@ -2,14 +2,15 @@
 use mathlib.Core.Bool.{Bool, true, false}
 use mathlib.Core.Path.{_≡_}
 use mathlib.Core.Logic.{_⊎_}
-use mathlib.Core.List.{List}
+use mathlib.Core.List.{List, []}
 use Prim.Native.Nat.{ℕ, _+_, _/_, _%_, _^_, _≤_, _<_}
-use lib.Dec.{T}
+use lib.Dec.{T, eqb}
 use lib.IntN.{ℤ, negℤ, _*ℤ_}
 use lib.ListN.{length}
-use Rattle.specification.specs.Results.{given}
+use Rattle.specification.specs.Results.{given, if_then_else_}
+use Rattle.specification.specs.Letters.{scalar, vector}
 use Rattle.specification.specs.Terms as S
-use Rattle.specification.specs.Rules.{ruleLetters, stepAt}
+use Rattle.specification.specs.Rules.{ruleLetters, ruleKind, stepAt}
 use Rattle.theory.specs.Order.{monomial}
 use Rattle.theory.specs.Shape.Forms.{FormInShape}
 use Rattle.theory.specs.Shape.Letters.{MonomialKnown}
@@ -22,7 +23,7 @@ use Rattle.shortening.specs.declared.choosing.Opening.{Opening}
 use Rattle.shortening.specs.declared.trying.Trial.{Trial}
 use Rattle.shortening.specs.declared.trying.Next.{Next}
 use Rattle.shortening.specs.Choosing.{Opened}
-use Rattle.shortening.specs.Marks.{Covering}
+use Rattle.marks.specs.Marks.{Covering}
 
 -- ════ one candidate
 
@@ -62,6 +63,18 @@ pub record NextPick (marks : List ℕ) (t : Term) (rule : ℕ) (o : Opening) (fr
   pub forward : from < r .next
   pub inside : r .next ≤ 64
   pub whole : r .found ≡ false → r .next ≡ 64
+
+-- no candidate of the rule at a form of the kind, where the mask leaves so many letters: the rule is one of vectors and the form is not, or it takes another number
+unfoldable pub RuledOut : (kind left : ℕ) (part : List ℕ) (rule : ℕ) → Type 0
+RuledOut kind n p r = ((kind ≡ scalar) × (ruleKind r ≡ vector)) ⊎ (n + length (if eqb (ruleKind r) vector then p else []) ≡ ruleLetters r → ⊥)
+
+-- the rules and the picks of a mask in one row of places, 64 picks for a rule: all from one on, before the next
+pub record NextOfMask (marks : List ℕ) (kind : ℕ) (t : S.Term) (mask from : ℕ) (r : Next) : Type 0 where
+  pub all : (p : ℕ) → from ≤ p → p < r .next → Settled marks kind t mask (p / 64 + 1) (p % 64) (r .found) (r .step)
+  pub counted : Counted (r .step .m)
+  pub forward : from < r .next
+  pub inside : r .next ≤ 320
+  pub whole : r .found ≡ false → r .next ≡ 320
 
 -- the masks, the rules and the picks in one row of places: 64 picks for a rule, 5 rules for a mask
 unfoldable pub maskOf : (place : ℕ) → ℕ

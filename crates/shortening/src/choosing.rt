@@ -13,7 +13,7 @@ ghost use Rattle.theory.specs.Shortening.Masks.{taken, leftOver};
 ghost use Rattle.theory.specs.Shortening.Candidates.{blockSize, inRuleOrder};
 ghost use Rattle.terms.specs.Numbers.{lettersOf};
 ghost use Rattle.terms.specs.Abstraction.{partOf, termOf, Counted};
-ghost use Rattle.shortening.specs.Choosing.{MaskTaken, LeftBy, Pooled, Adds, lettersLeft, MultiplierOf, PassesBy, OpenedBy, RuleOrdered, PickedBy};
+ghost use Rattle.shortening.specs.Choosing.{MaskTaken, bitCounts, LeftBy, Pooled, Adds, lettersLeft, MultiplierOf, PassesBy, OpenedBy, RuleOrdered, PickedBy};
 use records::write::letter_count;
 use records::write::low;
 use rules::steps::Step;
@@ -54,6 +54,78 @@ pub fn mask_count(n: u8) -> usize
         6 => 64,
         _ => 128,
     }
+}
+
+// How many bits stand in each mask over six letters.
+pub fn bit_counts() -> [u8; 64]
+    ensures { λ r. ⌜ r ≡ bitCounts 0 64 ⌝ }
+{
+    [
+        0,
+        1,
+        1,
+        2,
+        1,
+        2,
+        2,
+        3,
+        1,
+        2,
+        2,
+        3,
+        2,
+        3,
+        3,
+        4,
+        1,
+        2,
+        2,
+        3,
+        2,
+        3,
+        3,
+        4,
+        2,
+        3,
+        3,
+        4,
+        3,
+        4,
+        4,
+        5,
+        1,
+        2,
+        2,
+        3,
+        2,
+        3,
+        3,
+        4,
+        2,
+        3,
+        3,
+        4,
+        3,
+        4,
+        4,
+        5,
+        2,
+        3,
+        3,
+        4,
+        3,
+        4,
+        4,
+        5,
+        3,
+        4,
+        4,
+        5,
+        4,
+        5,
+        5,
+        6,
+    ]
 }
 
 // The numbers whose bit in a mask stands, in their order; how many they are.
@@ -236,7 +308,7 @@ pub fn open(kind: u8, t: Term, k: usize, rule: u8) -> Opening
 }
 
 // How many letters of a rule ascend as one block.
-fn block_size(rule: u8) -> u8
+pub fn block_size(rule: u8) -> u8
     ensures { λ r. ⌜ r ≡ blockSize rule ⌝ }
 {
     match rule {

@@ -4,7 +4,6 @@ ghost use Rattle.specification.specs.Shortening.{Shortened};
 ghost use Rattle.shortening.specs.Answers.{shorteningOf, logLength};
 
 mod choosing;
-mod marks;
 pub mod rounds;
 mod searching;
 mod trying;

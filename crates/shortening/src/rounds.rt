@@ -1,5 +1,5 @@
 // The rounds: a step to fewer terms from each form reached, until there is none.
-// Each search begins where the last one found a step; that there is none is found by one over all terms.
+// Each search begins behind the term that the last step took away; that there is none is found by one over all terms.
 ghost use Rattle.terms.specs.Valid.{FormValid};
 ghost use Rattle.shortening.specs.Derived.{Derived};
 use crate::searching::search;
@@ -19,7 +19,7 @@ pub fn derive(table: &[u8], f: Form) -> Derivation
     let mut r = search(table, f, 0);
     while r.found {
         let s = r.step;
-        let at = r.term;
+        let at = r.behind;
         steps[n] = s;
         n += 1;
         g = r.form;

@@ -1,20 +1,42 @@
 // The search for a step to fewer terms: the standing terms, and for each its candidates, until one shortens.
 ghost use Prim.Native.Nat.{_≤_};
+ghost use Rattle.terms.specs.Abstraction.{Counted};
 ghost use Rattle.terms.specs.Valid.{FormValid};
 ghost use Rattle.shortening.specs.Searching.{SearchedBy};
-use crate::marks::mark_form;
 use crate::trying::next_candidate;
 use crate::trying::no_step;
+use gathering::comes_behind;
+use marks::marking::mark_form;
 use rules::admissible::step_at;
 use rules::steps::Step;
 use terms::types::Form;
+use terms::types::Term;
 
-// A step to fewer terms, if there is one, the term that it takes away, and the form that it reaches.
+// A step to fewer terms, if there is one, the form that it reaches, and the place in it behind the term that was taken away.
 pub struct Found {
     pub found: bool,
-    pub term: usize,
+    pub behind: usize,
     pub step: Step,
     pub form: Form,
+}
+
+// The place in a form at which a term would stand.
+fn place_in(g: Form, t: Term) -> usize
+    requires { ⌜ FormValid g × Counted t ⌝ }
+    ensures { λ r. ⌜ r ≤ 48 ⌝ }
+{
+    let mut low: usize = 0;
+    let mut high = g.count;
+    while low < high {
+        let i = (low + high) / 2;
+        let u = g.terms[i];
+        if comes_behind(t, u) {
+            low = i + 1;
+        } else {
+            high = i;
+        }
+    }
+    low
 }
 
 // A step to fewer terms from a form, by the terms from one on. The places of all terms stand in one row, 40960 for each.
@@ -38,9 +60,10 @@ pub fn search(table: &[u8], f: Form, first: usize) -> Found
             let g = r.form;
             if r.refusal == 0 {
                 if g.count < n {
+                    let behind = place_in(g, t);
                     return Found {
                         found: true,
-                        term: i,
+                        behind: behind,
                         step: s,
                         form: g,
                     };
@@ -51,7 +74,7 @@ pub fn search(table: &[u8], f: Form, first: usize) -> Found
     let s = no_step();
     Found {
         found: false,
-        term: 0,
+        behind: 0,
         step: s,
         form: f,
     }

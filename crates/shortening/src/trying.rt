@@ -1,35 +1,35 @@
 // Candidates for a step to fewer terms, one after the other: each takes one standing term away exactly.
 ghost use mathlib.Core.Path.{_≡_};
-ghost use Prim.Native.Nat.{_^_, _<_};
+ghost use mathlib.Core.Bool.{false};
+ghost use mathlib.Core.Logic.{_⊎_};
+ghost use Prim.Native.Nat.{_%_, _^_, _<_, _≤_};
 ghost use mathlib.Core.List.{[]};
 ghost use lib.Dec.{T, eqb};
-ghost use lib.ListN.{length};
+ghost use lib.ListN.{length, getD};
 ghost use Rattle.specification.specs.Results.{if_then_else_};
 ghost use Rattle.specification.specs.Letters.{vector};
-ghost use Rattle.specification.specs.Terms.{gather};
-ghost use Rattle.specification.specs.Rules.{isRule, ruleLetters, ruleKind, stepTerms};
-ghost use Rattle.theory.specs.Order.{monomial};
-ghost use Rattle.theory.specs.Gathering.Coefficients.{coeff};
+ghost use Rattle.specification.specs.Rules.{isRule, ruleLetters, ruleKind};
 ghost use Rattle.terms.specs.Abstraction.{partOf, termOf, Counted};
 ghost use Rattle.terms.specs.Valid.{TermValid};
-ghost use Rattle.rules.specs.Steps.{stepOf, StepValid, StepFits};
-ghost use Rattle.shortening.specs.Trying.{SomeOpened, Tried, NextPick, NextPlace};
+ghost use Rattle.shortening.specs.Choosing.{LeftBy};
+ghost use Rattle.shortening.specs.Trying.{SomeOpened, Tried, NextPick, RuledOut, NextOfMask, NextPlace};
 use crate::choosing::Opening;
+use crate::choosing::bit_counts;
+use crate::choosing::block_size;
 use crate::choosing::letters_left;
 use crate::choosing::mask_count;
 use crate::choosing::open;
 use crate::choosing::pick;
-use crate::marks::surely_longer;
-use gathering::are_like;
-use integers::add;
 use integers::divide;
 use integers::neg;
+use marks::marking::size_mark;
+use marks::steps::gain;
+use marks::steps::mark_step;
+use marks::steps::surely_longer;
 use rules::steps::Step;
 use rules::steps::rule_kind;
 use rules::steps::rule_letters;
-use rules::steps::step_terms;
 use terms::shape::part_letters;
-use terms::tidy::tidy;
 use terms::types::Part;
 use terms::types::Term;
 
@@ -44,26 +44,6 @@ pub struct Next {
     pub found: bool,
     pub next: usize,
     pub step: Step,
-}
-
-// What a step adds to the monomial of a term.
-fn gain(t: Term, s: Step) -> i64
-    requires { ⌜ Counted t × StepValid s × StepFits s ⌝ }
-    ensures { λ r. ⌜ r ≡ coeff (monomial (termOf t)) (gather (stepTerms (stepOf s))) ⌝ }
-{
-    let a = step_terms(s);
-    let n = a.count;
-    let mut g: i64 = 0;
-    let mut i: usize = 0;
-    while i < n {
-        let x = a.terms[i];
-        let u = tidy(x);
-        if are_like(t, u) {
-            g = add(g, u.coef);
-        }
-        i += 1;
-    }
-    g
 }
 
 // A term with another coefficient.
@@ -100,13 +80,20 @@ fn try_pick(marks: &[u8; 256], t: Term, rule: u8, o: Opening, j: usize) -> Trial
             step: s,
         };
     }
-    if surely_longer(marks, s) {
+    let w = mark_step(s);
+    if surely_longer(marks, 0, s, w) {
         return Trial {
             found: false,
             step: s,
         };
     }
-    let q = divide(neg(t.coef), gain(t, s));
+    let q = divide(neg(t.coef), gain(t, s, w));
+    if surely_longer(marks, size_mark(q.value), s, w) {
+        return Trial {
+            found: false,
+            step: s,
+        };
+    }
     let n = with_coef(q.value, m);
     let e = Step {
         rule: rule,
@@ -139,14 +126,46 @@ pub fn no_step() -> Step
     }
 }
 
+// Whether a block can be taken without the first letter: in rule 5, where the block is first, only if the second is the same.
+fn may_leave_first(pool: &[u32; 7], rule: u8) -> bool
+    requires { ⌜ length (now pool) ≡ 7 ⌝ }
+    ensures { λ r. ⌜ (r ≡ false → (rule ≡ 5) × (getD (now (pool .entry)) 0 0 < getD (now (pool .entry)) 1 0)) ⌝ }
+{
+    if rule != 5 {
+        return true;
+    }
+    pool[1] <= pool[0]
+}
+
+// Whether a mask can take a block of so many letters.
+fn may_take_block(bits: &[u8; 64], block: u8, first: bool, j: usize) -> bool
+    requires { ⌜ (length (now bits) ≡ 64) × (j < 64) ⌝ }
+    ensures { λ r. ⌜ (r ≡ false → (getD (now (bits .entry)) j 0 ≡ block → ⊥) ⊎ ((first ≡ false) × (j % 2 ≡ 0))) ⌝ }
+{
+    if bits[j] != block {
+        return false;
+    }
+    if first {
+        return true;
+    }
+    j % 2 == 1
+}
+
 // The next pick of an opening that is worth a trial.
 fn next_pick(marks: &[u8; 256], t: Term, rule: u8, o: Opening, from: usize) -> Next
     requires { ⌜ (length (now marks) ≡ 256) × TermValid t × T (isRule rule) × SomeOpened t rule o × (from < 64) ⌝ }
     ensures { λ r. ⌜ NextPick (now (marks .entry)) t rule o from r ⌝ }
 {
     let end = mask_count(rule_letters(rule) as u8);
+    let block = block_size(rule);
+    let bits = bit_counts();
+    let first = may_leave_first(&o.pool, rule);
     let mut j = from;
     while j < end {
+        if !may_take_block(&bits, block, first, j) {
+            j += 1;
+            continue;
+        }
         let r = try_pick(marks, t, rule, o, j);
         j += 1;
         if r.found {
@@ -176,24 +195,31 @@ fn rule_part(rule: u8, p: Part) -> usize
     0
 }
 
-// The next candidate of a term that is worth a trial.
-pub fn next_candidate(marks: &[u8; 256], kind: u8, t: Term, from: usize) -> Next
-    requires { ⌜ (length (now marks) ≡ 256) × TermValid t × (from < 40960) ⌝ }
-    ensures { λ r. ⌜ NextPlace (now (marks .entry)) kind (termOf t) from r ⌝ }
+// Whether a rule can take the letters that a mask leaves, at a form of a kind: a rule of vectors is for vector forms alone.
+fn is_open(kind: u8, left: usize, p: Part, rule: u8) -> bool
+    requires { ⌜ left ≤ 64 ⌝ }
+    ensures { λ r. ⌜ (r ≡ false → RuledOut kind left (partOf p) rule) ⌝ }
 {
-    let end = 320 * mask_count(t.factor_count);
+    let a = rule_kind(rule);
+    if kind == 0 {
+        if a == 1 {
+            return false;
+        }
+    }
+    left + rule_part(rule, p) == rule_letters(rule)
+}
+
+// The next candidate of a term that is worth a trial, by a mask that leaves so many letters.
+fn next_of_mask(marks: &[u8; 256], kind: u8, t: Term, k: usize, left: usize, from: usize) -> Next
+    requires { ⌜ (length (now marks) ≡ 256) × TermValid t × (k < 2 ^ t .«factor_count») × LeftBy (termOf t .factors) k left × (from < 320) ⌝ }
+    ensures { λ r. ⌜ NextOfMask (now (marks .entry)) kind (termOf t) k from r ⌝ }
+{
     let p = t.part;
     let mut at = from;
-    while at < end {
+    while at < 320 {
         let q = at / 64;
-        let k = q / 5;
-        let rule = (q % 5 + 1) as u8;
-        let left = letters_left(&t.factors, t.factor_count, k);
-        if left > 6 {
-            at = (k + 1) * 320;
-            continue;
-        }
-        if left + rule_part(rule, p) != rule_letters(rule) {
+        let rule = (q + 1) as u8;
+        if !is_open(kind, left, p, rule) {
             at = (q + 1) * 64;
             continue;
         }
@@ -211,6 +237,39 @@ pub fn next_candidate(marks: &[u8; 256], kind: u8, t: Term, from: usize) -> Next
             }
         }
         at = (q + 1) * 64;
+    }
+    let s = no_step();
+    Next {
+        found: false,
+        next: 320,
+        step: s,
+    }
+}
+
+// The next candidate of a term that is worth a trial.
+pub fn next_candidate(marks: &[u8; 256], kind: u8, t: Term, from: usize) -> Next
+    requires { ⌜ (length (now marks) ≡ 256) × TermValid t × (from < 40960) ⌝ }
+    ensures { λ r. ⌜ NextPlace (now (marks .entry)) kind (termOf t) from r ⌝ }
+{
+    let end = mask_count(t.factor_count);
+    let mut k = from / 320;
+    let mut at = from % 320;
+    while k < end {
+        let left = letters_left(&t.factors, t.factor_count, k);
+        if left <= 6 {
+            let r = next_of_mask(marks, kind, t, k, left, at);
+            if r.found {
+                let s = r.step;
+                let next = k * 320 + r.next;
+                return Next {
+                    found: true,
+                    next: next,
+                    step: s,
+                };
+            }
+        }
+        k += 1;
+        at = 0;
     }
     let s = no_step();
     Next {

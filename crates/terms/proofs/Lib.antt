@@ -8,3 +8,4 @@ pub mod InShape
 pub mod Exchanges
 pub mod Tidying
 pub mod Joins
+pub mod Forms

@@ -8,7 +8,7 @@ use native.Mathlib.Nat as N
 use native.Mathlib.Omega.{arith}
 use lib.Dec.{T, eqb, leb, ltb, leb→le, le→leb, ltb→lt, lt→ltb, eqb→eq}
 use lib.ListN.{length}
-use lib.IntN.{ℤ, pos, negsuc}
+use lib.IntN.{ℤ, pos, negsuc, natAbs}
 use Rattle.algebra.specs.Integers.{NonZero, pos-nonzero, negsuc-nonzero}
 use Rattle.specification.specs.Results.{if_then_else_}
 use Rattle.specification.specs.Lists.{isNotMore, all, ascend, order, putInto, sorted}
@@ -198,6 +198,11 @@ term-closes t s =
     (part-closes (t .part) (s .inOrder .part) (s .fits .part))
     (le→leb (vectorLetters t) 6 (s .fits .vectors))
     (le→leb (scalarLetters t) 2 (s .fits .scalars))
+
+-- a term in shape has a coefficient within the limit
+pub in-limit : (t : Term) → T (termInShape t) → natAbs (t .coef) ≤ 2147483647
+unfolding coefWithin
+in-limit t h = leb→le (natAbs (t .coef)) 2147483647 (term-opens t h .within)
 
 -- a term in shape is tidy
 pub in-shape-tidy : (t : Term) → T (termInShape t) → tidy t ≡ t

@@ -2,7 +2,8 @@ use borrow.Author.Needs.{needs}
 use Rattle.shortening.proofs.choosing.add_factor.Statement.{statement}
 use Rattle.shortening.proofs.choosing.add_factor.Tie as tie
 use native.Mathlib.Omega.{arith}
-use Rattle.shortening.proofs.Pools.{adds-both, scalar-letters, dot-letters, triple-letters, adds-as}
+use Rattle.terms.proofs.Numbers.{scalar-letters, dot-letters, triple-letters}
+use Rattle.shortening.proofs.Pools.{adds-both, adds-as}
 use mathlib.Core.Path.{refl}
 
 add-letter-requires : tie.Need-add-letter-requires

@@ -5,7 +5,7 @@ use mathlib.Core.Path.{refl}
 use denote.Ref.{now}
 use borrow.Author.Tests.{not-false}
 use Rattle.shortening.specs.Searching.{SearchedBy}
-use Rattle.shortening.proofs.Derivations.{found-anywhere, Rounds, rounds-none, round-room, round-term, round-fewer, round-more, rounds-end}
+use Rattle.shortening.proofs.Derivations.{found-anywhere, Rounds, rounds-none, round-room, round-behind, round-fewer, round-more, rounds-end}
 
 abbrev Inv-loop : tie.InvT-loop
 Inv-loop table steps₀ n₀ g₀ r₀ steps n g r = Rounds table g₀ steps n g × SearchedBy (r .found) 0 table g r
@@ -32,7 +32,7 @@ add-n : tie.Need-add-n Inv-loop μ-loop
 add-n c = let w = c .before .before .before .before .before .before in let v = c .before .before .loop in omega (arith, round-room (now (w .args .table)) (w .args .f) (w .pre) (v .steps) (v .n) (v .g) (v .inv .0) (v .r) _ (v .inv .1) (c .before .loop-test .taken))
 
 search-requires-2 : tie.Need-search-requires-2 Inv-loop μ-loop
-search-requires-2 c κs = let w = c .before .before .before .before .before .before .before in let v = c .before .before .before .loop in (round-more (now (w .args .table)) (w .args .f) (w .pre) (v .steps) (v .n) (v .g) (v .inv .0) (v .r) _ (v .inv .1) (c .before .before .loop-test .taken) .form, round-term (now (w .args .table)) (w .args .f) (w .pre) (v .steps) (v .n) (v .g) (v .inv .0) (v .r) _ (v .inv .1) (c .before .before .loop-test .taken))
+search-requires-2 c κs = let w = c .before .before .before .before .before .before .before in let v = c .before .before .before .loop in (round-more (now (w .args .table)) (w .args .f) (w .pre) (v .steps) (v .n) (v .g) (v .inv .0) (v .r) _ (v .inv .1) (c .before .before .loop-test .taken) .form, round-behind (now (w .args .table)) (w .args .f) (w .pre) (v .steps) (v .n) (v .g) (v .inv .0) (v .r) _ (v .inv .1) (c .before .before .loop-test .taken))
 
 search-requires-3 : tie.Need-search-requires-3 Inv-loop μ-loop
 search-requires-3 c κs = let w = c .before .before .before .before .before .before .before .before .before .before in let v = c .before .before .before .before .before .before .loop in (round-more (now (w .args .table)) (w .args .f) (w .pre) (v .steps) (v .n) (v .g) (v .inv .0) (v .r) _ (v .inv .1) (c .before .before .before .before .before .loop-test .taken) .form, omega arith)

@@ -6,8 +6,9 @@ use Prim.Native.Nat.{_<_, _-_, _/_, _%_}
 use lib.ListN.{length, length-map}
 use denote.Ref.{now}
 use Rattle.terms.specs.Abstraction.{formOf}
+use Rattle.terms.proofs.Forms.{term-is, term-valid}
 use Rattle.shortening.specs.Trying.{NextPlace}
-use Rattle.shortening.proofs.Searches.{RowPassed, row-none, row-more, term-is, term-valid, row-searched, refused-useless, long-useless, shorter, not-found}
+use Rattle.shortening.proofs.Searches.{RowPassed, row-none, row-more, row-searched, refused-useless, long-useless, shorter, not-found}
 use Rattle.specification.specs.Terms as S
 use Rattle.shortening.specs.Searching.{SearchedBy}
 
@@ -53,9 +54,12 @@ add-at c = omega (arith, c .before .before .before .before .before .before .befo
 step-at-requires : tie.Need-step-at-requires Inv-loop μ-loop
 step-at-requires c κs = (c .before .before .before .before .before .before .before .before .before .before .pre .0, c .before .before .before .next-candidate .ensures .counted)
 
+place-in-requires : tie.Need-place-in-requires Inv-loop μ-loop
+place-in-requires c κs = let w = c .before .before .before .before .before .before .before .before .before .before .before .before .before .before .before .before in (c .before .before .before .before .before .step-at .ensures .valid (c .before .before .if2 .taken), term-valid (w .args .t2) (w .pre .0) (places w) (c .before .before .before .before .before .before .before .before .before .before .before .before .before .loop .at / 40960) (omega (arith, c .before .before .before .before .before .before .before .before .before .before .before .before .loop-test .taken)) .counted)
+
 returns : tie.Need-returns Inv-loop μ-loop
 unfolding SearchedBy
-returns c = let w = c .before .before .before .before .before .before .before .before .before .before .before .before .before .before .before .before in shorter (now (w .args .table)) (w .args .t2) (w .pre .0) (places w) _ _ (c .before .before .before .before .before .step-at .ensures) (c .before .before .if2 .taken) (reached-places (c .before .before .before .before .before)) (c .if3 .taken) (c .before .before .before .before .before .before .before .before .before .next-candidate .ensures .counted) _ (omega (arith, w .pre .0 .few, c .before .before .before .before .before .before .before .before .before .before .before .before .loop-test .taken))
+returns c = let w = c .before .before .before .before .before .before .before .before .before .before .before .before .before .before .before .before .before in shorter (now (w .args .table)) (w .args .t2) (w .pre .0) (places w) _ _ (c .before .before .before .before .before .before .step-at .ensures) (c .before .before .before .if2 .taken) (reached-places (c .before .before .before .before .before .before)) (c .before .if3 .taken) (c .before .before .before .before .before .before .before .before .before .before .next-candidate .ensures .counted) _ (c .place-in .ensures)
 
 loop-less : tie.Need-loop-less Inv-loop μ-loop
 loop-less c = let n = c .before .before .before .before .before .before .before .before .before .next-candidate .ensures in let v = c .before .before .before .before .before .before .before .before .before .before .before .before .before .loop in omega (arith, c .before .before .before .before .before .before .before .before .before .before .before .before .loop-test .taken, n .forward, n .inside)
@@ -122,6 +126,7 @@ search-spec =
     mul-at-2
     add-at
     step-at-requires
+    place-in-requires
     returns
     loop-less
     loop-again

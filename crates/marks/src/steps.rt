@@ -1,0 +1,118 @@
+// A quick test that a step leads to no fewer terms, and what a step adds to one term.
+// A product of M with a row of the rule whose mark no term has adds a term; one whose mark only terms of other sizes have takes none away; any other
+// takes away at most one.
+ghost use mathlib.Core.Path.{_≡_};
+ghost use mathlib.Core.Bool.{true};
+ghost use mathlib.Core.Logic.{_⊎_};
+ghost use mathlib.Core.List.{[]};
+ghost use Prim.Native.Nat.{_%_, _≤_};
+ghost use lib.IntN.{natAbs};
+ghost use lib.ListN.{length};
+ghost use Rattle.specification.specs.Terms.{timesTerm, gather};
+ghost use Rattle.specification.specs.Rules.{stepTerms};
+ghost use Rattle.theory.specs.Order.{monomial};
+ghost use Rattle.theory.specs.Gathering.Coefficients.{coeff};
+ghost use Rattle.terms.specs.Abstraction.{partOf, termOf, Counted};
+ghost use Rattle.rules.specs.Table.{partAt, rowTerm};
+ghost use Rattle.rules.specs.Steps.{stepOf, StepValid, StepFits};
+ghost use Rattle.marks.specs.Marks.{NotShorter, StepMarked, RowGained};
+use crate::marking::factors_mark;
+use crate::marking::part_mark;
+use crate::marking::term_mark;
+use crate::rows::letter_marks;
+use crate::rows::product_mark;
+use crate::rows::row_score;
+use gathering::are_like;
+use integers::add;
+use rules::steps::Step;
+use rules::steps::row_count;
+use rules::table::rule_rows;
+use rules::table::times_row;
+use terms::tidy::tidy;
+use terms::types::Term;
+
+// The marks of a step: those of M's factors and of its vector part, and those of the rule's letters at their places.
+pub struct StepMarks {
+    pub factors: u64,
+    pub part: u64,
+    pub letters: [u64; 8],
+}
+
+// The marks of a step.
+pub fn mark_step(s: Step) -> StepMarks
+    requires { ⌜ Counted (s .m) ⌝ }
+    ensures { λ r. ⌜ StepMarked (s .letters) (termOf (s .m)) r ⌝ }
+{
+    let m = s.m;
+    let p = m.part;
+    let n = m.factor_count;
+    let letters = s.letters;
+    let a = factors_mark(&m.factors, n);
+    let b = part_mark(p);
+    let l = letter_marks(letters);
+    StepMarks {
+        factors: a,
+        part: b,
+        letters: l,
+    }
+}
+
+// Whether a step with these marks surely leads no form with those marks to fewer terms, whatever the coefficient of M, if it has the size v; 0 stands for any.
+pub fn surely_longer(marks: &[u8; 256], v: u8, s: Step, w: StepMarks) -> bool
+    requires { ⌜ StepValid s × StepFits s × StepMarked (s .letters) (termOf (s .m)) w × (length (now marks) ≡ 256) ⌝ }
+    ensures { λ r. ⌜ (r ≡ true → NotShorter (now (marks .entry)) v (stepOf s)) ⌝ }
+{
+    let rule = s.rule;
+    let n = row_count(rule);
+    let rows = rule_rows(rule);
+    let mut seen = [0u8; 256];
+    let mut score: usize = 0;
+    let mut i: usize = 0;
+    while i < n {
+        if n <= score {
+            return true;
+        }
+        let k = rows[i];
+        let h = product_mark(w.factors, w.part, &w.letters, k);
+        score += row_score(marks, &seen, v, h, &w.letters, k);
+        seen[h] = 1;
+        i += 1;
+    }
+    n <= score
+}
+
+// What M times a row adds to the monomial of a term.
+fn row_gain(t: Term, m: Term, letters: [u8; 6], k: u64) -> i64
+    requires counts { ⌜ Counted t × Counted m × (m .«factor_count» ≤ 4) × (natAbs (m .coef) ≤ 2147483647) ⌝ }
+    requires part { ⌜ (partOf (m .part) ≡ []) ⊎ (partAt letters (k % 64) ≡ []) ⌝ }
+    ensures { λ r. ⌜ RowGained (termOf t) (timesTerm (termOf m) (rowTerm letters k)) r ⌝ }
+{
+    let u = tidy(times_row(m, letters, k));
+    if are_like(t, u) {
+        return u.coef;
+    }
+    0
+}
+
+// What a step with these marks adds to the monomial of a term. Only products with the term's mark are multiplied out.
+pub fn gain(t: Term, s: Step, w: StepMarks) -> i64
+    requires { ⌜ Counted t × StepValid s × StepFits s × StepMarked (s .letters) (termOf (s .m)) w ⌝ }
+    ensures { λ r. ⌜ r ≡ coeff (monomial (termOf t)) (gather (stepTerms (stepOf s))) ⌝ }
+{
+    let m = s.m;
+    let letters = s.letters;
+    let rule = s.rule;
+    let n = row_count(rule);
+    let rows = rule_rows(rule);
+    let h = term_mark(t);
+    let mut g: i64 = 0;
+    let mut i: usize = 0;
+    while i < n {
+        let k = rows[i];
+        if product_mark(w.factors, w.part, &w.letters, k) == h {
+            g = add(g, row_gain(t, m, letters, k));
+        }
+        i += 1;
+    }
+    g
+}

@@ -1,0 +1,68 @@
+use mathlib.Core.Path.{_≡_, sym, _∙_}
+use Prim.Native.Nat.{_-_, _≤_}
+use native.Mathlib.Omega.{arith}
+use lib.ListN.{length, length-map}
+use Rattle.terms.specs.Abstraction.{Counted}
+use Rattle.terms.proofs.Arrays.{noTerm, all-at}
+use Rattle.shortening.proofs.searching.place_in.Statement.{statement}
+use Rattle.shortening.proofs.searching.place_in.Tie as tie
+
+abbrev Inv-loop : tie.InvT-loop
+Inv-loop t g low₀ high₀ low high = (low ≤ high) × (high ≤ g .count)
+
+abbrev μ-loop : tie.MeasureT-loop
+μ-loop t g low₀ high₀ low high = high - low
+
+places : (c : tie.Start Inv-loop μ-loop) → length (c .args .t1 .terms) ≡ 48
+places c = sym (length-map (c .args .t1 .terms) _) ∙ c .good .0 .1 .1 .1 .1 .0 .1 .0 .1
+
+loop-holds : tie.Need-loop-holds Inv-loop μ-loop
+loop-holds c = omega arith
+
+add-i : tie.Need-add-i Inv-loop μ-loop
+add-i c = omega (arith, c .before .before .pre .0 .few)
+
+mul-u : tie.Need-mul-u Inv-loop μ-loop
+mul-u c = omega (arith, c .before .before .pre .0 .few)
+
+element-copy-out-u : tie.Need-element-copy-out-u Inv-loop μ-loop
+element-copy-out-u c = omega (arith, c .before .before .pre .0 .few, c .loop-test .taken)
+
+comes-behind-requires : tie.Need-comes-behind-requires Inv-loop μ-loop
+comes-behind-requires c κs = let w = c .before .before .before in (w .pre .1, all-at Counted (w .args .t1 .terms) (w .args .t1 .count) _ noTerm (omega (arith, w .pre .0 .few, places w)) (omega (arith, c .before .loop-test .taken)) (w .pre .0 .counted))
+
+add-low : tie.Need-add-low Inv-loop μ-loop
+add-low c = omega (arith, c .before .before .before .before .before .pre .0 .few)
+
+loop-less : tie.Need-loop-less Inv-loop μ-loop
+loop-less c = omega arith
+
+loop-again : tie.Need-loop-again Inv-loop μ-loop
+loop-again c = omega arith
+
+loop-less-2 : tie.Need-loop-less-2 Inv-loop μ-loop
+loop-less-2 c = omega arith
+
+loop-again-2 : tie.Need-loop-again-2 Inv-loop μ-loop
+loop-again-2 c = omega arith
+
+returns : tie.Need-returns Inv-loop μ-loop
+returns c = omega (arith, c .before .before .pre .0 .few)
+
+pub place-in-spec : {M : Type 1} → statement M
+place-in-spec =
+    tie.close
+    (tie.spec
+    Inv-loop
+    μ-loop
+    loop-holds
+    add-i
+    mul-u
+    element-copy-out-u
+    comes-behind-requires
+    add-low
+    loop-less
+    loop-again
+    loop-less-2
+    loop-again-2
+    returns)
