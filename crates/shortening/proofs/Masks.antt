@@ -5,8 +5,8 @@ use mathlib.Core.Logic.{_⊎_, inl, inr}
 use mathlib.Core.List.{List, [], _∷_, _++_, map, append-nil}
 use Prim.Native.Nat.{ℕ, zero, suc, _+_, _-_, _/_, _%_, _^_, _<_, _≤_}
 use native.Mathlib.Nat as N
-use native.Mathlib.Numerals.{add-one}
 use native.Mathlib.Omega.{arith}
+use lib.Count.{ones, ones-step}
 use lib.Dec.{eqb}
 use lib.ListN.{length, getD, take, drop, set, length-set}
 use lib.Pow.{pow-mono}
@@ -17,7 +17,7 @@ use Rattle.theory.specs.Order.{nat-laws}
 use Rattle.theory.specs.Sorting as O
 use Rattle.theory.specs.Shortening.Masks.{taken, leftOver}
 use Rattle.terms.proofs.Arrays.{rest-at, nothing-left, stored-behind}
-use Rattle.shortening.specs.Choosing.{MaskTaken, bitCount, bitCounts}
+use Rattle.shortening.specs.Choosing.{MaskTaken, bitDigits}
 
 module _ {A : Type 0} where
   pub taken-map : {B : Type 0} (f : A → B) (k : ℕ) (l : List A) → taken k (map f l) ≡ map f (taken k l)
@@ -75,45 +75,28 @@ even b e = go (b % 2) refl
 
 -- ════ how many a mask takes
 
-module _ {A : Type 0} where
-  -- as many as bits stand
-  taken-count : (k : ℕ) (l : List A) → length (taken k l) ≡ bitCount (length l) k
-  unfolding taken bitCount
-  taken-count k [] = refl
-  taken-count k (x ∷ l) = go (k % 2) refl (taken-count (k / 2) l)
-    where
-      go : (b : ℕ) → k % 2 ≡ b → length (taken (k / 2) l) ≡ bitCount (length l) (k / 2) → length (if eqb b 1 then x ∷ taken (k / 2) l else taken (k / 2) l) ≡ b + bitCount (length l) (k / 2)
-      go zero e ih = ih ∙ sym (N.zero-add (bitCount (length l) (k / 2)))
-      go (suc zero) e ih = ap suc ih ∙ sym (N.add-comm 1 (bitCount (length l) (k / 2)) ∙ add-one (bitCount (length l) (k / 2)))
-      go (suc (suc b)) e ih = absurd (omega arith)
+-- as many as bits stand
+taken-count : {A : Type 0} (k : ℕ) (l : List A) → k < 2 ^ length l → length (taken k l) ≡ ones k
+unfolding taken ones
+taken-count k [] h = let z : 0 ≡ k = omega arith in ap ones z
+taken-count {A} k (x ∷ l) h = go (k % 2) refl (taken-count (k / 2) l (omega (arith, N.two-pow-succ (length l)))) ∙ sym (ones-step k)
+  where
+    go : (b : ℕ) → k % 2 ≡ b → length (taken (k / 2) l) ≡ ones (k / 2) → length (if eqb b 1 then x ∷ taken (k / 2) l else taken (k / 2) l) ≡ b + ones (k / 2)
+    go zero e ih = ih ∙ sym (N.zero-add (ones (k / 2)))
+    go (suc zero) e ih = omega (arith, ih)
+    go (suc (suc b)) e ih = absurd (omega arith)
 
-no-bits : (m : ℕ) → bitCount m 0 ≡ 0
-unfolding bitCount
-no-bits zero = refl
-no-bits (suc m) = N.zero-add (bitCount m 0) ∙ no-bits m
+digits-at : (from n j : ℕ) → j < n → getD (bitDigits from n) j 0 ≡ 48 + ones (from + j)
+unfolding bitDigits
+digits-at from zero j h = absurd (omega arith)
+digits-at from (suc n) zero h = ap (λ (k : ℕ). 48 + ones k) (sym (N.add-zero from))
+digits-at from (suc n) (suc j) h = digits-at (from + 1) n j (omega arith) ∙ ap (λ (k : ℕ). 48 + ones k) (omega arith)
 
--- no bit stands behind those of the mask
-bits-wider : (n m k : ℕ) → k < 2 ^ n → bitCount (n + m) k ≡ bitCount n k
-unfolding bitCount
-bits-wider zero m k h =
-    let z : k ≡ 0 = omega arith in
-    ap (λ (w : ℕ). bitCount w k) (N.zero-add m) ∙ ap (bitCount m) z ∙ no-bits m
-bits-wider (suc n) m k h =
-    ap (λ (w : ℕ). bitCount w k) (N.suc-add n m) ∙ ap (λ (b : ℕ). k % 2 + b) (bits-wider n m (k / 2) (omega (arith, N.two-pow-succ n)))
-
-counts-at : (from n j : ℕ) → j < n → getD (bitCounts from n) j 0 ≡ bitCount 6 (from + j)
-unfolding bitCounts
-counts-at from zero j h = absurd (omega arith)
-counts-at from (suc n) zero h = ap (bitCount 6) (sym (N.add-zero from))
-counts-at from (suc n) (suc j) h = counts-at (from + 1) n j (omega arith) ∙ ap (bitCount 6) (omega arith)
-
--- by the table of counts
-pub taken-counted : {A : Type 0} (counts : List ℕ) (j : ℕ) (l : List A) → counts ≡ bitCounts 0 64 → length l ≤ 6 → j < 2 ^ length l → length (taken j l) ≡ getD counts j 0
-taken-counted {A} counts j l e few h =
-    let wide : length l + (6 - length l) ≡ 6 = omega arith in
+-- by the digits
+pub taken-counted : {A : Type 0} (digits : List ℕ) (j : ℕ) (l : List A) → digits ≡ bitDigits 0 64 → length l ≤ 6 → j < 2 ^ length l → getD digits j 0 ≡ 48 + length (taken j l)
+taken-counted {A} digits j l e few h =
     let below : j < 64 = N.lt-of-lt-of-le h (pow-mono few) in
-    taken-count j l ∙ sym (bits-wider (length l) (6 - length l) j h) ∙ ap (λ (w : ℕ). bitCount w j) wide
-    ∙ sym (ap (λ (c : List ℕ). getD c j 0) e ∙ counts-at 0 64 j below ∙ ap (bitCount 6) (N.zero-add j))
+    ap (λ (c : List ℕ). getD c j 0) e ∙ digits-at 0 64 j below ∙ ap (λ (k : ℕ). 48 + ones k) (N.zero-add j) ∙ ap (λ (n : ℕ). 48 + n) (sym (taken-count j l h))
 
 -- ════ a mask that leaves the first number of an ascending list
 

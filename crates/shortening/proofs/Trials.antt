@@ -41,7 +41,7 @@ use Rattle.shortening.specs.declared.choosing.Opening.{Opening}
 use Rattle.shortening.specs.declared.choosing.Picked.{Picked}
 use Rattle.shortening.specs.declared.trying.Trial.{Trial}
 use Rattle.shortening.specs.declared.trying.Next.{Next}
-use Rattle.shortening.specs.Choosing.{bitCounts, Shut, Opened, OpenedBy, picks, PickedBy}
+use Rattle.shortening.specs.Choosing.{bitDigits, Shut, Opened, OpenedBy, picks, PickedBy}
 use Rattle.marks.specs.Marks.{sizeMark, Sized, NotShorter}
 use Rattle.shortening.specs.Trying.{Hopeless, OnlyStep, Settled, SomeOpened, Tried, NextPick, NextOfMask, maskOf, ruleOf, pickOf, NextPlace}
 use Rattle.shortening.proofs.Masks.{taken-counted, left-first}
@@ -166,13 +166,22 @@ module _ (marks : List ℕ) (t : Term) (rule : ℕ) (o : Opening) (j : ℕ) (p :
 
 -- ════ masks that take no block
 
+pub block-few : (r : ℕ) → blockSize r ≤ 4
+unfolding blockSize
+block-few r = go (eqb r 2) (eqb r 3)
+  where
+    go : (a b : Bool) → (if a then 4 else if b then 4 else 3) ≤ 4
+    go true b = omega arith
+    go false true = omega arith
+    go false false = omega arith
+
 module _ (t : Term) (rule : ℕ) (o : Opening) (j kind k : ℕ) (opened : Opened kind t k rule o) (inside : j < 2 ^ ruleLetters rule) (can : T (isCandidate (termOf t) k rule j)) where
   -- another number of letters than the block has
-  wrong-count : (counts : List ℕ) (block : ℕ) → counts ≡ bitCounts 0 64 → block ≡ blockSize rule → (getD counts j 0 ≡ block → ⊥) → ⊥
-  wrong-count counts block e eb h =
+  wrong-count : (digits : List ℕ) (block : ℕ) → digits ≡ bitDigits 0 64 → block ≡ blockSize rule → (getD digits j 0 ≡ 48 + block → ⊥) → ⊥
+  wrong-count digits block e eb h =
       let l : List ℕ = pool (termOf t) k rule in
       let w = candidate-opens (termOf t) k rule j can in
-      h (sym (taken-counted counts j l e (omega (arith, w .0, few-letters rule)) (subst (λ (n : ℕ). j < 2 ^ n) (sym (w .0)) inside)) ∙ w .1 ∙ sym eb)
+      h (taken-counted digits j l e (omega (arith, w .0, few-letters rule)) (subst (λ (n : ℕ). j < 2 ^ n) (sym (w .0)) inside) ∙ ap (λ (n : ℕ). 48 + n) (w .1 ∙ sym eb))
 
   -- in rule 5 the first letter left
   first-left : rule ≡ 5 → getD (o .pool) 0 0 < getD (o .pool) 1 0 → j % 2 ≡ 0 → ⊥
@@ -188,10 +197,10 @@ module _ (t : Term) (rule : ℕ) (o : Opening) (j kind k : ℕ) (opened : Opened
       let first : T (leb (getD (taken j l) 0 0) (getD (leftOver j l) 0 0)) = rw (eq-eqb rule 5 e) at (w .2) in
       N.lt-irrefl (getD (leftOver j l) 0 0) (omega (arith, more, leb→le (getD (taken j l) 0 0) (getD (leftOver j l) 0 0) first))
 
-  pub takes-no-block : (counts : List ℕ) (block : ℕ) (b : Bool) → counts ≡ bitCounts 0 64 → block ≡ blockSize rule → (b ≡ false → (rule ≡ 5) × (getD (o .pool) 0 0 < getD (o .pool) 1 0))
-      → (getD counts j 0 ≡ block → ⊥) ⊎ ((b ≡ false) × (j % 2 ≡ 0)) → ⊥
-  takes-no-block counts block b e eb five (inl h) = wrong-count counts block e eb h
-  takes-no-block counts block b e eb five (inr h) = let w = five (h .0) in first-left (w .0) (w .1) (h .1)
+  pub takes-no-block : (digits : List ℕ) (block : ℕ) (b : Bool) → digits ≡ bitDigits 0 64 → block ≡ blockSize rule → (b ≡ false → (rule ≡ 5) × (getD (o .pool) 0 0 < getD (o .pool) 1 0))
+      → (getD digits j 0 ≡ 48 + block → ⊥) ⊎ ((b ≡ false) × (j % 2 ≡ 0)) → ⊥
+  takes-no-block digits block b e eb five (inl h) = wrong-count digits block e eb h
+  takes-no-block digits block b e eb five (inr h) = let w = five (h .0) in first-left (w .0) (w .1) (h .1)
 
 -- ════ one pick after the other
 

@@ -2,7 +2,8 @@
 use mathlib.Core.Bool.{Bool, true, false, not, _&&_}
 use mathlib.Core.Path.{_≡_}
 use mathlib.Core.List.{List, [], _∷_, _++_}
-use Prim.Native.Nat.{ℕ, zero, suc, _+_, _/_, _%_, _≤_, _<_}
+use Prim.Native.Nat.{ℕ, zero, suc, _+_, _≤_, _<_}
+use lib.Count.{ones}
 use lib.Dec.{T, eqb, leb, ltb}
 use lib.IntN.{ℤ, pos}
 use lib.ListN.{length, take}
@@ -30,15 +31,10 @@ pub record MaskTaken (l : List ℕ) (mask : ℕ) (to : List ℕ) (r : ℕ) : Typ
   pub few : r ≤ length l
   pub places : length to ≡ 7
 
--- how many of the first bits stand
-unfoldable pub bitCount : (width mask : ℕ) → ℕ
-bitCount zero k = 0
-bitCount (suc n) k = k % 2 + bitCount n (k / 2)
-
--- the counts of so many masks over six letters, from one on
-unfoldable pub bitCounts : (from count : ℕ) → List ℕ
-bitCounts k zero = []
-bitCounts k (suc n) = bitCount 6 k ∷ bitCounts (k + 1) n
+-- how many bits stand in so many masks, from one on, as digits
+unfoldable pub bitDigits : (from count : ℕ) → List ℕ
+bitDigits k zero = []
+bitDigits k (suc n) = (48 + ones k) ∷ bitDigits (k + 1) n
 
 -- a factor of vectors
 unfoldable pub isVectors : List ℕ → Bool

@@ -13,7 +13,7 @@ ghost use Rattle.theory.specs.Shortening.Masks.{taken, leftOver};
 ghost use Rattle.theory.specs.Shortening.Candidates.{blockSize, inRuleOrder};
 ghost use Rattle.terms.specs.Numbers.{lettersOf};
 ghost use Rattle.terms.specs.Abstraction.{partOf, termOf, Counted};
-ghost use Rattle.shortening.specs.Choosing.{MaskTaken, bitCounts, LeftBy, Pooled, Adds, lettersLeft, MultiplierOf, PassesBy, OpenedBy, RuleOrdered, PickedBy};
+ghost use Rattle.shortening.specs.Choosing.{MaskTaken, bitDigits, LeftBy, Pooled, Adds, lettersLeft, MultiplierOf, PassesBy, OpenedBy, RuleOrdered, PickedBy};
 use records::write::letter_count;
 use records::write::low;
 use rules::steps::Step;
@@ -56,76 +56,11 @@ pub fn mask_count(n: u8) -> usize
     }
 }
 
-// How many bits stand in each mask over six letters.
-pub fn bit_counts() -> [u8; 64]
-    ensures { λ r. ⌜ r ≡ bitCounts 0 64 ⌝ }
+// How many bits stand in each mask over six letters, as digits.
+pub fn bit_digits() -> [u8; 64]
+    ensures { λ r. ⌜ r ≡ bitDigits 0 64 ⌝ }
 {
-    [
-        0,
-        1,
-        1,
-        2,
-        1,
-        2,
-        2,
-        3,
-        1,
-        2,
-        2,
-        3,
-        2,
-        3,
-        3,
-        4,
-        1,
-        2,
-        2,
-        3,
-        2,
-        3,
-        3,
-        4,
-        2,
-        3,
-        3,
-        4,
-        3,
-        4,
-        4,
-        5,
-        1,
-        2,
-        2,
-        3,
-        2,
-        3,
-        3,
-        4,
-        2,
-        3,
-        3,
-        4,
-        3,
-        4,
-        4,
-        5,
-        2,
-        3,
-        3,
-        4,
-        3,
-        4,
-        4,
-        5,
-        3,
-        4,
-        4,
-        5,
-        4,
-        5,
-        5,
-        6,
-    ]
+    *b"0112122312232334122323342334344512232334233434452334344534454556"
 }
 
 // The numbers whose bit in a mask stands, in their order; how many they are.

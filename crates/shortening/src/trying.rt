@@ -2,7 +2,7 @@
 ghost use mathlib.Core.Path.{_≡_};
 ghost use mathlib.Core.Bool.{false};
 ghost use mathlib.Core.Logic.{_⊎_};
-ghost use Prim.Native.Nat.{_%_, _^_, _<_, _≤_};
+ghost use Prim.Native.Nat.{_+_, _%_, _^_, _<_, _≤_};
 ghost use mathlib.Core.List.{[]};
 ghost use lib.Dec.{T, eqb};
 ghost use lib.ListN.{length, getD};
@@ -14,7 +14,7 @@ ghost use Rattle.terms.specs.Valid.{TermValid};
 ghost use Rattle.shortening.specs.Choosing.{LeftBy};
 ghost use Rattle.shortening.specs.Trying.{SomeOpened, Tried, NextPick, RuledOut, NextOfMask, NextPlace};
 use crate::choosing::Opening;
-use crate::choosing::bit_counts;
+use crate::choosing::bit_digits;
 use crate::choosing::block_size;
 use crate::choosing::letters_left;
 use crate::choosing::mask_count;
@@ -138,11 +138,11 @@ fn may_leave_first(pool: &[u32; 7], rule: u8) -> bool
 }
 
 // Whether a mask can take a block of so many letters.
-fn may_take_block(bits: &[u8; 64], block: u8, first: bool, j: usize) -> bool
-    requires { ⌜ (length (now bits) ≡ 64) × (j < 64) ⌝ }
-    ensures { λ r. ⌜ (r ≡ false → (getD (now (bits .entry)) j 0 ≡ block → ⊥) ⊎ ((first ≡ false) × (j % 2 ≡ 0))) ⌝ }
+fn may_take_block(digits: &[u8; 64], block: u8, first: bool, j: usize) -> bool
+    requires { ⌜ (length (now digits) ≡ 64) × (j < 64) × (block ≤ 4) ⌝ }
+    ensures { λ r. ⌜ (r ≡ false → (getD (now (digits .entry)) j 0 ≡ 48 + block → ⊥) ⊎ ((first ≡ false) × (j % 2 ≡ 0))) ⌝ }
 {
-    if bits[j] != block {
+    if digits[j] != b'0' + block {
         return false;
     }
     if first {
@@ -158,11 +158,11 @@ fn next_pick(marks: &[u8; 256], t: Term, rule: u8, o: Opening, from: usize) -> N
 {
     let end = mask_count(rule_letters(rule) as u8);
     let block = block_size(rule);
-    let bits = bit_counts();
+    let digits = bit_digits();
     let first = may_leave_first(&o.pool, rule);
     let mut j = from;
     while j < end {
-        if !may_take_block(&bits, block, first, j) {
+        if !may_take_block(&digits, block, first, j) {
             j += 1;
             continue;
         }

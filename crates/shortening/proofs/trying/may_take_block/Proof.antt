@@ -10,6 +10,9 @@ use Rattle.shortening.proofs.trying.may_take_block.Tie as tie
 element-copy-out-if1 : tie.Need-element-copy-out-if1
 element-copy-out-if1 c = search needs
 
+add-if1 : tie.Need-add-if1
+add-if1 c = search needs
+
 returns : tie.Need-returns
 returns c = λ e. inl (c .if1 .taken)
 
@@ -20,4 +23,4 @@ returns-3 : tie.Need-returns-3
 returns-3 c = λ e. inr (c .if2 .left, even (c .before .before .before .args .j) (eqb-false _ _ e))
 
 pub may-take-block-spec : {M : Type 1} → statement M
-may-take-block-spec = tie.close (tie.spec element-copy-out-if1 returns returns-2 returns-3)
+may-take-block-spec = tie.close (tie.spec element-copy-out-if1 add-if1 returns returns-2 returns-3)

@@ -6,23 +6,23 @@ use borrow.Author.Tests.{not-true}
 use denote.Ref.{now}
 use lib.ListN.{length}
 use lib.Pow.{pow-mono}
-use Rattle.shortening.specs.Choosing.{bitCounts}
-use Rattle.shortening.proofs.Trials.{takes-no-block, PicksPassed, picks-none, picks-skipped, picks-more, picks-found, picks-end}
+use Rattle.shortening.specs.Choosing.{bitDigits}
+use Rattle.shortening.proofs.Trials.{block-few, takes-no-block, PicksPassed, picks-none, picks-skipped, picks-more, picks-found, picks-end}
 use Rattle.shortening.proofs.trying.next_pick.Statement.{statement}
 use Rattle.shortening.proofs.trying.next_pick.Tie as tie
 
 abbrev Inv-loop : tie.InvT-loop
-Inv-loop marks t rule from o end block bits first j₀ j = (from ≤ j) × PicksPassed marks t rule o from j
+Inv-loop marks t rule from o end block digits first j₀ j = (from ≤ j) × PicksPassed marks t rule o from j
 
 abbrev μ-loop : tie.MeasureT-loop
-μ-loop marks t rule from o end block bits first j₀ j = end - j
+μ-loop marks t rule from o end block digits first j₀ j = end - j
 
 few : (c : tie.After-mask-count Inv-loop μ-loop) → c .mask-count .result ≤ 64
 few c = subst (λ (n : ℕ). n ≤ 64) (sym (c .mask-count .ensures)) (pow-mono (c .before .rule-letters .ensures .1))
 
-counted : (c : tie.After-bit-counts Inv-loop μ-loop) → length (c .bit-counts .result) ≡ 64
-unfolding bitCounts
-counted c = ap length (c .bit-counts .ensures)
+counted : (c : tie.After-bit-digits Inv-loop μ-loop) → length (c .bit-digits .result) ≡ 64
+unfolding bitDigits
+counted c = ap length (c .bit-digits .ensures)
 
 rule-letters-requires : tie.Need-rule-letters-requires Inv-loop μ-loop
 rule-letters-requires c κs = tt
@@ -36,8 +36,8 @@ mask-count-requires c κs = omega (arith, c .rule-letters .ensures .1)
 block-size-requires : tie.Need-block-size-requires Inv-loop μ-loop
 block-size-requires c κs = tt
 
-bit-counts-requires : tie.Need-bit-counts-requires Inv-loop μ-loop
-bit-counts-requires c κs = tt
+bit-digits-requires : tie.Need-bit-digits-requires Inv-loop μ-loop
+bit-digits-requires c κs = tt
 
 may-leave-first-requires : tie.Need-may-leave-first-requires Inv-loop μ-loop
 may-leave-first-requires c κs = c .before .before .before .before .before .before .pre .3 .opened .places
@@ -46,7 +46,7 @@ loop-holds : tie.Need-loop-holds Inv-loop μ-loop
 loop-holds c = (omega arith, picks-none _ _ _ _ _)
 
 may-take-block-requires : tie.Need-may-take-block-requires Inv-loop μ-loop
-may-take-block-requires c κs = (counted (c .before .before .before .before .before .before), omega (arith, c .before .loop-test .taken, few (c .before .before .before .before .before .before .before .before)))
+may-take-block-requires c κs = (counted (c .before .before .before .before .before .before), omega (arith, c .before .loop-test .taken, few (c .before .before .before .before .before .before .before .before)), omega (arith, c .before .before .before .before .before .before .before .block-size .ensures, block-few (c .before .before .before .before .before .before .before .before .before .before .args .rule)))
 
 add-j : tie.Need-add-j Inv-loop μ-loop
 add-j c = omega (arith, c .before .before .before .loop-test .taken, few (c .before .before .before .before .before .before .before .before .before .before))
@@ -58,7 +58,7 @@ loop-again : tie.Need-loop-again Inv-loop μ-loop
 loop-again c = let w = c .before .before .before .before .before .before .before .before .before .before .before .before in let v = c .before .before .before .before .loop in (
   omega (arith, v .inv .0),
   picks-skipped (now (w .args .marks)) (w .args .t) (w .args .rule) (w .args .t4) (w .args .from) (v .j) (v .inv .1) (v .inv .0)
-      (λ kind k op inside can. takes-no-block (w .args .t) (w .args .rule) (w .args .t4) (v .j) kind k op inside can _ _ _ (c .before .before .before .before .before .before .before .before .bit-counts .ensures) (c .before .before .before .before .before .before .before .before .before .block-size .ensures) (c .before .before .before .before .before .may-leave-first .ensures) (c .before .may-take-block .ensures (not-true _ (c .if1 .taken)))),
+      (λ kind k op inside can. takes-no-block (w .args .t) (w .args .rule) (w .args .t4) (v .j) kind k op inside can _ _ _ (c .before .before .before .before .before .before .before .before .bit-digits .ensures) (c .before .before .before .before .before .before .before .before .before .block-size .ensures) (c .before .before .before .before .before .may-leave-first .ensures) (c .before .may-take-block .ensures (not-true _ (c .if1 .taken)))),
 )
 
 try-pick-requires : tie.Need-try-pick-requires Inv-loop μ-loop
@@ -95,7 +95,7 @@ next-pick-spec =
     cast-mask-count
     mask-count-requires
     block-size-requires
-    bit-counts-requires
+    bit-digits-requires
     may-leave-first-requires
     loop-holds
     may-take-block-requires
