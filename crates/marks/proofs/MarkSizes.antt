@@ -129,23 +129,23 @@ pub product-small : (b p : ℕ) → b ≤ 62500 → p ≤ 62500 → b * p ≤ 39
 product-small b p h k = N.mul-le-mul h k
 
 pub product-is : (a b x y z : ℕ) (l : List ℕ) (n : ℕ) → x ≡ placesMark l (n / 16777216 % 512) → y ≡ placesMark l (n / 32768 % 512) → z ≡ placesMark l (n / 64 % 512)
-    → ((a + (x + y + z) + 3 * (b * (getD l (n % 64 / 8) 0 * getD l (n % 64 % 8) 0))) % 251 ≡ productMark a b l n) × ((a + (x + y + z) + 3 * (b * (getD l (n % 64 / 8) 0 * getD l (n % 64 % 8) 0))) % 251 < 251)
+    → ((a + (x + y + z) + 3 * (b * (getD l (n % 64 / 8) 0 * getD l (n % 64 % 8) 0))) % 509 ≡ productMark a b l n) × ((a + (x + y + z) + 3 * (b * (getD l (n % 64 / 8) 0 * getD l (n % 64 % 8) 0))) % 509 < 509)
 unfolding productMark rowMark rowPartMark
-product-is a b x y z l n u v w = ((λ i. (a + (u i + v i + w i) + 3 * (b * (getD l (n % 64 / 8) 0 * getD l (n % 64 % 8) 0))) % 251), omega arith)
+product-is a b x y z l n u v w = ((λ i. (a + (u i + v i + w i) + 3 * (b * (getD l (n % 64 / 8) 0 * getD l (n % 64 % 8) 0))) % 509), omega arith)
 
 -- ════ the marks of a form
 
 pub term-mark-is : (t : Term) (a b : ℕ) → a ≡ factorsMark (map lettersOf (take (t .«factor_count») (t .factors))) → b ≡ lettersMark (partOf (t .part))
-    → ((a + 3 * b) % 251 ≡ markOf (termOf t)) × ((a + 3 * b) % 251 < 251)
+    → ((a + 3 * b) % 509 ≡ markOf (termOf t)) × ((a + 3 * b) % 509 < 509)
 unfolding markOf termOf
-term-mark-is t a b u v = ((λ i. (u i + 3 * v i) % 251), omega arith)
+term-mark-is t a b u v = ((λ i. (u i + 3 * v i) % 509), omega arith)
 
 pub covering-none : (marks : List ℕ) → Covering marks []
 unfolding Covering
 covering-none marks = tt
 
 -- what stands at a mark shows the terms that had it before, and the new one
-covers-more : (marks : List ℕ) (ts : List S.Term) (t : S.Term) (h r : ℕ) → length marks ≡ 256 → h ≡ markOf t → Joint (getD marks h 0) (sizeMark (t .coef)) r → Covering marks ts
+covers-more : (marks : List ℕ) (ts : List S.Term) (t : S.Term) (h r : ℕ) → length marks ≡ 512 → h ≡ markOf t → Joint (getD marks h 0) (sizeMark (t .coef)) r → Covering marks ts
     → Covering (set marks h r) (ts ++ t ∷ [])
 unfolding Covering Shows sizeMark
 covers-more marks ts t h r n e j w =
@@ -178,7 +178,7 @@ covers-more marks ts t h r n e j w =
         go false q = subst (λ (v : ℕ). Shows v (u .coef)) (sym (getD-set-other marks h (markOf u) r 0 (eqb-false (markOf u) h q))) m
 
 -- the mark of the next term of a form
-pub covering-more : (f : Form) (marks : List ℕ) (i h r : ℕ) → length (f .terms) ≡ 48 → i < 48 → length marks ≡ 256 → h ≡ markOf (termOf (getD (f .terms) i noTerm))
+pub covering-more : (f : Form) (marks : List ℕ) (i h r : ℕ) → length (f .terms) ≡ 48 → i < 48 → length marks ≡ 512 → h ≡ markOf (termOf (getD (f .terms) i noTerm))
     → Joint (getD marks h 0) (sizeMark (getD (f .terms) i noTerm .coef)) r → Covering marks (map termOf (take i (f .terms))) → Covering (set marks h r) (map termOf (take (i + 1) (f .terms)))
 unfolding termOf
 covering-more f marks i h r places inside long e j w =

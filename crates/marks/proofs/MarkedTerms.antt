@@ -40,12 +40,12 @@ factors-sorted l = sym (factors-reordered (reordered-sorted compareLetters (map 
 -- a term put in the order of forms keeps its mark
 pub mark-tidy : (t : S.Term) → markOf (tidy t) ≡ markOf t
 unfolding markOf tidy
-mark-tidy t = λ i. (factors-sorted (t .factors) i + 3 * letters-sorted (t .part) i) % 251
+mark-tidy t = λ i. (factors-sorted (t .factors) i + 3 * letters-sorted (t .part) i) % 509
 
 -- like terms have one mark
 pub mark-like : (t u : S.Term) → t .part ≡ u .part → t .factors ≡ u .factors → markOf t ≡ markOf u
 unfolding markOf
-mark-like t u p f = λ i. (factorsMark (f i) + 3 * lettersMark (p i)) % 251
+mark-like t u p f = λ i. (factorsMark (f i) + 3 * lettersMark (p i)) % 509
 
 -- ════ joined lists
 
@@ -60,13 +60,13 @@ factors-joined [] l = sym (N.zero-add (factorsMark l))
 factors-joined (f ∷ k) l = ap (λ (n : ℕ). lettersMark f + n) (factors-joined k l) ∙ sym (N.add-assoc (lettersMark f) (factorsMark k) (factorsMark l))
 
 -- the mark of a product
-pub mark-product : (t u : S.Term) → markOf (timesTerm t u) ≡ (factorsMark (t .factors) + factorsMark (u .factors) + 3 * (lettersMark (t .part) * lettersMark (u .part))) % 251
+pub mark-product : (t u : S.Term) → markOf (timesTerm t u) ≡ (factorsMark (t .factors) + factorsMark (u .factors) + 3 * (lettersMark (t .part) * lettersMark (u .part))) % 509
 unfolding markOf timesTerm
-mark-product t u = λ i. (factors-joined (t .factors) (u .factors) i + 3 * letters-joined (t .part) (u .part) i) % 251
+mark-product t u = λ i. (factors-joined (t .factors) (u .factors) i + 3 * letters-joined (t .part) (u .part) i) % 509
 
 -- ════ marks are small
 
-pub mark-small : (t : S.Term) → markOf t < 251
+pub mark-small : (t : S.Term) → markOf t < 509
 unfolding markOf
 mark-small t = omega arith
 

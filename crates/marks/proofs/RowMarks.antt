@@ -216,7 +216,7 @@ module _ (ls l : List ℕ) (w : LettersMarked ls l) where
       let factors : factorsMark ((x ++ y) ++ z) ≡ placesMark l (n / 16777216 % 512) + placesMark l (n / 32768 % 512) + placesMark l (n / 64 % 512) =
       factors-joined (x ++ y) z ∙ ap (λ (k : ℕ). k + factorsMark z) (factors-joined x y)
       ∙ sym (λ i. factor-mark (n / 16777216 % 512) (g .first) i + factor-mark (n / 32768 % 512) (g .second) i + factor-mark (n / 64 % 512) (g .third) i) in
-      mark-product (withCoef c m) (rowTerm ls n) ∙ (λ i. (factorsMark (m .factors) + factors i + 3 * (lettersMark (m .part) * sym (part-mark (n % 64) (g .part)) i)) % 251)
+      mark-product (withCoef c m) (rowTerm ls n) ∙ (λ i. (factorsMark (m .factors) + factors i + 3 * (lettersMark (m .part) * sym (part-mark (n % 64) (g .part)) i)) % 509)
 
   -- a row that surely stands, times a term in shape with any coefficient that is not 0
   pub product-stands : (c : ℤ) (m : S.Term) (n : ℕ) → NonZero c → T (termInShape m) → (m .part ≡ []) ⊎ (partAt ls (n % 64) ≡ []) → Good n → RowStands l n

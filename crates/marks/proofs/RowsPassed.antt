@@ -54,7 +54,7 @@ module _ (marks : List ℕ) (size : ℕ) (s : Step) (v : StepValid s) (six : len
 
   module _ (fits : StepFits s) (few : s .m .«factor_count» ≤ length (s .m .factors)) (l : List ℕ) (w : LettersMarked (s .letters) l)
       (a b : ℕ) (ea : a ≡ factorsMark (termOf (s .m) .factors)) (eb : b ≡ lettersMark (termOf (s .m) .part))
-      (seen : List ℕ) (long : length seen ≡ 256) (score i : ℕ) (before : Passed marks size seen s score i) (here : i < rowCount (s .rule))
+      (seen : List ℕ) (long : length seen ≡ 512) (score i : ℕ) (before : Passed marks size seen s score i) (here : i < rowCount (s .rule))
       (h : ℕ) (eh : h ≡ productMark a b l (getD ruleRows (firstRow (s .rule) + i) 0)) where
     good : Good (getD ruleRows (firstRow (s .rule) + i) 0)
     good = row-good (firstRow (s .rule) + i) (omega (arith, rows-inside (s .rule) (v .rule) .0))
@@ -160,7 +160,7 @@ module _ {marks : List ℕ} {size : ℕ} {w : StepMarks} {n : ℕ} {rows : List 
   pub all-none : {seen : List ℕ} → AllPassed marks size w n rows seen 0 0
   all-none {seen} = record { each = λ s f. passed-none marks size s (f .valid) (f .six) seen }
 
-  pub all-more : {seen : List ℕ} {score i h r : ℕ} → AllPassed marks size w n rows seen score i → length seen ≡ 256 → i < n → h ≡ productMark (w .factors) (w .part) (w .letters) (getD rows i 0)
+  pub all-more : {seen : List ℕ} {score i h r : ℕ} → AllPassed marks size w n rows seen score i → length seen ≡ 512 → i < n → h ≡ productMark (w .factors) (w .part) (w .letters) (getD rows i 0)
       → Scored marks seen size h (w .letters) (getD rows i 0) r → AllPassed marks size w n rows (set seen h 1) (score + r) (i + 1)
   all-more {seen} {score} {i} {h} {r} a long inside eh v = record { each = there }
     where

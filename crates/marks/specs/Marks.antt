@@ -36,7 +36,7 @@ factorsMark (f ∷ fs) = lettersMark f + factorsMark fs
 
 -- the mark of a term
 unfoldable pub markOf : S.Term → ℕ
-markOf t = (factorsMark (t .factors) + 3 * lettersMark (t .part)) % 251
+markOf t = (factorsMark (t .factors) + 3 * lettersMark (t .part)) % 509
 
 -- the mark of a coefficient, by its size alone: from 1 to 253
 unfoldable pub sizeMark : ℤ → ℕ
@@ -96,7 +96,7 @@ rowPartMark l n = getD l (n % 64 / 8) 0 * getD l (n % 64 % 8) 0
 
 -- the mark of a row times a term, by the marks of the term's factors and of its vector part
 unfoldable pub productMark : (factors part : ℕ) (marks : List ℕ) (row : ℕ) → ℕ
-productMark a b l n = (a + rowMark l n + 3 * (b * rowPartMark l n)) % 251
+productMark a b l n = (a + rowMark l n + 3 * (b * rowPartMark l n)) % 509
 
 -- the letters at three places surely differ, where there are three
 pub record Differing (marks : List ℕ) (places : ℕ) : Type 0 where

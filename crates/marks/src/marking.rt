@@ -72,13 +72,13 @@ pub fn part_mark(p: Part) -> u64
 // The mark of a term.
 pub fn term_mark(t: Term) -> usize
     requires { ⌜ Counted t ⌝ }
-    ensures { λ r. ⌜ (r ≡ markOf (termOf t)) × (r < 251) ⌝ }
+    ensures { λ r. ⌜ (r ≡ markOf (termOf t)) × (r < 509) ⌝ }
 {
     let p = t.part;
     let n = t.factor_count;
     let a = factors_mark(&t.factors, n);
     let b = part_mark(p);
-    ((a + 3 * b) % 251) as usize
+    ((a + 3 * b) % 509) as usize
 }
 
 // The mark of a coefficient, by its size alone.
@@ -103,13 +103,13 @@ fn joint_mark(w: u8, v: u8) -> u8
 }
 
 // The size of each term of a form at its mark, 0 elsewhere.
-pub fn mark_form(f: Form) -> [u8; 256]
+pub fn mark_form(f: Form) -> [u8; 512]
     requires { ⌜ FormValid f ⌝ }
     ensures covering { λ r. ⌜ Covering r (formOf f .terms) ⌝ }
-    ensures long { λ r. ⌜ length r ≡ 256 ⌝ }
+    ensures long { λ r. ⌜ length r ≡ 512 ⌝ }
 {
     let n = f.count;
-    let mut marks = [0u8; 256];
+    let mut marks = [0u8; 512];
     let mut i: usize = 0;
     while i < n {
         let t = f.terms[i];

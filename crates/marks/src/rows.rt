@@ -37,7 +37,7 @@ fn places_mark(l: &[u64; 8], c: u64) -> u64
 pub fn product_mark(a: u64, b: u64, l: &[u64; 8], n: u64) -> usize
     requires small { ⌜ (a ≤ 109375000) × (b ≤ 62500) ⌝ }
     requires letters { ⌜ (length (now l) ≡ 8) × ((p : ℕ) → getD (now l) p 0 ≤ 250) ⌝ }
-    ensures { λ r. ⌜ (r ≡ productMark a b (now (l .entry)) n) × (r < 251) ⌝ }
+    ensures { λ r. ⌜ (r ≡ productMark a b (now (l .entry)) n) × (r < 509) ⌝ }
 {
     let x = places_mark(l, n / 16777216 % 512);
     let y = places_mark(l, n / 32768 % 512);
@@ -46,7 +46,7 @@ pub fn product_mark(a: u64, b: u64, l: &[u64; 8], n: u64) -> usize
     let i = (q / 8) as usize;
     let j = (q % 8) as usize;
     let p = l[i] * l[j];
-    ((a + (x + y + z) + 3 * (b * p)) % 251) as usize
+    ((a + (x + y + z) + 3 * (b * p)) % 509) as usize
 }
 
 // Whether the letters at three places surely differ, where there are three.
@@ -100,14 +100,14 @@ fn row_stands(l: &[u64; 8], n: u64) -> bool
 
 // By how much a row of this mark surely changes the number of terms: 2 where it adds one, 1 where it takes none away, 0 where it may.
 pub fn row_score(
-    marks: &[u8; 256],
-    seen: &[u8; 256],
+    marks: &[u8; 512],
+    seen: &[u8; 512],
     v: u8,
     h: usize,
     l: &[u64; 8],
     n: u64,
 ) -> usize
-    requires { ⌜ (h < 251) × (length (now marks) ≡ 256) × (length (now seen) ≡ 256) × (length (now l) ≡ 8) ⌝ }
+    requires { ⌜ (h < 509) × (length (now marks) ≡ 512) × (length (now seen) ≡ 512) × (length (now l) ≡ 8) ⌝ }
     ensures { λ r. ⌜ Scored (now (marks .entry)) (now (seen .entry)) v h (now (l .entry)) n r ⌝ }
 {
     if seen[h] != 0 {

@@ -58,14 +58,14 @@ pub fn mark_step(s: Step) -> StepMarks
 }
 
 // Whether a step with these marks surely leads no form with those marks to fewer terms, whatever the coefficient of M, if it has the size v; 0 stands for any.
-pub fn surely_longer(marks: &[u8; 256], v: u8, s: Step, w: StepMarks) -> bool
-    requires { ⌜ StepValid s × StepFits s × StepMarked (s .letters) (termOf (s .m)) w × (length (now marks) ≡ 256) ⌝ }
+pub fn surely_longer(marks: &[u8; 512], v: u8, s: Step, w: StepMarks) -> bool
+    requires { ⌜ StepValid s × StepFits s × StepMarked (s .letters) (termOf (s .m)) w × (length (now marks) ≡ 512) ⌝ }
     ensures { λ r. ⌜ (r ≡ true → NotShorter (now (marks .entry)) v (stepOf s)) ⌝ }
 {
     let rule = s.rule;
     let n = row_count(rule);
     let rows = rule_rows(rule);
-    let mut seen = [0u8; 256];
+    let mut seen = [0u8; 512];
     let mut score: usize = 0;
     let mut i: usize = 0;
     while i < n {

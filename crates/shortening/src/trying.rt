@@ -62,8 +62,8 @@ fn with_coef(c: i64, t: Term) -> Term
 }
 
 // The candidate by a pick: its M takes the term away exactly.
-fn try_pick(marks: &[u8; 256], t: Term, rule: u8, o: Opening, j: usize) -> Trial
-    requires { ⌜ (length (now marks) ≡ 256) × TermValid t × T (isRule rule) × SomeOpened t rule o × (j < 2 ^ ruleLetters rule) ⌝ }
+fn try_pick(marks: &[u8; 512], t: Term, rule: u8, o: Opening, j: usize) -> Trial
+    requires { ⌜ (length (now marks) ≡ 512) × TermValid t × T (isRule rule) × SomeOpened t rule o × (j < 2 ^ ruleLetters rule) ⌝ }
     ensures { λ r. ⌜ Tried (now (marks .entry)) t rule o j r ⌝ }
 {
     let m = o.m;
@@ -152,8 +152,8 @@ fn may_take_block(digits: &[u8; 64], block: u8, first: bool, j: usize) -> bool
 }
 
 // The next pick of an opening that is worth a trial.
-fn next_pick(marks: &[u8; 256], t: Term, rule: u8, o: Opening, from: usize) -> Next
-    requires { ⌜ (length (now marks) ≡ 256) × TermValid t × T (isRule rule) × SomeOpened t rule o × (from < 64) ⌝ }
+fn next_pick(marks: &[u8; 512], t: Term, rule: u8, o: Opening, from: usize) -> Next
+    requires { ⌜ (length (now marks) ≡ 512) × TermValid t × T (isRule rule) × SomeOpened t rule o × (from < 64) ⌝ }
     ensures { λ r. ⌜ NextPick (now (marks .entry)) t rule o from r ⌝ }
 {
     let end = mask_count(rule_letters(rule) as u8);
@@ -210,8 +210,8 @@ fn is_open(kind: u8, left: usize, p: Part, rule: u8) -> bool
 }
 
 // The next candidate of a term that is worth a trial, by a mask that leaves so many letters.
-fn next_of_mask(marks: &[u8; 256], kind: u8, t: Term, k: usize, left: usize, from: usize) -> Next
-    requires { ⌜ (length (now marks) ≡ 256) × TermValid t × (k < 2 ^ t .«factor_count») × LeftBy (termOf t .factors) k left × (from < 320) ⌝ }
+fn next_of_mask(marks: &[u8; 512], kind: u8, t: Term, k: usize, left: usize, from: usize) -> Next
+    requires { ⌜ (length (now marks) ≡ 512) × TermValid t × (k < 2 ^ t .«factor_count») × LeftBy (termOf t .factors) k left × (from < 320) ⌝ }
     ensures { λ r. ⌜ NextOfMask (now (marks .entry)) kind (termOf t) k from r ⌝ }
 {
     let p = t.part;
@@ -247,8 +247,8 @@ fn next_of_mask(marks: &[u8; 256], kind: u8, t: Term, k: usize, left: usize, fro
 }
 
 // The next candidate of a term that is worth a trial.
-pub fn next_candidate(marks: &[u8; 256], kind: u8, t: Term, from: usize) -> Next
-    requires { ⌜ (length (now marks) ≡ 256) × TermValid t × (from < 40960) ⌝ }
+pub fn next_candidate(marks: &[u8; 512], kind: u8, t: Term, from: usize) -> Next
+    requires { ⌜ (length (now marks) ≡ 512) × TermValid t × (from < 40960) ⌝ }
     ensures { λ r. ⌜ NextPlace (now (marks .entry)) kind (termOf t) from r ⌝ }
 {
     let end = mask_count(t.factor_count);

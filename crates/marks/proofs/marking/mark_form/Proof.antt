@@ -19,7 +19,7 @@ use Rattle.marks.proofs.marking.mark_form.Statement.{statement}
 use Rattle.marks.proofs.marking.mark_form.Tie as tie
 
 abbrev Inv-loop : tie.InvT-loop
-Inv-loop f n marks₀ i₀ marks i = (i ≤ n) × (length marks ≡ 256) × Covering marks (map termOf (take i (f .terms)))
+Inv-loop f n marks₀ i₀ marks i = (i ≤ n) × (length marks ≡ 512) × Covering marks (map termOf (take i (f .terms)))
 
 abbrev μ-loop : tie.MeasureT-loop
 μ-loop f n marks₀ i₀ marks i = n - i

@@ -11,7 +11,7 @@ use Rattle.marks.proofs.steps.surely_longer.Statement.{statement}
 use Rattle.marks.proofs.steps.surely_longer.Tie as tie
 
 abbrev Inv-loop : tie.InvT-loop
-Inv-loop marks v w rule n rows seen₀ score₀ i₀ seen score i = (i ≤ n) × (length seen ≡ 256) × (score ≤ 2 * i) × AllPassed marks v w n rows seen score i
+Inv-loop marks v w rule n rows seen₀ score₀ i₀ seen score i = (i ≤ n) × (length seen ≡ 512) × (score ≤ 2 * i) × AllPassed marks v w n rows seen score i
 
 abbrev μ-loop : tie.MeasureT-loop
 μ-loop marks v w rule n rows seen₀ score₀ i₀ seen score i = n - i
