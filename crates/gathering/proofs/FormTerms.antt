@@ -3,11 +3,10 @@ use mathlib.Core.Path.{_≡_, ap, sym, subst, _∙_}
 use mathlib.Core.List.{List, [], _∷_, map}
 use Prim.Native.Nat.{ℕ, zero, suc, _≤_}
 use native.Mathlib.Omega.{arith}
-use lib.Dec.{T, leb→le}
-use lib.IntN.{natAbs}
+use lib.Dec.{T}
 use lib.ListN.{take}
 use Rattle.specification.specs.Lists.{all}
-use Rattle.specification.specs.Terms.{coefWithin, termInShape}
+use Rattle.specification.specs.Terms.{termInShape}
 use Rattle.specification.specs.Terms as S
 use Rattle.theory.specs.Elements.{All, all-T}
 use Rattle.theory.specs.Gathering.Coefficients.{Ascending}

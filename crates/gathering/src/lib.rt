@@ -1,15 +1,13 @@
 // Gathering: terms brought in one after the other, like ones added, zeros dropped; closed with the tests of 9 and 10.
 ghost use mathlib.Core.Path.{_≡_};
-ghost use mathlib.Core.List.{_++_};
 ghost use Prim.Native.Nat.{_+_, _≤_, _<_};
-ghost use lib.IntN.{natAbs};
-ghost use lib.ListN.{take, drop};
+ghost use lib.ListN.{take};
 ghost use Rattle.specification.specs.Lists.{all};
 ghost use Rattle.specification.specs.Terms.{termWithin};
 ghost use Rattle.theory.specs.Elements.{All};
 ghost use Rattle.terms.specs.Abstraction.{termOf, Counted};
 ghost use Rattle.terms.specs.Valid.{FormValid};
-ghost use Rattle.gathering.specs.Sums.{held, sumOf, addedTo, Empty, Holding, SumValid, Held, Changed, isBehind, isLike, Bringable, AllBrought};
+ghost use Rattle.gathering.specs.Sums.{sumOf, Empty, Holding, SumValid, isBehind, isLike, Bringable, AllBrought};
 ghost use Rattle.gathering.specs.Closing.{LimitsTested, ClosedAs};
 use integers::add;
 use integers::is_zero;

@@ -11,7 +11,7 @@ use lib.IntN.{natAbs}
 use lib.ListN.{length, getD, take, set, length-set}
 use lib.Seq.{length-take-le}
 use Rattle.specification.specs.Results.{Test, refused, given, _>>_, require, if_then_else_}
-use Rattle.specification.specs.Terms.{timesTerm, termKind, vectorLetters, scalarLetters, within, gather, gatherInto, coefWithin, termInShape}
+use Rattle.specification.specs.Terms.{timesTerm, termKind, vectorLetters, scalarLetters, within, gather, gatherInto}
 use Rattle.specification.specs.Terms as S
 use Rattle.specification.specs.Rules.{ruleKind, ruleLetters, stepKindsFit, stepTerms, takeStep}
 use Rattle.theory.specs.Elements.{All, all-append}

@@ -1,7 +1,7 @@
 -- The table is the five rules: its rows at a rule's letters are the terms of the rule, by one test computed for all letters. Assumes nothing.
 use mathlib.Core.Path.{_≡_, refl, ap, sym, _∙_}
 use mathlib.Core.List.{List, [], _∷_, _++_}
-use Prim.Native.Nat.{ℕ, zero, suc, _+_, _*_, _-_, _<_, _≤_}
+use Prim.Native.Nat.{ℕ, zero, suc, _+_, _<_, _≤_}
 use native.Mathlib.Nat as N
 use native.Mathlib.Numerals.{add-one}
 use native.Mathlib.Omega.{arith}
@@ -70,14 +70,7 @@ row-at P l k zero i h a = absurd (omega arith)
 row-at P l k (suc n) zero h a = rw (N.add-zero k) (a .0)
 row-at P l k (suc n) (suc i) h a = let e : k + 1 + i ≡ k + suc i = omega arith in rw (← e) (row-at P l (k + 1) n i (omega arith) (a .1))
 
--- a rule's number
-pub some-rule : (r : ℕ) → T (isRule r) → 1 ≤ r
-some-rule = by-rule (λ (r : ℕ). 1 ≤ r) (omega arith) (omega arith) (omega arith) (omega arith) (omega arith)
-
-pub few-rules : (r : ℕ) → T (isRule r) → r ≤ 5
-few-rules = by-rule (λ (r : ℕ). r ≤ 5) (omega arith) (omega arith) (omega arith) (omega arith) (omega arith)
-
--- the last one
+-- the last rule
 pub fifth-rule : (r : ℕ) → T (isRule r) → (r ≡ 1 → ⊥) → (r ≡ 2 → ⊥) → (r ≡ 3 → ⊥) → (r ≡ 4 → ⊥) → r ≡ 5
 fifth-rule =
     by-rule (λ (r : ℕ). (r ≡ 1 → ⊥) → (r ≡ 2 → ⊥) → (r ≡ 3 → ⊥) → (r ≡ 4 → ⊥) → r ≡ 5)

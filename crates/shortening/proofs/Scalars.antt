@@ -3,7 +3,7 @@ use mathlib.Core.Path.{_≡_, refl, sym, ap, subst, _∙_}
 use mathlib.Core.Bool.{Bool, true, false, not, _&&_}
 use mathlib.Core.Logic.{inl, inr}
 use mathlib.Core.List.{List, [], _∷_, _++_, map}
-use Prim.Native.Nat.{ℕ, suc, _+_, _-_, _*_, _/_, _%_, _<_, _≤_}
+use Prim.Native.Nat.{ℕ, suc, _+_, _-_, _/_, _%_, _<_, _≤_}
 use native.Mathlib.Nat as N
 use native.Mathlib.Omega.{arith}
 use borrow.Author.Tests.{eq-eqb, ne-eqb}
@@ -24,7 +24,7 @@ use Rattle.theory.specs.Shape.Letters.{Known, known-is, letters-known, FactorKn
 use Rattle.theory.specs.Rules.Table.{by-rule}
 use Rattle.theory.specs.Rules.Steps.{step-admitted}
 use Rattle.theory.specs.Shortening.Masks.{taken, leftOver}
-use Rattle.theory.specs.Shortening.Candidates.{inRuleOrder, multiplier, pool, candidate, isCandidate}
+use Rattle.theory.specs.Shortening.Candidates.{inRuleOrder, multiplier, pool, candidate}
 use Rattle.terms.specs.declared.types.Part.{Part}
 use Rattle.terms.specs.Numbers.{lettersOf}
 use Rattle.terms.specs.Abstraction.{partOf}

@@ -9,15 +9,12 @@ use native.Mathlib.Omega.{arith}
 use borrow.Author.Tests.{ltb-true, ltb-false}
 use lib.Dec.{T, ltb, leb, leb→le}
 use lib.IntN.{ℤ, negℤ, _*ℤ_}
-use lib.ListN.{length, length-map, getD, take, length-take, List·getD-map}
-use lib.Seq.{length-take-le, getD-take}
+use lib.ListN.{length, length-map, getD, take, length-take}
 use lib.Pow.{pow-mono}
 use Rattle.specification.specs.Results.{refused, given}
-use Rattle.specification.specs.Terms.{termInShape}
 use Rattle.specification.specs.Terms as S
 use Rattle.specification.specs.Rules.{ruleLetters, isRule, stepAt}
 use Rattle.theory.specs.Elements as E
-use Rattle.theory.specs.Elements.{all-T}
 use Rattle.theory.specs.Tests.{and-split, given-same, refused≢given}
 use Rattle.theory.specs.Order.{monomial}
 use Rattle.theory.specs.Shape.Forms.{FormInShape}
@@ -27,8 +24,8 @@ use Rattle.theory.specs.Rules.Steps.{step-admitted}
 use Rattle.theory.specs.Shortening.Candidates.{candidate, gain, isCandidate, NoCandidate}
 use Rattle.terms.specs.declared.types.Term.{Term}
 use Rattle.terms.specs.declared.types.Form.{Form}
-use Rattle.terms.specs.Abstraction.{partOf, termOf, formOf, Counted}
-use Rattle.terms.specs.Valid.{TermValid, FormValid}
+use Rattle.terms.specs.Abstraction.{termOf, formOf, Counted}
+use Rattle.terms.specs.Valid.{FormValid}
 use Rattle.terms.specs.Numbers.{lettersOf}
 use Rattle.terms.proofs.Arrays.{noTerm}
 use Rattle.terms.proofs.Forms.{form-long, term-is, term-valid}

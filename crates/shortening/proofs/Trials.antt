@@ -18,7 +18,7 @@ use Rattle.integers.specs.Arithmetic.{Divided}
 use Rattle.specification.specs.Results.{if_then_else_}
 use Rattle.specification.specs.Lists.{ascend, joined}
 use Rattle.specification.specs.Letters.{vector}
-use Rattle.specification.specs.Terms.{coefWithin, withCoef, gather, termInShape}
+use Rattle.specification.specs.Terms.{withCoef, gather}
 use Rattle.specification.specs.Terms as S
 use Rattle.specification.specs.Rules.{isRule, ruleLetters, ruleKind, stepTerms}
 use Rattle.specification.specs.Rules as R

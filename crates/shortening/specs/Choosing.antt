@@ -4,7 +4,7 @@ use mathlib.Core.Path.{_≡_}
 use mathlib.Core.List.{List, [], _∷_, _++_}
 use Prim.Native.Nat.{ℕ, zero, suc, _+_, _≤_, _<_}
 use lib.Count.{ones}
-use lib.Dec.{T, eqb, leb, ltb}
+use lib.Dec.{T, eqb, ltb}
 use lib.IntN.{ℤ, pos}
 use lib.ListN.{length, take}
 use Rattle.specification.specs.Results.{given, if_then_else_}
@@ -13,7 +13,6 @@ use Rattle.specification.specs.Letters.{vector}
 use Rattle.specification.specs.Terms.{withCoef, termInShape}
 use Rattle.specification.specs.Terms as S
 use Rattle.specification.specs.Rules.{ruleLetters, ruleKind, stepAt}
-use Rattle.specification.specs.Rules as R
 use Rattle.theory.specs.Elements.{All}
 use Rattle.theory.specs.Shortening.Masks.{taken, leftOver}
 use Rattle.theory.specs.Shortening.Candidates.{blockSize, inRuleOrder, blockIsFirst, multiplier, pool, candidate, isCandidate}

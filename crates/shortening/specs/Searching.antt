@@ -2,11 +2,9 @@
 use mathlib.Core.Bool.{Bool, true, false}
 use mathlib.Core.Path.{_≡_}
 use mathlib.Core.List.{List}
-use Prim.Native.Nat.{ℕ, _+_, _≤_, _<_}
-use lib.ListN.{length}
+use Prim.Native.Nat.{ℕ, _≤_, _<_}
 use Rattle.specification.specs.Results.{given}
 use Rattle.specification.specs.Rules.{stepAt}
-use Rattle.specification.specs.Shortening.{Shortest}
 use Rattle.theory.specs.Shape.Letters.{AllKnown}
 use Rattle.theory.specs.Shortening.Candidates.{NoCandidate}
 use Rattle.terms.specs.declared.types.Form.{Form}

@@ -1,15 +1,15 @@
 -- `marks::marking::mark_form` meets its contract: the marks cover the terms passed. Assumes nothing.
 use mathlib.Core.Path.{_≡_, refl, ap, sym, subst, _∙_}
 use mathlib.Core.List.{map}
-use Prim.Native.Nat.{ℕ, _-_, _≤_, _<_}
+use Prim.Native.Nat.{ℕ, _-_, _≤_}
 use native.Mathlib.Omega.{arith}
 use mir.Syntax.{w64}
 use mir.Val.{toZ, ofZ}
-use lib.IntN.{ℤ, natAbs}
+use lib.IntN.{natAbs}
 use lib.ListN.{length, length-map, length-set, getD, take}
 use Rattle.integers.proofs.Machine.{back-is}
 use Rattle.theory.specs.Shape.Terms.{in-limit}
-use Rattle.terms.specs.Abstraction.{termOf, Counted}
+use Rattle.terms.specs.Abstraction.{termOf}
 use Rattle.terms.specs.Valid.{TermValid}
 use Rattle.terms.proofs.Arrays.{noTerm}
 use Rattle.terms.proofs.Forms.{term-valid}

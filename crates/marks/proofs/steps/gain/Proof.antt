@@ -2,17 +2,17 @@
 use mathlib.Core.Path.{_≡_, ap, sym, subst, _∙_}
 use mathlib.Core.Logic.{_⊎_, ⊎-elim}
 use mathlib.Core.List.{[]}
-use Prim.Native.Nat.{ℕ, _-_, _+_, _%_, _≤_, _<_}
+use Prim.Native.Nat.{ℕ, _-_, _+_, _%_, _≤_}
 use native.Mathlib.Omega.{arith}
 use borrow.Author.Needs.{needs}
 use mir.Syntax.{w64}
 use mir.Val.{toZ}
 use lib.IntN.{ℤ, natAbs, _+ℤ_}
-use lib.ListN.{length, getD}
+use lib.ListN.{length}
 use Rattle.integers.proofs.Machine.{back-is}
 use Rattle.specification.specs.Terms.{timesTerm}
 use Rattle.terms.specs.Abstraction.{partOf, termOf}
-use Rattle.rules.specs.Table.{ruleRows, firstRow, partAt, rowTerm}
+use Rattle.rules.specs.Table.{partAt, rowTerm}
 use Rattle.rules.proofs.Tied.{rows-few}
 use Rattle.rules.proofs.Taking.{row-fits}
 use Rattle.marks.specs.Marks.{RowGained}

@@ -1,10 +1,9 @@
-use mathlib.Core.Path.{_≡_, ap, sym, _∙_}
+use mathlib.Core.Path.{ap, sym, _∙_}
 use mathlib.Core.Logic.{inl, inr}
-use Prim.Native.Nat.{_+_, _≤_}
+use Prim.Native.Nat.{_+_}
 use native.Mathlib.Omega.{arith}
 use borrow.Author.Needs.{needs}
 use borrow.Author.Tests.{eqb-false}
-use lib.ListN.{length}
 use Rattle.specification.specs.Rules.{ruleKind}
 use Rattle.shortening.specs.Trying.{RuledOut}
 use Rattle.shortening.proofs.Scalars.{part-short}

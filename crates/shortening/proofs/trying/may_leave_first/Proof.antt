@@ -1,6 +1,5 @@
-use mathlib.Core.Path.{sym, subst}
+use mathlib.Core.Path.{subst}
 use borrow.Author.Needs.{needs}
-use borrow.Author.Tests.{leb-false}
 use lib.Dec.{T}
 use Rattle.shortening.proofs.trying.may_leave_first.Statement.{statement}
 use Rattle.shortening.proofs.trying.may_leave_first.Tie as tie

@@ -1,7 +1,7 @@
 -- `shortening::trying::next_candidate` meets its contract: nothing is to be hoped for from the places passed, mask by mask. Assumes nothing.
-use mathlib.Core.Path.{_≡_, ap, sym, refl, subst, _∙_}
+use mathlib.Core.Path.{_≡_, sym, subst}
 use mathlib.Core.Logic.{⊎-elim}
-use Prim.Native.Nat.{ℕ, _≤_, _<_, _+_, _-_, _*_, _/_, _%_, _^_}
+use Prim.Native.Nat.{ℕ, _≤_, _<_, _+_, _-_, _*_}
 use native.Mathlib.Omega.{arith}
 use borrow.Author.Needs.{needs}
 use denote.Ref.{now}

@@ -1,11 +1,10 @@
 -- `shortening::trying::next_of_mask` meets its contract: nothing is to be hoped for from the places passed. Assumes nothing.
-use mathlib.Core.Path.{_≡_, ap, sym, refl, subst, _∙_}
+use mathlib.Core.Path.{refl}
 use mathlib.Core.Logic.{⊎-elim}
-use Prim.Native.Nat.{ℕ, _≤_, _<_, _+_, _-_, _*_, _/_, _%_, _^_}
+use Prim.Native.Nat.{_≤_, _<_, _+_, _-_, _/_}
 use native.Mathlib.Omega.{arith}
 use borrow.Author.Tests.{not-true}
 use denote.Ref.{now}
-use lib.ListN.{length}
 use Rattle.terms.specs.Abstraction.{termOf}
 use Rattle.shortening.proofs.Trials.{RulesPassed, place-rule, rules-none, rules-skipped, rules-shut, opened-there, rules-passed, rules-found, rules-end}
 use Rattle.shortening.proofs.Scalars.{ruled-hopeless}

@@ -1,5 +1,5 @@
 -- `shortening::trying::next_pick` meets its contract: nothing is to be hoped for from the picks passed. Assumes nothing.
-use mathlib.Core.Path.{_≡_, ap, sym, refl, subst, _∙_}
+use mathlib.Core.Path.{_≡_, ap, sym, subst, _∙_}
 use Prim.Native.Nat.{ℕ, _≤_, _<_, _-_, _^_}
 use native.Mathlib.Omega.{arith}
 use borrow.Author.Tests.{not-true}
