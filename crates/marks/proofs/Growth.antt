@@ -121,7 +121,7 @@ module _ (P : S.Term → Type 0) (t : S.Term) (here : (u : S.Term) → markOf u 
 abbrev Marked : (marks seen : List ℕ) → S.Term → Type 0
 Marked marks seen u = (Shows (getD marks (markOf u) 0) (u .coef) × NonZero (u .coef)) ⊎ (getD seen (markOf u) 0 ≡ 1)
 
--- the terms put in changed the number of terms by so much, from 1 for a term taken away on, and the marks of all that stand are known
+-- the score of the terms put in, each of which changes the number of terms by at least its score less 1; and the marks of all that stand are known
 pub record Ahead (marks seen : List ℕ) (ts ps : List S.Term) (score : ℕ) : Type 0 where
   pub marked : All (Marked marks seen) (gatherInto ts ps)
   pub long : length ts + score ≤ length (gatherInto ts ps) + length ps

@@ -1,4 +1,4 @@
--- The rows of a step one after the other: by how much their products surely change the number of terms, and what follows once that is as much as there are rows.
+-- The rows of a step one after the other: the score of their products, and what follows once it is as much as there are rows.
 -- Assumes nothing.
 use mathlib.Core.Path.{_≡_, refl, sym, ap, subst, _∙_}
 use mathlib.Core.Logic.{inl, inr}
@@ -169,6 +169,6 @@ module _ {marks : List ℕ} {size : ℕ} {w : StepMarks} {n : ℕ} {rows : List 
           passed-more marks size s (f .valid) (f .six) (f .fits) (f .few) (w .letters) (f .marked .letters) (w .factors) (w .part) (f .marked .factors) (f .marked .part) seen long score i (a .each s f)
           (row-here f inside) h (eh ∙ ap (productMark (w .factors) (w .part) (w .letters)) (row-is f inside)) r (subst (λ (k : ℕ). Scored marks seen size h (w .letters) k r) (row-is f inside) v)
 
-  -- the rows surely change the number of terms by as much as there are rows
+  -- the score is as much as there are rows
   pub all-enough : {seen : List ℕ} {score i : ℕ} {s : Step} → AllPassed marks size w n rows seen score i → Fitting w n rows s → n ≤ score → NotShorter marks size (stepOf s)
   all-enough {seen} {score} {i} {s} a f h = passed-enough marks size s (f .valid) (f .six) seen score i (a .each s f) (omega (arith, f .countIs))

@@ -122,7 +122,7 @@ pub record SurelyNew (marks seen : List ℕ) (mark : ℕ) (letters : List ℕ) (
   pub unseen : getD seen mark 0 ≡ 0
   pub stands : RowStands letters row
 
--- by how much a row surely changes the number of terms, from 1 for a term taken away on: 2 where it adds one, 1 where it takes none away
+-- the score of a row: 2 where it surely adds a term, 1 where it surely takes none away, 0 where it may take one away
 pub record Scored (marks seen : List ℕ) (size mark : ℕ) (letters : List ℕ) (row r : ℕ) : Type 0 where
   pub new : r ≡ 2 → SurelyNew marks seen mark letters row
   pub kept : r ≡ 1 → SurelyKept marks seen size mark

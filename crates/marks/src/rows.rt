@@ -1,4 +1,4 @@
-// The marks of a rule's rows times M by those of its letters, and by how much a row changes the number of terms.
+// The marks of a rule's rows times M by those of its letters, and the score of a row: what it does at least to the number of terms.
 ghost use mathlib.Core.Path.{_≡_};
 ghost use mathlib.Core.Bool.{true};
 ghost use Prim.Native.Nat.{ℕ, _≤_, _<_};
@@ -98,7 +98,7 @@ fn row_stands(l: &[u64; 8], n: u64) -> bool
     true
 }
 
-// By how much a row of this mark surely changes the number of terms: 2 where it adds one, 1 where it takes none away, 0 where it may.
+// The score of a row of this mark: 2 where it surely adds a term, 1 where it surely takes none away, 0 where it may take one away.
 pub fn row_score(
     marks: &[u8; 512],
     seen: &[u8; 512],

@@ -131,6 +131,10 @@ left-all P k (x ∷ l) a = go (eqb (k % 2) 1) (left-all P (k / 2) l (a .1))
     go true w = w
     go false w = (a .0, w)
 
+-- the two kinds
+kinds-differ : scalar ≡ vector → ⊥
+kinds-differ z = omega arith
+
 -- letters that are vectors, in factors whose letters are known, are those of vectors
 known-vectors : (table : List ℕ) (fs : List (List ℕ)) → All (FactorKnown table) fs → All (Known table vector) (joined fs) → all isVectors fs ≡ true
 unfolding all joined isVectors
@@ -141,10 +145,7 @@ known-vectors table (f ∷ fs) a b =
   where
     go : (f : List ℕ) → FactorKnown table f → All (Known table vector) f → all isVectors fs ≡ true → (not (eqb (length f) 1) && all isVectors fs) ≡ true
     go [] h k e = e
-    go (x ∷ []) h k e = absurd (unlike (sym (known-is table scalar x (h .0) .1) ∙ known-is table vector x (k .0) .1))
-      where
-        unlike : scalar ≡ vector → ⊥
-        unlike z = omega arith
+    go (x ∷ []) h k e = absurd (kinds-differ (sym (known-is table scalar x (h .0) .1) ∙ known-is table vector x (k .0) .1))
     go (x ∷ y ∷ f) h k e = rw (ne-eqb (suc (suc (length f))) 1 (λ z. absurd (N.lt-irrefl 0 (omega arith)))) e
 
 module _ (marks : List ℕ) (t : S.Term) (k : ℕ) (scalars : all isVectors (leftOver k (t .factors)) ≡ false) where
@@ -188,10 +189,7 @@ kinds-hopeless marks t k kind r j z v hk hj table f c g shape cover e known can 
     let a = step-admitted table f (candidate t k r j c) g h in
     let fits : T (stepKindsFit f (candidate t k r j c)) = required (stepKindsFit f (candidate t k r j c)) 6 _ g (a .takes) .0 in
     let both = and-split (eqb (termKind (multiplier t k r c)) scalar) (eqb (f .kind) vector) (rw (eq-eqb (ruleKind r) vector v) at fits) in
-    absurd (unlike (sym z ∙ sym e ∙ eqb→eq (f .kind) vector (both .1)))
-  where
-    unlike : scalar ≡ vector → ⊥
-    unlike z = omega arith
+    absurd (kinds-differ (sym z ∙ sym e ∙ eqb→eq (f .kind) vector (both .1)))
 
 -- ════ the places of such a mask or rule
 

@@ -1,4 +1,4 @@
--- `marks::steps::surely_longer` meets its contract: the score says by how much the rows passed surely change the number of terms. Assumes nothing.
+-- `marks::steps::surely_longer` meets its contract: the score is that of the rows passed. Assumes nothing.
 use mathlib.Core.Path.{_≡_, refl, _∙_}
 use Prim.Native.Nat.{_-_, _*_, _≤_}
 use native.Mathlib.Omega.{arith}
