@@ -9,7 +9,10 @@ python3 tests/decision_cases.py --header >target/forms.h
 python3 tests/shortening_cases.py --header >target/shortening.h
 python3 tests/decision_cases.py --gp >target/forms.gp
 gcc -O2 -std=c99 -Wall -Wextra -Werror -Iinclude -Itarget tests/benchmark.c target/staticlib/libexports.a -o target/benchmark
-command -v gp >/dev/null || apt-get install -y -q pari-gp >/dev/null
+if ! command -v gp >/dev/null; then
+    apt-get update -qq
+    apt-get install -y -qq pari-gp >/dev/null
+fi
 target/benchmark >target/benchmark.here
 gp -q -f tests/benchmark.gp </dev/null >target/benchmark.gp
 printf '%-60s %10s %10s\n' 'nanoseconds a call' Kalzunbi PARI/GP

@@ -2,12 +2,13 @@
 """The calls for C on random and damaged inputs, against the unrelated programs value_cases.py, reduction_cases.py, check_cases.py, decision_cases.py and
 shortening_cases.py.
 
-compare.py [COUNT [SEED]]: COUNT inputs for each call (10000). What is returned and all memory, lent or around what is lent, is compared.
+What is returned and all memory, lent or around what is lent, is compared.
 A form that is given is handed on to the value call, whose numbers must be those of the expression by components. An assignment that is handed over
 must be in its range, and tell the two forms apart by the unrelated program and by the value call. A log that shortening wrote must begin with the form
 taken, be accepted by the unrelated program with the steps reported, have at most as many steps as terms were saved, and end in a form that no step shortens;
 the check call must accept it, and the decision must say of its ends that they are equal.
 """
+import argparse
 import collections
 import ctypes
 import pathlib
@@ -241,8 +242,11 @@ def compare_shorten(functions, table, data, lent, numbers):
 
 
 def main():
-    count, seed = (int(x) for x in (sys.argv[1:] + ["10000", "1"][len(sys.argv) - 1:])[:2])
-    library, chance, differences = load(), random.Random(seed), 0
+    arguments = argparse.ArgumentParser(description=__doc__, formatter_class=argparse.RawDescriptionHelpFormatter)
+    arguments.add_argument("count", metavar="COUNT", nargs="?", type=int, default=10000, help="inputs for each call (10000)")
+    arguments.add_argument("seed", metavar="SEED", nargs="?", type=int, default=1, help="of the random numbers (1)")
+    given = arguments.parse_args()
+    count, library, chance, differences = given.count, load(), random.Random(given.seed), 0
     for name, inputs, compare in (
             ("value", form_inputs(chance), lambda *x: compare_value(library.kalzunbi_value, *x)),
             ("reduce", expression_inputs(chance), lambda *x: compare_reduce(library, chance, *x)),
