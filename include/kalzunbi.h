@@ -1,22 +1,8 @@
-/* Kalzunbi for C: vector algebra in letters. C99, x86-64 Linux; link libexports.a (rt staticlib exports), and nothing beside the C library's memcpy.
+/* Kalzunbi for C: vector algebra in letters. C99 or C++, x86-64 Linux; link libexports.a (rt staticlib exports), which needs memcpy and memset of the C
+ * library and nothing else.
  *
  * A call answers with one signed number: 0 or more where it gives something, minus the number of the refusal otherwise; for a log the step is told too.
- *
- *    1  a table of 0 or over 24 bytes, or a byte above 1                                    the caller
- *    2  memory lent that is shorter than required                                           the caller
- *   12  an assignment not 3 bytes a letter, out of -6 to 6, or not 0 where it has to be     the caller
- *    3  an expression over 512 bytes, or more than 16 deep                                  the author of the expression
- *    4  an expression that is torn: a byte missing, left over or unknown                    the author of the expression
- *    5  a letter that is not in the table                                                   who wrote the expression or the form
- *    6  kinds do not fit; a letter of the wrong kind                                        who wrote the expression or the form
- *    7  a product of more than 48 pairs of terms                                            the author of the expression
- *    8  a pair with over 6 vector letters or over 2 scalar letters                          the author of the expression
- *    9  a coefficient beyond 2147483647 in size                                             the author of the expression
- *   10  more than 48 terms                                                                  the author of the expression
- *   11  bytes that are not the one record of a form or a log                                the sender of the form or the log
- *   13  a log's last form that is not the one its steps reach                               the sender of the log
- *
- * 1 comes first, then 2, then contents. A refused call leaves all memory as it was.
+ * The numbers stand below with their names. docs/FORMAT.md explains expressions, forms and logs byte by byte.
  *
  * What the caller owes:
  * - A pointer and the length behind it belong together: so many elements (not bytes) from there on are one object, readable, and writable where the
@@ -27,18 +13,50 @@
  *   none writes what another reads.
  * - The calling thread has 32 kB of its stack left for a value or a decision, 64 kB for a check or a shortening, 512 kB for a reduction.
  *
+ * An example, a program as it stands. tests/c_calls.sh compiles and runs it.
+ *
  *     #include "kalzunbi.h"
  *
- *     uint8_t table[3] = {1, 1, 1};                                   three vectors a, b, c
- *     uint8_t expression[8] = {8, 1, 0, 8, 1, 1, 1, 2};               a ^ (b ^ c)
- *     uint8_t form[KALZUNBI_FORM];
- *     int64_t length = kalzunbi_reduce(table, 3, expression, 8, form, sizeof form);
- *     if (length < 0) { report(-length); return; }                    here 16: (a.c)*b-(a.b)*c
+ *     #include <inttypes.h>
+ *     #include <stdio.h>
+ *     #include <string.h>
  *
- *     uint8_t assignment[9] = {1, 0, 0, 0, 1, 0, 1, 1, (uint8_t)-6};  a = (1, 0, 0), b = (0, 1, 0), c = (1, 1, -6)
- *     int64_t values[KALZUNBI_VALUES];
- *     int64_t refused = kalzunbi_value(table, 3, form, (size_t)length, assignment, 9, values, KALZUNBI_VALUES);
- *                                                                     here 0, and values is 0, 1, 0
+ *     int main(void)
+ *     {
+ *         const uint8_t table[3] = {1, 1, 1};  // three vectors a, b, c
+ *         const uint8_t expression[] = {
+ *             KALZUNBI_WEDGE, KALZUNBI_LETTER, 0, KALZUNBI_WEDGE, KALZUNBI_LETTER, 1, KALZUNBI_LETTER, 2,  // a^(b^c)
+ *         };
+ *         uint8_t form[KALZUNBI_FORM];
+ *         int64_t length = kalzunbi_reduce(table, sizeof table, expression, sizeof expression, form, sizeof form);
+ *         if (length < 0) {
+ *             printf("refused %" PRId64 "\n", -length);
+ *             return 1;
+ *         }
+ *         printf("a form of %" PRId64 " bytes\n", length);  // (a.c)*b-(a.b)*c
+ *
+ *         const int8_t numbers[9] = {1, 0, 0, 0, 1, 0, 1, 1, -6};  // a = (1, 0, 0), b = (0, 1, 0), c = (1, 1, -6)
+ *         uint8_t assignment[sizeof numbers];
+ *         int64_t values[KALZUNBI_VALUES];
+ *         memcpy(assignment, numbers, sizeof numbers);
+ *         if (kalzunbi_value(table, sizeof table, form, (size_t)length, assignment, sizeof assignment, values, KALZUNBI_VALUES) == 0)
+ *             printf("its value is %" PRId64 ", %" PRId64 ", %" PRId64 "\n", values[0], values[1], values[2]);
+ *
+ *         uint8_t log[KALZUNBI_LOG_MAX];  // this form, no steps, and the empty form of vectors
+ *         uint64_t places[3];
+ *         memcpy(log, form, (size_t)length);
+ *         memcpy(log + length, "\x00\x01\x00", 3);
+ *         int64_t checked = kalzunbi_check(table, sizeof table, log, (size_t)length + 3, places, 3);
+ *         if (checked < 0)
+ *             printf("refused %" PRId64 " at step %" PRId64 "\n", KALZUNBI_CHECK_NUMBER(checked), KALZUNBI_CHECK_STEP(checked));
+ *         return 0;
+ *     }
+ *
+ * It prints:
+ *
+ *     a form of 16 bytes
+ *     its value is 0, 1, 0
+ *     refused 13 at step 1
  */
 #ifndef KALZUNBI_H
 #define KALZUNBI_H
@@ -49,6 +67,45 @@
 #ifdef __cplusplus
 extern "C" {
 #endif
+
+/* The refusals, and by whose doing. 1 comes first, then 2, then contents. A refused call leaves all memory as it was. */
+enum kalzunbi_refusal {
+    /* the caller, whatever else was passed */
+    KALZUNBI_REFUSED_TABLE = 1,       /* a table of 0 or over 24 bytes, or a byte above 1 */
+    KALZUNBI_REFUSED_MEMORY = 2,      /* memory lent that is shorter than required */
+    KALZUNBI_REFUSED_ASSIGNMENT = 12, /* an assignment not 3 bytes a letter, out of -6 to 6, or not 0 where it has to be; tested after the form */
+
+    /* the author of the expression */
+    KALZUNBI_REFUSED_LONG_OR_DEEP = 3, /* an expression over 512 bytes, or more than 16 deep */
+    KALZUNBI_REFUSED_TORN = 4,         /* an expression with a byte missing, left over or unknown */
+    KALZUNBI_REFUSED_MANY_PAIRS = 7,   /* a product of more than 48 pairs of terms */
+
+    /* the author of the expression; or the sender of the form or log whose letter it is, of the two forms to decide, of the log whose step it is */
+    KALZUNBI_REFUSED_ABSENT_LETTER = 5, /* a letter that is not in the table */
+    KALZUNBI_REFUSED_KIND = 6,          /* operands or two forms whose kinds do not fit, a letter of the wrong kind, a step of another kind than the form */
+
+    /* the author of the expression; or the sender of the log whose step it is */
+    KALZUNBI_REFUSED_MANY_LETTERS = 8, /* a pair with over 6 vector letters or over 2 scalar letters; a step's M and rule with over 6 vector letters */
+    KALZUNBI_REFUSED_COEFFICIENT = 9,  /* a coefficient beyond 2147483647 in size */
+    KALZUNBI_REFUSED_MANY_TERMS = 10,  /* more than 48 terms */
+
+    /* the sender of the form or log */
+    KALZUNBI_REFUSED_SHAPE = 11,    /* bytes that are not the one record of a form or log */
+    KALZUNBI_REFUSED_LAST_FORM = 13 /* a log's last form that is not the one its steps reach */
+};
+
+/* the first byte of each part of an expression */
+enum kalzunbi_token {
+    KALZUNBI_LETTER = 1,     /* and its number */
+    KALZUNBI_CONSTANT = 2,   /* and four bytes, signed, most significant first */
+    KALZUNBI_SUM = 3,        /* and two operands, as all below but two */
+    KALZUNBI_DIFFERENCE = 4,
+    KALZUNBI_NEGATION = 5,   /* and one operand */
+    KALZUNBI_TIMES = 6,
+    KALZUNBI_DOT = 7,
+    KALZUNBI_WEDGE = 8,
+    KALZUNBI_TRIPLE = 9      /* and three operands */
+};
 
 /* bytes that any form's record fits into, and the least that a call which gives a form takes */
 #define KALZUNBI_FORM 770
@@ -85,13 +142,19 @@ int64_t kalzunbi_decide(const uint8_t *table, size_t table_length, const uint8_t
 /* The form of an expression.
  *
  * table: as above.
- * expression: prefix order. 01 n: letter n. 02 and four bytes: a constant, signed, most significant byte first. 03 sum, 04 difference, 05 negation,
- *   06 times, 07 dot, 08 wedge, each with its operands; 09 triple with three. At most 512 bytes, nested at most 16 deep.
+ * expression: tokens in prefix order, each operand an expression again; at most 512 bytes, nested at most 16 deep (the whole is 1).
  * out: at least 770 bytes. The form's record becomes their beginning; the bytes after it stand.
  *
  * Returns the length of the record, or -1, -2, then -3, -4 or -5 from reading, then -6, -7, -8, -9 or -10 from working. */
 int64_t kalzunbi_reduce(const uint8_t *table, size_t table_length, const uint8_t *expression, size_t expression_length, uint8_t *out,
                         size_t out_length);
+
+/* bytes that a log in shape has at most */
+#define KALZUNBI_LOG_MAX 3013
+
+/* the number of the refusal and the step in a negative answer of the check call */
+#define KALZUNBI_CHECK_NUMBER(answer) (-(answer) / 256)
+#define KALZUNBI_CHECK_STEP(answer) (-(answer) % 256)
 
 /* Whether the steps of a log lead from its first form to its last.
  *

@@ -314,6 +314,9 @@ static void check_calls(void)
         int64_t returned = kalzunbi_check(at(&table), table.length, at(&log), log.length, places + 4, row->lent);
         calls++;
         check(returned == row->returned, "check: what is returned, row", (int)i);
+        if (returned < 0)
+            check(KALZUNBI_CHECK_NUMBER(returned) <= 13 && REFUSED(KALZUNBI_CHECK_NUMBER(returned), KALZUNBI_CHECK_STEP(returned)) == row->returned,
+                  "check: the number and the step, row", (int)i);
         check(memcmp(places, expected, sizeof places) == 0, "check: the numbers lent, row", (int)i);
         check(same(&table, &table_before) && same(&log, &log_before), "check: memory, row", (int)i);
     }
@@ -508,7 +511,7 @@ static const struct shorten_row shorten_rows[] = {
     {"010101", FOUR, 2309, 1, -5, 0},
 };
 
-static uint8_t log_memory[MARGIN + 3013 + MARGIN];
+static uint8_t log_memory[MARGIN + KALZUNBI_LOG_MAX + MARGIN];
 
 /* The log of so many bytes begins with the form, is accepted with the steps reported, no more than the terms it saves, ends in a form of so many terms,
  * and the decision says of its ends that they are equal. */
@@ -552,8 +555,29 @@ static void shorten_calls(void)
     }
 }
 
+/* ---- the names */
+
+static const int tokens[] = {
+    KALZUNBI_LETTER, KALZUNBI_CONSTANT, KALZUNBI_SUM, KALZUNBI_DIFFERENCE, KALZUNBI_NEGATION, KALZUNBI_TIMES, KALZUNBI_DOT, KALZUNBI_WEDGE, KALZUNBI_TRIPLE,
+};
+static const int refusals[] = {
+    KALZUNBI_REFUSED_TABLE, KALZUNBI_REFUSED_MEMORY, KALZUNBI_REFUSED_LONG_OR_DEEP, KALZUNBI_REFUSED_TORN, KALZUNBI_REFUSED_ABSENT_LETTER,
+    KALZUNBI_REFUSED_KIND, KALZUNBI_REFUSED_MANY_PAIRS, KALZUNBI_REFUSED_MANY_LETTERS, KALZUNBI_REFUSED_COEFFICIENT, KALZUNBI_REFUSED_MANY_TERMS,
+    KALZUNBI_REFUSED_SHAPE, KALZUNBI_REFUSED_ASSIGNMENT, KALZUNBI_REFUSED_LAST_FORM,
+};
+
+/* each name is its place from 1 in document 01's order */
+static void names(void)
+{
+    for (int i = 0; i < 9; i++)
+        check(tokens[i] == i + 1, "the name of the token", i + 1);
+    for (int i = 0; i < 13; i++)
+        check(refusals[i] == i + 1, "the name of the refusal", i + 1);
+}
+
 int main(void)
 {
+    names();
     value_calls();
     reduce_calls();
     check_calls();
