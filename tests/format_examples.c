@@ -1,0 +1,95 @@
+/* The examples of docs/FORMAT.md, line by line from standard input, with the answers that the calls give: a form for an expression, a value for a form and
+ * an assignment, an answer for a log. Every other line is written as it was read. */
+#include "kalzunbi.h"
+
+#include <inttypes.h>
+#include <stdio.h>
+#include <string.h>
+
+#define LINE 16384
+
+struct bytes {
+    uint8_t at[KALZUNBI_LOG_MAX + 1];
+    size_t length;
+};
+
+static struct bytes table, expression, form, assignment, log_bytes;
+
+/* bytes in hexadecimal with blanks between them; what is no such byte ends them */
+static void read_bytes(struct bytes *b, const char *text)
+{
+    unsigned byte;
+    int used;
+    for (b->length = 0; b->length < sizeof b->at && sscanf(text, " %2x%n", &byte, &used) == 1; text += used)
+        b->at[b->length++] = (uint8_t)byte;
+}
+
+static void write_bytes(const char *key, const struct bytes *b)
+{
+    printf("%s:", key);
+    for (size_t i = 0; i < b->length; i++)
+        printf(" %02X", b->at[i]);
+    printf("\n");
+}
+
+static void give_form(void)
+{
+    int64_t length = kalzunbi_reduce(table.at, table.length, expression.at, expression.length, form.at, sizeof form.at);
+    if (length < 0) {
+        printf("form: R%" PRId64 "\n", -length);
+        return;
+    }
+    form.length = (size_t)length;
+    write_bytes("form", &form);
+}
+
+static void give_value(void)
+{
+    int64_t v[KALZUNBI_VALUES];
+    int64_t refused = kalzunbi_value(table.at, table.length, form.at, form.length, assignment.at, assignment.length, v, KALZUNBI_VALUES);
+    if (refused < 0)
+        printf("value: R%" PRId64 "\n", -refused);
+    else
+        printf("value: %" PRId64 " %" PRId64 " %" PRId64 "\n", v[0], v[1], v[2]);
+}
+
+static void give_answer(void)
+{
+    uint64_t places[3];
+    int64_t checked = kalzunbi_check(table.at, table.length, log_bytes.at, log_bytes.length, places, 3);
+    if (checked < 0)
+        printf("answer: R%" PRId64 " %" PRId64 "\n", KALZUNBI_CHECK_NUMBER(checked), KALZUNBI_CHECK_STEP(checked));
+    else
+        printf("answer: accepted %" PRIu64 " %" PRIu64 " %" PRIu64 "\n", places[0], places[1], places[2]);
+}
+
+/* a table begins an example */
+static void take(const char *key, const char *text)
+{
+    struct bytes *read = !strcmp(key, "table") ? &table : !strcmp(key, "expression") ? &expression : !strcmp(key, "form") ? &form
+                       : !strcmp(key, "assignment") ? &assignment : !strcmp(key, "log") ? &log_bytes : NULL;
+    if (read == &table)
+        expression.length = form.length = assignment.length = log_bytes.length = 0;
+    if (read == &form && expression.length > 0)
+        give_form();
+    else if (read) {
+        read_bytes(read, text);
+        write_bytes(key, read);
+    } else if (!strcmp(key, "value"))
+        give_value();
+    else
+        give_answer();
+}
+
+int main(void)
+{
+    static char line[LINE];
+    while (fgets(line, sizeof line, stdin)) {
+        char *text = strchr(line, ':');
+        if (!text)
+            return 1;
+        *text = '\0';
+        take(line, text + 1);
+    }
+    return 0;
+}
