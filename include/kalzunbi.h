@@ -70,7 +70,7 @@ extern "C" {
 
 /* The refusals, and by whose doing. 1 comes first, then 2, then contents. A refused call leaves all memory as it was. */
 enum kalzunbi_refusal {
-    /* the caller, whatever else was passed */
+    /* the caller */
     KALZUNBI_REFUSED_TABLE = 1,       /* a table of 0 or over 24 bytes, or a byte above 1 */
     KALZUNBI_REFUSED_MEMORY = 2,      /* memory lent that is shorter than required */
     KALZUNBI_REFUSED_ASSIGNMENT = 12, /* an assignment not 3 bytes a letter, out of -6 to 6, or not 0 where it has to be; tested after the form */
@@ -98,13 +98,13 @@ enum kalzunbi_refusal {
 enum kalzunbi_token {
     KALZUNBI_LETTER = 1,     /* and its number */
     KALZUNBI_CONSTANT = 2,   /* and four bytes, signed, most significant first */
-    KALZUNBI_SUM = 3,        /* and two operands, as all below but two */
-    KALZUNBI_DIFFERENCE = 4,
+    KALZUNBI_SUM = 3,        /* and two operands of one kind */
+    KALZUNBI_DIFFERENCE = 4, /* and two operands of one kind */
     KALZUNBI_NEGATION = 5,   /* and one operand */
-    KALZUNBI_TIMES = 6,
-    KALZUNBI_DOT = 7,
-    KALZUNBI_WEDGE = 8,
-    KALZUNBI_TRIPLE = 9      /* and three operands */
+    KALZUNBI_TIMES = 6,      /* and two operands, at least one of them scalar */
+    KALZUNBI_DOT = 7,        /* and two vectors */
+    KALZUNBI_WEDGE = 8,      /* and two vectors */
+    KALZUNBI_TRIPLE = 9      /* and three vectors */
 };
 
 /* bytes that any form's record fits into, and the least that a call which gives a form takes */
@@ -171,7 +171,7 @@ int64_t kalzunbi_check(const uint8_t *table, size_t table_length, const uint8_t 
 /* bytes of the memory that shortening takes at least */
 #define KALZUNBI_LOG 2309
 
-/* A form with fewer terms and the same value, as the log of the steps that lead to it.
+/* A form of the same value that no step shortens, as the log of the steps that lead to it.
  *
  * table: as above. form: the record of a form.
  * out: at least 2309 bytes. The log becomes their beginning, the form's record first; the bytes after it stand. It goes to the check call as it is.
