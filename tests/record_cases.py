@@ -131,6 +131,7 @@ def answer(table, data):
 
 
 VECTORS = bytes([1] * 20 + [0] * 4)
+FEW = bytes([1, 1, 1, 0])
 
 
 def cases():
@@ -141,6 +142,19 @@ def cases():
     yield VECTORS, example + b"\0"
     for i, b in itertools.product(range(len(example)), (0, 1, 2, 4, 16, 32, 63, 64, 128, 255)):
         yield VECTORS, example[:i] + bytes([b]) + example[i + 1:]
+    # every bit map with the fields whose bits stand; where bits 4 and 5 stand together also with the letter alone and with the wedge alone
+    fields = (b"\xff\xff\xff\xfb", b"\1\3", b"\1\0\1", b"\1\0\1\2")
+    for bits in range(256):
+        body = b"".join(f for i, f in enumerate(fields) if bits >> i & 1)
+        for part in {0: (b"",), 16: (b"\1",), 32: (b"\0\2",), 48: (b"\0", b"\0\1", b"\1\0\2")}[bits & 48]:
+            yield FEW, bytes([int(bits & 48 != 0), 1, bits]) + body + part
+    # no terms of a kind that there is not, counts of 0 whose letters are missing or stand
+    for kind in (2, 3, 16, 128, 255):
+        yield FEW, bytes([kind, 0])
+    for bits, letters in ((2, b"\3"), (4, b"\0\1"), (8, b"\0\1\2")):
+        for body in (b"\0", b"\0" + letters):
+            yield FEW, bytes([0, 1, bits]) + body
+            yield FEW, bytes([1, 1, bits | 16]) + body + b"\1"
     # tables
     for table in (b"", b"\0", b"\1", bytes(24), bytes(25), bytes([1, 2]), bytes([0, 1, 255]), bytes([1] * 24)):
         yield table, form_bytes(0, [])
