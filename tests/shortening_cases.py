@@ -349,6 +349,43 @@ def some_terms():
         yield TABLE, both(rule, letters, m, [2, 2, -5, -5, 11, 13, -17][:count]), f"{count} {count - 2}"
 
 
+# Two steps that have one term in common: rule, letters, M of each.
+LINKED = [((1, "abcd", "1"), (2, "abcd", "1")), ((3, "abcde", "1"), (3, "bcdae", "1")), ((4, "abcde", "-3g"), (4, "abdce", "-3g")), ((1, "abcd", "g(e.f)"), (3, "abcef", "g*d")),
+          ((3, "abcef", "2*d"), (2, "abcd", "2(e.f)")), ((2, "abcd", "hh(a.f)"), (1, "bcda", "hh(a.f)"))]
+
+
+def linked(first, second):
+    """All terms of the first step but the one in common, and all of the second but that and another one: as two forms of which the first becomes the
+    missing term of the second, which then becomes one term. The other one is each in turn."""
+    (kind, one), (_, two) = rule_terms(*first), rule_terms(*second)
+    (x, shared, part), = [t for t in one if t[1:] in [u[1:] for u in two]]
+    (y,) = [c for c, *m in two if m == [shared, part]]
+    ends = [(-y * c, f, p) for c, f, p in one if (f, p) != (shared, part)]
+    rest = [(x * c, f, p) for c, f, p in two if (f, p) != (shared, part)]
+    return [sum_of(kind, ends + rest[:k] + rest[k + 1:]) for k in range(len(rest))]
+
+
+def one_makes_another():
+    """A step that only another makes possible: its terms stand before those of the other, behind them or among them. And nine times so in one form."""
+    for pair in LINKED:
+        for first, second in (pair, pair[::-1]):
+            for data in linked(first, second)[::2]:
+                yield TABLE, data, "5 1"
+    yield FULL_TABLE, full(linked(*LINKED[1])[1]), "45 9"
+
+
+def unlike_sizes():
+    """Full forms of terms that steps bring to fewer, with a coefficient of its own for each pair of scalar letters."""
+    def sized(data):
+        kind, terms = forms.read(full(data))
+        return sum_of(kind, [((2 + SCALARS.index(f[:2])) * c, f, p) for c, f, p in terms])
+
+    yield FULL_TABLE, sized(side(1, 4, "abcad")), "42 21"
+    kind, terms = rule_terms(5, "abcdef")
+    for some in (terms[:4], terms[3:]):
+        yield FULL_TABLE, sized(sum_of(kind, some)), "48 36"
+
+
 def quotients():
     """A step that takes out only (a.b)(a.c)(b.c), which rule 5 has twice at a b c a b c, so its coefficient must be even; it raises the others by half of it.
     To take out one of the others would double another beyond the limit."""
@@ -504,13 +541,14 @@ def changed_form(chance, *most):
 
 def by_chance():
     chance = random.Random(20261117)
-    for _ in range(60):
+    for _ in range(30):
         yield *random_form(chance), ""
-    for _ in range(40):
+    for _ in range(20):
         yield *changed_form(chance), ""
 
 
-GROUPS = (lines_to_try, each_rule, equal_letters, every_difference, some_terms, quotients, blocked, nothing_to_do, full_forms, lengths, tables, shape, letters_of_the_table, order_of_refusals, by_chance)
+GROUPS = (lines_to_try, each_rule, equal_letters, every_difference, some_terms, one_makes_another, unlike_sizes, quotients, blocked, nothing_to_do, full_forms,
+          lengths, tables, shape, letters_of_the_table, order_of_refusals, by_chance)
 
 
 # ════ the program
