@@ -375,15 +375,16 @@ def one_makes_another():
 
 
 def unlike_sizes():
-    """Full forms of terms that steps bring to fewer, with a coefficient of its own for each pair of scalar letters."""
-    def sized(data):
-        kind, terms = forms.read(full(data))
-        return sum_of(kind, [((2 + SCALARS.index(f[:2])) * c, f, p) for c, f, p in terms])
-
-    yield FULL_TABLE, sized(side(1, 4, "abcad")), "42 21"
-    kind, terms = rule_terms(5, "abcdef")
-    for some in (terms[:4], terms[3:]):
-        yield FULL_TABLE, sized(sum_of(kind, some)), "48 36"
+    """Full forms with a coefficient of its own for each pair of scalar letters. Steps make the terms of some pairs fewer; those of the others, where one
+    coefficient is three times as large, they leave. What goes is taken out though terms that stay are before it, or behind it."""
+    for kind, some, meant in ((1, forms.read(side(1, 4, "abcad"))[1], ("42 33", "42 30")), (0, rule_terms(5, "abcdef")[1][3:], ("48 44", "48 40"))):
+        for stay in (0, 1):
+            terms = []
+            for i, pair in enumerate(SCALARS[:48 // len(some)]):
+                first, *others = some
+                larger = 3 if i // 4 % 2 == stay else 1
+                terms += [((i + 2) * k * c, pair + f, p) for k, (c, f, p) in [(larger, first), *((1, t) for t in others)]]
+            yield FULL_TABLE, sum_of(kind, terms), meant[stay]
 
 
 def quotients():
@@ -541,9 +542,9 @@ def changed_form(chance, *most):
 
 def by_chance():
     chance = random.Random(20261117)
-    for _ in range(30):
+    for _ in range(26):
         yield *random_form(chance), ""
-    for _ in range(20):
+    for _ in range(18):
         yield *changed_form(chance), ""
 
 
