@@ -458,6 +458,7 @@ def numbers_of_steps():
     yield TABLE, whole, ACCEPTED
     yield TABLE, log(start, [small] * 64, vector(RULE_2)), "R13 65"
     yield TABLE, log(start, [small] * 63 + [step(2, "abcd", "(abc)")], start), "R8 64"
+    yield TABLE, log(start, [small] * 63 + [step(2, "abcj", "1")], start), "R5 64"
     yield TABLE, log(start, [small] * 64, vector("j*a")), "R5 65"
     yield TABLE, whole[:2] + bytes([65]) + small + whole[3:], "R11 0"
     table, longest = longest_log()
