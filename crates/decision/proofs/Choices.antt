@@ -20,12 +20,14 @@ use Rattle.algebra.specs.Numbers.{below-more}
 use Rattle.specification.specs.Results.{if_then_else_}
 use Rattle.specification.specs.Letters.{vector, kindOf}
 use Rattle.theory.specs.Elements.{All, all-implies, both-all}
-use Rattle.decision.specs.Keys.{digitValue, keyValue, rest, exponent, lowest, Ordered, tally}
-use Rattle.decision.specs.Monomials.{Monomial, weigh, total, reduced, substituted, isSome, Rising}
-use Rattle.decision.specs.Passes.{Fit, Substituted, lesserOf, leastFrom}
-use Rattle.decision.specs.Elimination.{mostOf, limitOf, vectorDigit, scalarDigit, strangeDigit, Has, weight, Polynomial, FirstNumber, Eliminable, Eliminated}
-use Rattle.decision.proofs.Keys.{value-zero, rest-tally, rest-ordered}
-use Rattle.decision.proofs.Monomials.{substituted-value, like-size, reduced-size, mass-size, AllOrdered, substituted-rising, substituted-ordered, substituted-keys}
+use Rattle.polynomials.specs.Keys.{digitValue, keyValue, rest, exponent, lowest, Ordered, tally}
+use Rattle.polynomials.specs.Summands.{Summand, weigh, total, reduced, substituted, isSome, Rising}
+use Rattle.polynomials.specs.Passes.{Fit, Substituted, lesserOf, leastFrom}
+use Rattle.decision.specs.Elimination.{mostOf, limitOf, vectorDigit, scalarDigit, strangeDigit, Has, weight, Polynomial, FirstNumber, Eliminable}
+use Rattle.decision.specs.Elimination.{Eliminated}
+use Rattle.polynomials.proofs.Keys.{value-zero, rest-tally, rest-ordered}
+use Rattle.polynomials.proofs.Summands.{substituted-value, like-size, reduced-size, mass-size, AllOrdered, substituted-rising, substituted-ordered}
+use Rattle.polynomials.proofs.Summands.{substituted-keys}
 use Rattle.decision.proofs.Survival.{survives}
 
 -- ════ the variables of a table
@@ -223,7 +225,7 @@ lesser-most a b = go (eqb a 0) (eqb b 0) (leb a b) refl refl refl
     go false false false p q r = (inr (N.le-of-lt (leb-false a b r)), inr (N.le-refl b))
 
 -- where the least digit is 0, no key has another
-least-zero : (d : ℕ) (ms : List Monomial) → leastFrom d ms ≡ 0 → (d ≡ 0) × All (λ (m : Monomial). lowest 8 (m .key) ≡ 0) ms
+least-zero : (d : ℕ) (ms : List Summand) → leastFrom d ms ≡ 0 → (d ≡ 0) × All (λ (m : Summand). lowest 8 (m .key) ≡ 0) ms
 unfolding leastFrom
 least-zero d [] e = (e, tt)
 least-zero d (m ∷ ms) e =
@@ -232,7 +234,7 @@ least-zero d (m ∷ ms) e =
     (u .0, (u .1, w .1))
 
 -- no key has a lowest digit below the least
-least-all : (d : ℕ) (ms : List Monomial) → ((d ≡ 0) ⊎ (leastFrom d ms ≤ d)) × All (λ (m : Monomial). (lowest 8 (m .key) ≡ 0) ⊎ (leastFrom d ms ≤ lowest 8 (m .key))) ms
+least-all : (d : ℕ) (ms : List Summand) → ((d ≡ 0) ⊎ (leastFrom d ms ≤ d)) × All (λ (m : Summand). (lowest 8 (m .key) ≡ 0) ⊎ (leastFrom d ms ≤ lowest 8 (m .key))) ms
 unfolding leastFrom
 least-all d [] = (inr (N.le-refl d), tt)
 least-all d (m ∷ ms) =
@@ -249,7 +251,7 @@ least-all d (m ∷ ms) =
     under a (inr h) z (inr k) = inr (N.le-trans h k)
 
 -- what holds of d and of every lowest digit holds of the least
-least-one : (P : ℕ → Type 0) (d : ℕ) (ms : List Monomial) → P d → All (λ (m : Monomial). P (lowest 8 (m .key))) ms → P (leastFrom d ms)
+least-one : (P : ℕ → Type 0) (d : ℕ) (ms : List Summand) → P d → All (λ (m : Summand). P (lowest 8 (m .key))) ms → P (leastFrom d ms)
 unfolding leastFrom
 least-one P d [] h a = h
 least-one P d (m ∷ ms) h a = least-one P (lesserOf d (lowest 8 (m .key))) ms (lesser-one P d (lowest 8 (m .key)) h (a .0)) (a .1)
@@ -257,19 +259,19 @@ least-one P d (m ∷ ms) h a = least-one P (lesserOf d (lowest 8 (m .key))) ms (
 -- ════ the first number
 
 -- every number up to the largest can be tried
-pub first-asks : (ms : List Monomial) (d most v : ℕ) → v < most → ((u : ℕ) → u ≤ most → Fit d u ms) → Fit d v ms
+pub first-asks : (ms : List Summand) (d most v : ℕ) → v < most → ((u : ℕ) → u ≤ most → Fit d u ms) → Fit d v ms
 first-asks ms d most v l h = h v (N.le-of-lt l)
 
--- a number that leaves a monomial ends the search
-pub first-found : (ms : List Monomial) (d most v : ℕ) → v ≤ most → ((u : ℕ) → u < v → isSome (substituted d u ms) ≡ false) → true ≡ isSome (substituted d v ms) → FirstNumber ms d most v
+-- a number that leaves a summand ends the search
+pub first-found : (ms : List Summand) (d most v : ℕ) → v ≤ most → ((u : ℕ) → u < v → isSome (substituted d u ms) ≡ false) → true ≡ isSome (substituted d v ms) → FirstNumber ms d most v
 first-found ms d most v l h e = record { few = l; before = h; found = inl (sym e) }
 
 -- the largest number ends it too
-pub first-last : (ms : List Monomial) (d most v : ℕ) → v ≤ most → most ≤ v → ((u : ℕ) → u < v → isSome (substituted d u ms) ≡ false) → FirstNumber ms d most v
+pub first-last : (ms : List Summand) (d most v : ℕ) → v ≤ most → most ≤ v → ((u : ℕ) → u < v → isSome (substituted d u ms) ≡ false) → FirstNumber ms d most v
 first-last ms d most v l k h = record { few = l; before = h; found = inr (omega arith) }
 
 -- one more number leaves none
-pub first-on : (ms : List Monomial) (d v : ℕ) → ((u : ℕ) → u < v → isSome (substituted d u ms) ≡ false) → isSome (substituted d v ms) ≡ false
+pub first-on : (ms : List Summand) (d v : ℕ) → ((u : ℕ) → u < v → isSome (substituted d u ms) ≡ false) → isSome (substituted d v ms) ≡ false
     → (u : ℕ) → u < v + 1 → isSome (substituted d u ms) ≡ false
 first-on ms d v h e = below-more (λ (u : ℕ). isSome (substituted d u ms) ≡ false) v h e
 
@@ -297,7 +299,7 @@ unfolding digitValue
 at-digit σ d x v e h = ap (digitValue σ) e ∙ h
 
 -- what is known in the loop: ms is the polynomial at first, rs what is left of it, b the buffer so far, d the least digit
-pub record Choosing (table : List ℕ) (ms rs : List Monomial) (d : ℕ) (b₀ b : List ℕ) : Type 0 where
+pub record Choosing (table : List ℕ) (ms rs : List Summand) (d : ℕ) (b₀ b : List ℕ) : Type 0 where
   pub least : d ≡ leastFrom 0 rs
   pub low : ℕ
   pub lowSome : 1 ≤ low
@@ -310,14 +312,14 @@ pub record Choosing (table : List ℕ) (ms rs : List Monomial) (d : ℕ) (b₀ b
   pub same : length b ≡ length b₀
 
 -- nothing is chosen yet
-pub choose-starts : (table : List ℕ) (n : ℕ) (ms : List Monomial) (b : List ℕ) (d : ℕ) → Eliminable table n ms b → d ≡ leastFrom 0 (take n ms) → Choosing table (take n ms) (take n ms) d b b
+pub choose-starts : (table : List ℕ) (n : ℕ) (ms : List Summand) (b : List ℕ) (d : ℕ) → Eliminable table n ms b → d ≡ leastFrom 0 (take n ms) → Choosing table (take n ms) (take n ms) d b b
 choose-starts table n ms b d w e =
     record {
       least = e;
       low = 1;
       lowSome = N.le-refl 1;
       lowMost = omega arith;
-      ordered = all-implies (λ (m : Monomial). Has table 6 2 (m .key)) (λ (m : Monomial). Ordered 1 8 (m .key)) (λ m h. h .ordered) (take n ms) (w .polynomial .has);
+      ordered = all-implies (λ (m : Summand). Has table 6 2 (m .key)) (λ (m : Summand). Ordered 1 8 (m .key)) (λ m h. h .ordered) (take n ms) (w .polynomial .has);
       polynomial = w .polynomial;
       value = λ σ h. refl;
       within = λ x l. omega (arith, w .zeros x l);
@@ -325,16 +327,16 @@ choose-starts table n ms b d w e =
       same = refl;
     }
 
-module _ (table : List ℕ) (ms rs : List Monomial) (d : ℕ) (b₀ b : List ℕ) (w : Choosing table ms rs d b₀ b) where
+module _ (table : List ℕ) (ms rs : List Summand) (d : ℕ) (b₀ b : List ℕ) (w : Choosing table ms rs d b₀ b) where
   -- ends: only the key 0 is left
-  only-zero : (rs : List Monomial) → All (λ (m : Monomial). m .key ≡ 0) rs → isSome rs ≡ true → Rising 0 rs → (σ : ℕ → ℤ) → NonZero (total σ rs)
+  only-zero : (rs : List Summand) → All (λ (m : Summand). m .key ≡ 0) rs → isSome rs ≡ true → Rising 0 rs → (σ : ℕ → ℤ) → NonZero (total σ rs)
   unfolding isSome weigh
   only-zero [] a s r σ = absurd (let z : _≡_ {A = ℕ} 0 1 = cc in omega arith)
   only-zero (m ∷ n ∷ rs) a s r σ = absurd (omega (arith, r .2 .0, a .1 .0))
   only-zero (m ∷ []) a s r σ =
       λ e. r .1 (sym (I.+ℤ-idr (m .coef *ℤ keyValue σ 8 (m .key)) ∙ ap (λ (k : ℕ). m .coef *ℤ keyValue σ 8 k) (a .0) ∙ ap (λ (z : ℤ). m .coef *ℤ z) (value-zero σ 8) ∙ R.*ℤ-1 (m .coef)) ∙ e)
 
-  zero-key : (rs : List Monomial) → AllOrdered (w .low) rs → All (λ (m : Monomial). lowest 8 (m .key) ≡ 0) rs → All (λ (m : Monomial). m .key ≡ 0) rs
+  zero-key : (rs : List Summand) → AllOrdered (w .low) rs → All (λ (m : Summand). lowest 8 (m .key) ≡ 0) rs → All (λ (m : Summand). m .key ≡ 0) rs
   zero-key [] o a = tt
   zero-key (m ∷ rs) o a = (go (lowest-least (w .low) 8 (m .key) (w .lowSome) (o .0)), zero-key rs (o .1) (a .1))
     where
@@ -364,7 +366,7 @@ module _ (table : List ℕ) (ms rs : List Monomial) (d : ℕ) (b₀ b : List ℕ
     strange =
         subst (λ (y : ℕ). strangeDigit table y ≡ 0) (sym (w .least))
         (least-one (λ (y : ℕ). strangeDigit table y ≡ 0) 0 rs (zero-strange table)
-        (all-implies (λ (m : Monomial). Has table 6 2 (m .key)) (λ (m : Monomial). strangeDigit table (lowest 8 (m .key)) ≡ 0)
+        (all-implies (λ (m : Summand). Has table 6 2 (m .key)) (λ (m : Summand). strangeDigit table (lowest 8 (m .key)) ≡ 0)
         (λ m u. omega (arith, lowest-tally (strangeDigit table) 8 (m .key) (zero-strange table), u .known)) rs (w .polynomial .has)))
 
     known : (d - 1 < 3 * length table) × (mostOf table (d - 1) ≡ limitOf table (d - 1))
@@ -377,13 +379,13 @@ module _ (table : List ℕ) (ms rs : List Monomial) (d : ℕ) (b₀ b : List ℕ
     low-least : (w .low) ≤ d
     low-least = elim (subst (λ (y : ℕ). (y ≡ 0) ⊎ (w .low ≤ y)) (sym (w .least))
         (least-one (λ (y : ℕ). (y ≡ 0) ⊎ (w .low ≤ y)) 0 rs (inl refl)
-        (all-implies (λ (m : Monomial). Ordered (w .low) 8 (m .key)) (λ (m : Monomial). (lowest 8 (m .key) ≡ 0) ⊎ (w .low ≤ lowest 8 (m .key)))
+        (all-implies (λ (m : Summand). Ordered (w .low) 8 (m .key)) (λ (m : Summand). (lowest 8 (m .key) ≡ 0) ⊎ (w .low ≤ lowest 8 (m .key)))
         (λ m u. elim (lowest-least (w .low) 8 (m .key) (w .lowSome) u) [ inl y ↦ inl (y .0) | inr y ↦ inr y ]) rs (w .ordered)))) [ inl e ↦ absurd (h e) | inr l ↦ l ]
 
     ordered-d : AllOrdered d rs
-    ordered-d = raise rs (w .ordered) (subst (λ (y : ℕ). All (λ (m : Monomial). (lowest 8 (m .key) ≡ 0) ⊎ (y ≤ lowest 8 (m .key))) rs) (sym (w .least)) (least-all 0 rs .1))
+    ordered-d = raise rs (w .ordered) (subst (λ (y : ℕ). All (λ (m : Summand). (lowest 8 (m .key) ≡ 0) ⊎ (y ≤ lowest 8 (m .key))) rs) (sym (w .least)) (least-all 0 rs .1))
       where
-        raise : (rs : List Monomial) → AllOrdered (w .low) rs → All (λ (m : Monomial). (lowest 8 (m .key) ≡ 0) ⊎ (d ≤ lowest 8 (m .key))) rs → AllOrdered d rs
+        raise : (rs : List Summand) → AllOrdered (w .low) rs → All (λ (m : Summand). (lowest 8 (m .key) ≡ 0) ⊎ (d ≤ lowest 8 (m .key))) rs → AllOrdered d rs
         raise [] o a = tt
         raise (m ∷ rs) o a = (lowest-raise (w .low) 8 d (m .key) (w .lowSome) (o .0) (a .0), raise rs (o .1) (a .1))
 
@@ -409,13 +411,13 @@ module _ (table : List ℕ) (ms rs : List Monomial) (d : ℕ) (b₀ b : List ℕ
             small = omega (arith, mass-size (weight table) (weight-some table) (map (reduced d v) rs), reduced-size (weight table) d v (weights v l) rs, w .polynomial .small);
           }
 
-      exponents : All (λ (t : Monomial). exponent 8 d (t .key) ≤ m) rs
+      exponents : All (λ (t : Summand). exponent 8 d (t .key) ≤ m) rs
       exponents =
-          all-implies (λ (t : Monomial). Has table 6 2 (t .key)) (λ (t : Monomial). exponent 8 d (t .key) ≤ m)
+          all-implies (λ (t : Summand). Has table 6 2 (t .key)) (λ (t : Summand). exponent 8 d (t .key) ≤ m)
           (λ t u. subst (λ (y : ℕ). exponent 8 y (t .key) ≤ m) (sym isDigit) (N.le-trans (exponent-limit table (d - 1) (t .key) u) (N.le-of-eq (sym e)))) rs (w .polynomial .has)
 
       module _ (v : ℕ) (f : FirstNumber rs d m v) where
-        -- the number chosen leaves a monomial
+        -- the number chosen leaves a summand
         survived : isSome (substituted d v rs) ≡ true
         survived =
             elim (f .found) [
@@ -428,10 +430,10 @@ module _ (table : List ℕ) (ms rs : List Monomial) (d : ℕ) (b₀ b : List ℕ
         pub number-small : v ≤ 6
         number-small = N.le-trans (f .few) most-six
 
-        has-next : All (λ (t : Monomial). Has table 6 2 (t .key)) (substituted d v rs)
+        has-next : All (λ (t : Summand). Has table 6 2 (t .key)) (substituted d v rs)
         has-next =
             substituted-keys (λ k. Ordered d 8 k × Has table 6 2 k) (Has table 6 2) d v (λ k u. has-rest table 6 2 d k some u) rs
-            (both-all (λ (t : Monomial). Ordered d 8 (t .key)) (λ (t : Monomial). Has table 6 2 (t .key)) rs ordered-d (w .polynomial .has))
+            (both-all (λ (t : Summand). Ordered d 8 (t .key)) (λ (t : Summand). Has table 6 2 (t .key)) rs ordered-d (w .polynomial .has))
 
         polynomial-next : Polynomial table (substituted d v rs)
         unfolding substituted
@@ -463,7 +465,7 @@ module _ (table : List ℕ) (ms rs : List Monomial) (d : ℕ) (b₀ b : List ℕ
               ∙ sym (substituted-value σ d v (at-digit σ d (d - 1) v isDigit (g (d - 1) (omega arith) ∙ ap pos (getD-set-same b (d - 1) v 0 byte-there))) rs)
 
           -- one number is chosen and written
-          pub choose-on : (r : ℕ) (os ns : List Monomial) (k : ℕ) (b′ : List ℕ) → Substituted d v k r os ns → rs ≡ take k os → b′ ≡ set b (d - 1) v → (d′ : ℕ) → d′ ≡ leastFrom 0 (take r ns)
+          pub choose-on : (r : ℕ) (os ns : List Summand) (k : ℕ) (b′ : List ℕ) → Substituted d v k r os ns → rs ≡ take k os → b′ ≡ set b (d - 1) v → (d′ : ℕ) → d′ ≡ leastFrom 0 (take r ns)
               → Choosing table ms (take r ns) d′ b₀ b′
           choose-on r os ns k b′ s q p d′ z =
               let is : take r ns ≡ substituted d v rs = s .is ∙ ap (substituted d v) (sym q) in
@@ -481,12 +483,12 @@ module _ (table : List ℕ) (ms rs : List Monomial) (d : ℕ) (b₀ b : List ℕ
               }
 
           -- and the least digit grows, until there is none
-          pub choose-falls : (r : ℕ) (os ns : List Monomial) (k : ℕ) → Substituted d v k r os ns → rs ≡ take k os → (d′ : ℕ) → d′ ≡ leastFrom 0 (take r ns) → fallOf d′ < fallOf d
+          pub choose-falls : (r : ℕ) (os ns : List Summand) (k : ℕ) → Substituted d v k r os ns → rs ≡ take k os → (d′ : ℕ) → d′ ≡ leastFrom 0 (take r ns) → fallOf d′ < fallOf d
           choose-falls r os ns k s q d′ z =
               let is : take r ns ≡ substituted d v rs = s .is ∙ ap (substituted d v) (sym q) in
               falls d d′ h (omega (arith, known .0))
               (subst (λ (y : ℕ). (y ≡ 0) ⊎ (suc d ≤ y)) (sym z)
               (least-one (λ (y : ℕ). (y ≡ 0) ⊎ (suc d ≤ y)) 0 (take r ns) (inl refl)
-              (all-implies (λ (t : Monomial). Ordered (suc d) 8 (t .key)) (λ (t : Monomial). (lowest 8 (t .key) ≡ 0) ⊎ (suc d ≤ lowest 8 (t .key)))
+              (all-implies (λ (t : Summand). Ordered (suc d) 8 (t .key)) (λ (t : Summand). (lowest 8 (t .key) ≡ 0) ⊎ (suc d ≤ lowest 8 (t .key)))
               (λ t u. elim (lowest-least (suc d) 8 (t .key) (omega arith) u) [ inl y ↦ inl (y .0) | inr y ↦ inr y ]) (take r ns)
               (subst (AllOrdered (suc d)) (sym is) (substituted-ordered d v some rs ordered-d)))))

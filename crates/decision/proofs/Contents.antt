@@ -1,4 +1,4 @@
--- The monomials of a term have its value, and their keys are those of forms. Assumes nothing.
+-- The summands of a term have its value, and their keys are those of forms. Assumes nothing.
 use mathlib.Core.Path.{_≡_, refl, sym, _∙_, ap, ap₂, subst}
 use mathlib.Core.Bool.{Bool, true, false}
 use mathlib.Core.Logic.{inl, inr}
@@ -20,14 +20,14 @@ use Rattle.specification.specs.Letters.{scalar, vector, kindOf}
 use Rattle.theory.specs.Elements.{All, all-append}
 use Rattle.theory.specs.Shape.Terms.{OneToThree}
 use Rattle.theory.specs.Shape.Letters.{Known, FactorKnown, known-is}
-use Rattle.decision.specs.declared.expansion.Piece.{Piece}
-use Rattle.decision.specs.declared.expansion.Block.the-variants.{Zero, One}
-use Rattle.decision.specs.Keys.{digitValue, keyValue, timesDigit, Ordered, tally}
-use Rattle.decision.specs.Monomials.{Monomial, weigh, total}
-use Rattle.decision.specs.Expansion.{digitOf, signOf, plus, crossPiece, pieceAt, countOf, pieces, blockOf, partBlock, timesPiece, timesPieces}
+use Rattle.polynomials.specs.declared.expansion.Piece.{Piece}
+use Rattle.polynomials.specs.declared.expansion.Block.the-variants.{Zero, One}
+use Rattle.polynomials.specs.Keys.{digitValue, keyValue, timesDigit, Ordered, tally}
+use Rattle.polynomials.specs.Summands.{Summand, weigh, total}
+use Rattle.polynomials.specs.Expansion.{digitOf, signOf, plus, crossPiece, pieceAt, countOf, pieces, blockOf, partBlock, timesPiece, timesPieces}
 use Rattle.decision.specs.Elimination.{vectorDigit, scalarDigit, strangeDigit, Has}
-use Rattle.decision.proofs.Keys.{times-value, times-ordered, times-tally, from-tally}
-use Rattle.decision.proofs.Monomials.{weigh-append}
+use Rattle.polynomials.proofs.Keys.{times-value, times-ordered, times-tally, from-tally}
+use Rattle.polynomials.proofs.Summands.{weigh-append}
 
 -- ════ digits
 
@@ -112,8 +112,8 @@ module _ (table : List ℕ) where
     pub vectors : vectorDigit table (p .a) + vectorDigit table (p .b) + vectorDigit table (p .c) ≡ v
     pub scalars : scalarDigit table (p .a) + scalarDigit table (p .b) + scalarDigit table (p .c) ≡ s
 
-  abbrev pub AllHas : (v s : ℕ) (ms : List Monomial) → Type 0
-  AllHas v s ms = All (λ (m : Monomial). Has table v s (m .key)) ms
+  abbrev pub AllHas : (v s : ℕ) (ms : List Summand) → Type 0
+  AllHas v s ms = All (λ (m : Summand). Has table v s (m .key)) ms
 
   module _ (σ : ℕ → ℤ) where
     -- the value of a product
@@ -126,7 +126,7 @@ module _ (table : List ℕ) where
     piecesValue (p ∷ ps) = pieceValue p +ℤ piecesValue ps
 
     module _ (v s dv ds : ℕ) (l : v + dv + (s + ds) ≤ 8) where
-      piece-times : (p : Piece) → PieceHas dv ds p → (m : Monomial) → Has table v s (m .key)
+      piece-times : (p : Piece) → PieceHas dv ds p → (m : Summand) → Has table v s (m .key)
           → (timesPiece p m .coef *ℤ keyValue σ 8 (timesPiece p m .key) ≡ pieceValue p *ℤ (m .coef *ℤ keyValue σ 8 (m .key))) × Has table (v + dv) (s + ds) (timesPiece p m .key)
       unfolding timesPiece
       piece-times p q m w =
@@ -149,7 +149,7 @@ module _ (table : List ℕ) where
           shuffle : (m g c b a k : ℤ) → m *ℤ g *ℤ (c *ℤ (b *ℤ (a *ℤ k))) ≡ g *ℤ (c *ℤ (b *ℤ a)) *ℤ (m *ℤ k)
           shuffle m g c b a k = shuffled m g c b a k
 
-      piece-all : (p : Piece) → PieceHas dv ds p → (ms : List Monomial) → AllHas v s ms
+      piece-all : (p : Piece) → PieceHas dv ds p → (ms : List Summand) → AllHas v s ms
           → (total σ (map (timesPiece p) ms) ≡ pieceValue p *ℤ total σ ms) × AllHas (v + dv) (s + ds) (map (timesPiece p) ms)
       unfolding weigh
       piece-all p q [] a = (sym (I.*ℤ-zero (pieceValue p)), tt)
@@ -159,7 +159,7 @@ module _ (table : List ℕ) where
           (ap₂ (λ (x y : ℤ). x +ℤ y) (u .0) (w .0) ∙ sym (R.*ℤ-+ℤ (pieceValue p) (m .coef *ℤ keyValue σ 8 (m .key)) (total σ ms)), (u .1, w .1))
 
       -- a sum of products
-      pub pieces-all : (ps : List Piece) → All (PieceHas dv ds) ps → (ms : List Monomial) → AllHas v s ms
+      pub pieces-all : (ps : List Piece) → All (PieceHas dv ds) ps → (ms : List Summand) → AllHas v s ms
           → (total σ (timesPieces ps ms) ≡ piecesValue ps *ℤ total σ ms) × AllHas (v + dv) (s + ds) (timesPieces ps ms)
       unfolding timesPieces joined weigh
       pieces-all [] h ms a = (sym (I.zero-*ℤ (total σ ms)), tt)
@@ -167,7 +167,7 @@ module _ (table : List ℕ) where
           let u = piece-all p (h .0) ms a in
           let w = pieces-all ps (h .1) ms a in (
             weigh-append (keyValue σ 8) (map (timesPiece p) ms) (timesPieces ps ms) ∙ ap₂ (λ (x y : ℤ). x +ℤ y) (u .0) (w .0) ∙ sym (R.+ℤ-*ℤ (pieceValue p) (piecesValue ps) (total σ ms)),
-            all-append (λ (m : Monomial). Has table (v + dv) (s + ds) (m .key)) (map (timesPiece p) ms) (timesPieces ps ms) (u .1) (w .1),
+            all-append (λ (m : Summand). Has table (v + dv) (s + ds) (m .key)) (map (timesPiece p) ms) (timesPieces ps ms) (u .1) (w .1),
           )
 
   -- ════ polynomials of known letters

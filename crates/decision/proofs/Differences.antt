@@ -22,33 +22,34 @@ use Rattle.terms.specs.Valid.{TermValid, FormValid}
 use Rattle.terms.proofs.Arrays.{noTerm, all-at, mapped-behind}
 use Rattle.records.proofs.Factors.{joined-append}
 use Rattle.records.proofs.Forms.{term-at}
-use Rattle.decision.specs.Keys.{exponent}
-use Rattle.decision.specs.Monomials.{Monomial, size, mass, reduced, substituted, Weakly}
-use Rattle.decision.specs.Passes.{Fit, Substituted}
-use Rattle.decision.specs.Sorting.{Reordered, Sorted}
-use Rattle.decision.specs.Expansion.{Modest, expandTerm, expandTerms, TermBelow, Expandable, Expanded, FormExpandable, difference, Comparable, Compared}
-use Rattle.decision.proofs.Expansions.{term-few, term-modest}
-use Rattle.decision.proofs.Orders.{reordered-all, reordered-length}
+use Rattle.polynomials.specs.Keys.{exponent}
+use Rattle.polynomials.specs.Summands.{Summand, size, mass, reduced, substituted, Weakly}
+use Rattle.polynomials.specs.Passes.{Fit, Substituted}
+use Rattle.polynomials.specs.Sorting.{Reordered, Sorted}
+use Rattle.polynomials.specs.Expansion.{Modest, expandTerm, Expandable, Expanded}
+use Rattle.decision.specs.Differences.{expandTerms, TermBelow, FormExpandable, difference, Comparable, Compared}
+use Rattle.polynomials.proofs.Expansions.{term-few, term-modest}
+use Rattle.polynomials.proofs.Orders.{reordered-all, reordered-length}
 
 -- ════ one term more
 
--- the monomials of one term more stand behind those of the others
+-- the summands of one term more stand behind those of the others
 expand-more : (i : ℕ) (sign : ℤ) (ts : List S.Term) (t : S.Term) → expandTerms i sign (ts ++ t ∷ []) ≡ expandTerms i sign ts ++ expandTerm i sign t
 unfolding expandTerms joined
 expand-more i sign ts t =
     ap joined (mapped-behind (expandTerm i sign) ts t) ∙ joined-append (map (expandTerm i sign) ts) (expandTerm i sign t ∷ [])
-    ∙ ap (λ (l : List Monomial). joined (map (expandTerm i sign) ts) ++ l) (one (expandTerm i sign t))
+    ∙ ap (λ (l : List Summand). joined (map (expandTerm i sign) ts) ++ l) (one (expandTerm i sign t))
   where
-    one : (l : List Monomial) → joined (l ∷ []) ≡ l
+    one : (l : List Summand) → joined (l ∷ []) ≡ l
     one l = append-nil l
 
 -- the terms before k are expanded
-pub record Filled (start : ℕ) (f : Form) (i : ℕ) (sign : ℤ) (k n : ℕ) (ms ns : List Monomial) : Type 0 where
+pub record Filled (start : ℕ) (f : Form) (i : ℕ) (sign : ℤ) (k n : ℕ) (ms ns : List Summand) : Type 0 where
   pub expanded : Expanded start (expandTerms i sign (map termOf (take k (f .terms)))) n ms ns
   pub few : n ≤ 36 * k
   pub most : k ≤ f .count
 
-module _ (start : ℕ) (f : Form) (i : ℕ) (sign : ℤ) (ms : List Monomial) (w : FormExpandable start f i sign ms) where
+module _ (start : ℕ) (f : Form) (i : ℕ) (sign : ℤ) (ms : List Summand) (w : FormExpandable start f i sign ms) where
   -- no term is expanded yet
   pub fill-starts : Filled start f i sign 0 0 ms ms
   unfolding expandTerms joined
@@ -56,7 +57,7 @@ module _ (start : ℕ) (f : Form) (i : ℕ) (sign : ℤ) (ms : List Monomial) (w
       let z : start + 0 ≡ start = omega arith in
       record { expanded = record { front = ap (λ (k : ℕ). take k ms) z ∙ sym (append-nil (take start ms)); count = refl; same = refl }; few = omega arith; most = omega arith }
 
-  module _ (places : f .count ≤ length (f .terms)) (k : ℕ) (l : k < f .count) (n : ℕ) (ns : List Monomial) (s : Filled start f i sign k n ms ns) where
+  module _ (places : f .count ≤ length (f .terms)) (k : ℕ) (l : k < f .count) (n : ℕ) (ns : List Summand) (s : Filled start f i sign k n ms ns) where
     abbrev t : Term
     t = getD (f .terms) k noTerm
 
@@ -83,7 +84,7 @@ module _ (start : ℕ) (f : Form) (i : ℕ) (sign : ℤ) (ms : List Monomial) (w
     sum-fits = omega (arith, w .room, s .few, N.mul-le-mul-left 36 l)
 
     -- it is expanded
-    pub fill-on : (r : ℕ) (os : List Monomial) → Expanded (start + n) (expandTerm i sign (termOf t)) r ns os → (n + r ≤ length ms) × Filled start f i sign (k + 1) (n + r) ms os
+    pub fill-on : (r : ℕ) (os : List Summand) → Expanded (start + n) (expandTerm i sign (termOf t)) r ns os → (n + r ≤ length ms) × Filled start f i sign (k + 1) (n + r) ms os
     fill-on r os e =
         let es = expandTerms i sign (map termOf (take k (f .terms))) in
         let is : expandTerms i sign (map termOf (take (k + 1) (f .terms))) ≡ es ++ expandTerm i sign (termOf t) =
@@ -93,8 +94,8 @@ module _ (start : ℕ) (f : Form) (i : ℕ) (sign : ℤ) (ms : List Monomial) (w
           omega (arith, w .room, s .few, N.mul-le-mul-left 36 l),
           record {
             expanded = record {
-              front = ap (λ (j : ℕ). take j os) (sym (N.add-assoc start n r)) ∙ e .front ∙ ap (λ (x : List Monomial). x ++ expandTerm i sign (termOf t)) (s .expanded .front)
-                  ∙ append-assoc (take start ms) es (expandTerm i sign (termOf t)) ∙ ap (λ (x : List Monomial). take start ms ++ x) (sym is);
+              front = ap (λ (j : ℕ). take j os) (sym (N.add-assoc start n r)) ∙ e .front ∙ ap (λ (x : List Summand). x ++ expandTerm i sign (termOf t)) (s .expanded .front)
+                  ∙ append-assoc (take start ms) es (expandTerm i sign (termOf t)) ∙ ap (λ (x : List Summand). take start ms ++ x) (sym is);
               count = omega (arith, s .expanded .count, e .count, ap length is, length-append es (expandTerm i sign (termOf t)));
               same = e .same ∙ s .expanded .same;
             };
@@ -104,24 +105,24 @@ module _ (start : ℕ) (f : Form) (i : ℕ) (sign : ℤ) (ms : List Monomial) (w
         )
 
   -- all terms are
-  pub fill-ends : (k : ℕ) → f .count ≤ k → (n : ℕ) (ns : List Monomial) → Filled start f i sign k n ms ns → Expanded start (expandTerms i sign (formOf f .terms)) n ms ns
+  pub fill-ends : (k : ℕ) → f .count ≤ k → (n : ℕ) (ns : List Summand) → Filled start f i sign k n ms ns → Expanded start (expandTerms i sign (formOf f .terms)) n ms ns
   unfolding formOf
   fill-ends k l n ns s =
       let e : k ≡ f .count = omega (arith, s .most) in
       subst (λ (j : ℕ). Expanded start (expandTerms i sign (map termOf (take j (f .terms)))) n ms ns) e (s .expanded)
 
 -- the same with another name for the sign
-pub fill-as : (start : ℕ) (f : Form) (i : ℕ) (z y : ℤ) (ms : List Monomial) → y ≡ z → FormExpandable start f i z ms → FormExpandable start f i y ms
+pub fill-as : (start : ℕ) (f : Form) (i : ℕ) (z y : ℤ) (ms : List Summand) → y ≡ z → FormExpandable start f i z ms → FormExpandable start f i y ms
 fill-as start f i z y ms e w = subst (λ (s : ℤ). FormExpandable start f i s ms) (sym e) w
 
 -- and what is promised
-pub filled-as : (start : ℕ) (f : Form) (i : ℕ) (z y : ℤ) (n : ℕ) (ms ns : List Monomial) → y ≡ z → Expanded start (expandTerms i y (formOf f .terms)) n ms ns
+pub filled-as : (start : ℕ) (f : Form) (i : ℕ) (z y : ℤ) (n : ℕ) (ms ns : List Summand) → y ≡ z → Expanded start (expandTerms i y (formOf f .terms)) n ms ns
     → Expanded start (expandTerms i z (formOf f .terms)) n ms ns
 filled-as start f i z y n ms ns e w = subst (λ (s : ℤ). Expanded start (expandTerms i s (formOf f .terms)) n ms ns) e w
 
 -- ════ bounds
 
--- 36 monomials a term
+-- 36 summands a term
 terms-few : (i : ℕ) (sign : ℤ) (ts : List S.Term) → All (λ (t : S.Term). T (S.termInShape t)) ts → length (expandTerms i sign ts) ≤ 36 * length ts
 unfolding expandTerms joined
 terms-few i sign [] h = omega arith
@@ -142,7 +143,7 @@ pub in-shape : (f : Form) → FormValid f → All (λ (t : S.Term). T (S.termInS
 in-shape f v = all-T S.termInShape (formOf f .terms) (v .inShape .terms)
 
 -- with 1 put for a variable no coefficient changes
-mass-one : (d : ℕ) (ms : List Monomial) → All Modest ms → mass (map (reduced d 1) ms) ≤ length ms * 2147483647
+mass-one : (d : ℕ) (ms : List Summand) → All Modest ms → mass (map (reduced d 1) ms) ≤ length ms * 2147483647
 unfolding size reduced
 mass-one d [] h = omega arith
 mass-one d (m ∷ ms) h =
@@ -150,11 +151,11 @@ mass-one d (m ∷ ms) h =
 
 -- ════ the difference gathered
 
-module _ (f g : Form) (i : ℕ) (ms : List Monomial) (w : Comparable f g i ms) where
-  abbrev firsts : List Monomial
+module _ (f g : Form) (i : ℕ) (ms : List Summand) (w : Comparable f g i ms) where
+  abbrev firsts : List Summand
   firsts = expandTerms i (pos 1) (formOf f .terms)
 
-  abbrev seconds : List Monomial
+  abbrev seconds : List Summand
   seconds = expandTerms i (negsuc 0) (formOf g .terms)
 
   -- the first form is expanded from the start on
@@ -167,7 +168,7 @@ module _ (f g : Form) (i : ℕ) (ms : List Monomial) (w : Comparable f g i ms) w
   few-seconds : length seconds ≤ 1728
   few-seconds = omega (arith, terms-few i (negsuc 0) (formOf g .terms) (in-shape g (w .validSecond)), N.mul-le-mul-left 36 (w .validSecond .inShape .count))
 
-  -- both have at most 3,456 monomials
+  -- both have at most 3,456 summands
   pub few-all : length (difference i (formOf f) (formOf g)) ≤ 3456
   unfolding difference
   few-all = omega (arith, length-append firsts seconds, few-firsts, few-seconds)
@@ -180,13 +181,13 @@ module _ (f g : Form) (i : ℕ) (ms : List Monomial) (w : Comparable f g i ms) w
       (terms-modest i (pos 1) (formOf f .terms) (w .component) (N.le-refl 1) (in-shape f (w .validFirst)) (w .belowFirst))
       (terms-modest i (negsuc 0) (formOf g .terms) (w .component) (N.le-refl 1) (in-shape g (w .validSecond)) (w .belowSecond))
 
-  module _ (m : ℕ) (ns : List Monomial) (e : Expanded 0 firsts m ms ns) where
+  module _ (m : ℕ) (ns : List Summand) (e : Expanded 0 firsts m ms ns) where
     -- the second form is expanded behind the first
     pub second-asks : FormExpandable m g i (negsuc 0) ns
     second-asks =
         record { room = omega (arith, w .room, w .validSecond .few, e .count, e .same, few-firsts); valid = w .validSecond; below = w .belowSecond; component = w .component; unit = N.le-refl 1 }
 
-    module _ (r : ℕ) (os : List Monomial) (d : Expanded m seconds r ns os) where
+    module _ (r : ℕ) (os : List Summand) (d : Expanded m seconds r ns os) where
       -- so many there are
       pub counts : m + r ≡ length (difference i (formOf f) (formOf g))
       unfolding difference
@@ -197,13 +198,13 @@ module _ (f g : Form) (i : ℕ) (ms : List Monomial) (w : Comparable f g i ms) w
 
       both : take (m + r) os ≡ difference i (formOf f) (formOf g)
       unfolding difference
-      both = d .front ∙ ap (λ (l : List Monomial). l ++ seconds) (ap (λ (k : ℕ). take k ns) (sym (N.zero-add m)) ∙ e .front)
+      both = d .front ∙ ap (λ (l : List Summand). l ++ seconds) (ap (λ (k : ℕ). take k ns) (sym (N.zero-add m)) ∙ e .front)
 
       -- all are in memory
       pub sort-asks : m + r ≤ length os
       sort-asks = omega (arith, counts-few, w .room, e .same, d .same)
 
-      module _ (ps : List Monomial) (s : Sorted (m + r) os ps) where
+      module _ (ps : List Summand) (s : Sorted (m + r) os ps) where
         same-sorted : length ps ≡ length os
         same-sorted = reordered-length (m + r) os (s .reordered)
 
@@ -221,7 +222,7 @@ module _ (f g : Form) (i : ℕ) (ms : List Monomial) (w : Comparable f g i ms) w
             )
 
         -- what is left is the difference, gathered
-        pub compared : (q : ℕ) (qs : List Monomial) → Substituted 255 1 (m + r) q ps qs → Compared (difference i (formOf f) (formOf g)) q ms qs
+        pub compared : (q : ℕ) (qs : List Summand) → Substituted 255 1 (m + r) q ps qs → Compared (difference i (formOf f) (formOf g)) q ms qs
         compared q qs u =
             record {
               before = os;

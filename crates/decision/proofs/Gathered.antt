@@ -11,14 +11,15 @@ use lib.ListN.{length, take}
 use Rattle.algebra.specs.Integers as R
 use Rattle.algebra.specs.Numbers.{power-one}
 use Rattle.theory.specs.Elements.{All}
-use Rattle.decision.specs.Keys.{rest, exponent, tally, keyValue}
-use Rattle.decision.specs.Monomials.{Monomial, total, size, likeAdded, reduced, substituted, isSome, Rising}
-use Rattle.decision.specs.Memory.{mono}
-use Rattle.decision.specs.Expansion.{Modest, Compared}
+use Rattle.polynomials.specs.Keys.{rest, exponent, tally, keyValue}
+use Rattle.polynomials.specs.Summands.{Summand, total, size, likeAdded, reduced, substituted, isSome, Rising}
+use Rattle.polynomials.specs.Memory.{summand}
+use Rattle.polynomials.specs.Expansion.{Modest}
+use Rattle.decision.specs.Differences.{Compared}
 use Rattle.decision.specs.Elimination.{strangeDigit, Has, weight, bound, Polynomial}
-use Rattle.decision.proofs.Keys.{Digit, none, same, other, digit, rest-none, rest-other}
-use Rattle.decision.proofs.Monomials.{like-weigh, like-size, like-rising, like-keys}
-use Rattle.decision.proofs.Orders.{reordered-weigh, reordered-size, reordered-all}
+use Rattle.polynomials.proofs.Keys.{Digit, none, same, other, digit, rest-none, rest-other}
+use Rattle.polynomials.proofs.Summands.{like-weigh, like-size, like-rising, like-keys}
+use Rattle.polynomials.proofs.Orders.{reordered-weigh, reordered-size, reordered-all}
 use Rattle.decision.proofs.Contents.{AllHas}
 
 module _ (table : List ℕ) (short : length table ≤ 24) where
@@ -37,25 +38,25 @@ module _ (table : List ℕ) (short : length table ≤ 24) where
       go (same p e) ih = absurd (omega (arith, h, ap (strangeDigit table) e, strange-255))
       go (other p e) ih = rest-other n 255 k p e
 
-  reduced-plain : (ms : List Monomial) → AllHas table 6 2 ms → map (reduced 255 1) ms ≡ ms
+  reduced-plain : (ms : List Summand) → AllHas table 6 2 ms → map (reduced 255 1) ms ≡ ms
   unfolding reduced
   reduced-plain [] a = refl
   reduced-plain (m ∷ ms) a =
-      ap₂ (λ (x : Monomial) (l : List Monomial). x ∷ l)
-      (ap₂ mono (plain 8 (m .key) (a .0 .known)) (ap (λ (e : ℕ). m .coef *ℤ pos e) (power-one (exponent 8 255 (m .key))) ∙ R.*ℤ-1 (m .coef))) (reduced-plain ms (a .1))
+      ap₂ (λ (x : Summand) (l : List Summand). x ∷ l)
+      (ap₂ summand (plain 8 (m .key) (a .0 .known)) (ap (λ (e : ℕ). m .coef *ℤ pos e) (power-one (exponent 8 255 (m .key))) ∙ R.*ℤ-1 (m .coef))) (reduced-plain ms (a .1))
 
   weight-most : (k : ℕ) → Has table 6 2 k → weight table k ≤ 186624
   unfolding weight
   weight-most k h = N.mul-le-mul (N.pow-le-pow-right {n = 6} (omega arith) (h .vectors)) (N.pow-le-pow-right {n = 2} (omega arith) (h .scalars))
 
-  size-modest : (ms : List Monomial) → All Modest ms → AllHas table 6 2 ms → size (weight table) ms ≤ length ms * (2147483647 * 186624)
+  size-modest : (ms : List Summand) → All Modest ms → AllHas table 6 2 ms → size (weight table) ms ≤ length ms * (2147483647 * 186624)
   unfolding size
   size-modest [] h a = omega arith
   size-modest (m ∷ ms) h a = omega (arith, size-modest ms (h .1) (a .1), N.mul-le-mul (h .0) (weight-most (m .key) (a .0)))
 
-  module _ (es : List Monomial) (modest : All Modest es) (has : AllHas table 6 2 es) (few : length es ≤ 3456) (r : ℕ) (ms ns : List Monomial) (w : Compared es r ms ns) where
+  module _ (es : List Summand) (modest : All Modest es) (has : AllHas table 6 2 es) (few : length es ≤ 3456) (r : ℕ) (ms ns : List Summand) (w : Compared es r ms ns) where
     sorted-has : AllHas table 6 2 (take (length es) (w .sorted))
-    sorted-has = reordered-all (λ (m : Monomial). Has table 6 2 (m .key)) (length es) (w .before) (w .reordered) (subst (AllHas table 6 2) (sym (w .expanded)) has)
+    sorted-has = reordered-all (λ (m : Summand). Has table 6 2 (m .key)) (length es) (w .before) (w .reordered) (subst (AllHas table 6 2) (sym (w .expanded)) has)
 
     is : take r ns ≡ likeAdded (take (length es) (w .sorted))
     unfolding substituted

@@ -1,18 +1,9 @@
 -- What the proofs of the functions lean on.
-pub mod Keys
-pub mod Monomials
 pub mod Survival
-pub mod Bytes
-pub mod Digits
-pub mod Turns
-pub mod Orders
-pub mod Pieces
-pub mod Layers
-pub mod Expansions
 pub mod Differences
 pub mod Choices
 pub mod Contents
-pub mod Polynomials
+pub mod ExpandedValues
 pub mod Gathered
 pub mod Settling
 pub mod Reading

@@ -27,15 +27,16 @@ use Rattle.theory.specs.Shape.Letters.{Known, FactorKnown, AllKnown, known-is, 
 use Rattle.terms.specs.declared.types.Form.{Form}
 use Rattle.terms.specs.Abstraction.{formOf}
 use Rattle.terms.specs.Valid.{FormValid}
-use Rattle.decision.specs.Monomials.{Monomial, weigh, total, isSome}
-use Rattle.decision.specs.Memory.{monomials}
-use Rattle.decision.specs.Expansion.{Below, TermBelow, difference, Comparable, Compared}
+use Rattle.polynomials.specs.Summands.{Summand, weigh, total, isSome}
+use Rattle.polynomials.specs.Memory.{summands}
+use Rattle.polynomials.specs.Expansion.{LettersBelow}
+use Rattle.decision.specs.Differences.{TermBelow, difference, Comparable, Compared}
 use Rattle.decision.specs.Elimination.{limitOf, Eliminable, Eliminated}
 use Rattle.decision.specs.Values.{component, variables}
 use Rattle.decision.specs.Answers.{Decidable}
-use Rattle.decision.proofs.Bytes.{length-monomials}
+use Rattle.polynomials.proofs.Bytes.{length-summands}
 use Rattle.decision.proofs.Contents.{AllHas}
-use Rattle.decision.proofs.Polynomials.{component-zero, component-plus, Sound, difference-value}
+use Rattle.decision.proofs.ExpandedValues.{component-zero, component-plus, Sound, difference-value}
 use Rattle.decision.proofs.Differences.{in-shape, few-all, all-modest}
 use Rattle.decision.proofs.Gathered.{gathered-value, gathered-polynomial}
 
@@ -139,18 +140,18 @@ scalars f v e = all-T (partFits 0) (formOf f .terms) (subst (λ (y : ℕ). T (al
 -- ════ two forms
 
 -- the first k of a list are some
-some-left : (k : ℕ) (l : List Monomial) → 0 < k → k ≤ length l → isSome (take k l) ≡ true
+some-left : (k : ℕ) (l : List Summand) → 0 < k → k ≤ length l → isSome (take k l) ≡ true
 unfolding isSome
 some-left zero l p q = absurd (omega arith)
 some-left (suc k) [] p q = absurd (omega arith)
 some-left (suc k) (m ∷ l) p q = refl
 
 module _ (table : List ℕ) (f g : Form) (buffer work : List ℕ) (w : Decidable table f g buffer work) where
-  letters-below : (kind : ℕ) (ls : List ℕ) → All (Known table kind) ls → Below ls
+  letters-below : (kind : ℕ) (ls : List ℕ) → All (Known table kind) ls → LettersBelow ls
   letters-below kind [] k = tt
   letters-below kind (l ∷ ls) k = (N.le-trans (known-is table kind l (k .0) .0) (w .letters), letters-below kind ls (k .1))
 
-  factors-below : (fs : List (List ℕ)) → All (FactorKnown table) fs → All Below fs
+  factors-below : (fs : List (List ℕ)) → All (FactorKnown table) fs → All LettersBelow fs
   factors-below [] k = tt
   factors-below (x ∷ fs) k = (letters-below (if eqb (length x) 1 then scalar else vector) x (k .0), factors-below fs (k .1))
 
@@ -168,20 +169,20 @@ module _ (table : List ℕ) (f g : Form) (buffer work : List ℕ) (w : Decidable
   seconds : AllKnown table (formOf g .terms)
   seconds = terms-known table (formOf g .terms) (w .testedSecond)
 
-  abbrev es : ℕ → List Monomial
+  abbrev es : ℕ → List Summand
   es i = difference i (formOf f) (formOf g)
 
-  -- the monomials of a component of the difference have its value, with keys of forms
+  -- the summands of a component of the difference have its value, with keys of forms
   values : (τ : ℕ → Vec) (i : ℕ) → i < 3 → (total (variables τ) (es i) ≡ component i (value τ (formOf f)) -ℤ component i (value τ (formOf g))) × AllHas table 6 2 (es i)
   values τ i h =
       difference-value table τ (w .letters) i (formOf f) (formOf g) h (sound τ (formOf f .terms) (in-shape f (w .validFirst)) firsts) (sound τ (formOf g .terms) (in-shape g (w .validSecond)) seconds)
 
   module _ (now : List ℕ) (same : length now ≡ length work) (i : ℕ) (h : i < 3) where
     -- a component can be compared
-    pub compare-asks : Comparable f g i (monomials now)
+    pub compare-asks : Comparable f g i (summands now)
     compare-asks =
         record {
-          room = omega (arith, length-monomials now, w .workRoom, same);
+          room = omega (arith, length-summands now, w .workRoom, same);
           validFirst = w .validFirst;
           validSecond = w .validSecond;
           belowFirst = terms-below (formOf f .terms) firsts;
@@ -189,13 +190,13 @@ module _ (table : List ℕ) (f g : Form) (buffer work : List ℕ) (w : Decidable
           component = h;
         }
 
-    module _ (r : ℕ) (ns : List Monomial) (c : Compared (es i) r (monomials now) ns) where
+    module _ (r : ℕ) (ns : List Summand) (c : Compared (es i) r (summands now) ns) where
       abbrev tau : ℕ → Vec
       tau l = scalarValue (pos 0)
 
       -- what is left has the value of the difference
       same-value : (σ : ℕ → ℤ) → total σ (take r ns) ≡ total σ (es i)
-      same-value σ = gathered-value table (w .letters) (es i) (all-modest f g i (monomials now) compare-asks) (values tau i h .1) (few-all f g i (monomials now) compare-asks) r (monomials now) ns c σ
+      same-value σ = gathered-value table (w .letters) (es i) (all-modest f g i (summands now) compare-asks) (values tau i h .1) (few-all f g i (summands now) compare-asks) r (summands now) ns c σ
 
       -- nothing is left
       pub none-left : r ≤ 0 → (σ : ℕ → ℤ) → total σ (es i) ≡ pos 0
@@ -205,7 +206,7 @@ module _ (table : List ℕ) (f g : Form) (buffer work : List ℕ) (w : Decidable
       -- something is left
       module _ (l : 0 < r) (b : List ℕ) (room : length b ≡ length buffer) (z : (x : ℕ) → x < 3 * length table → getD b x 0 ≡ 0) where
         few : r ≤ length ns
-        few = omega (arith, c .few, c .same, few-all f g i (monomials now) compare-asks, length-monomials now, w .workRoom, same)
+        few = omega (arith, c .few, c .same, few-all f g i (summands now) compare-asks, length-summands now, w .workRoom, same)
 
         some : isSome (take r ns) ≡ true
         some = some-left r ns l few
@@ -217,8 +218,8 @@ module _ (table : List ℕ) (f g : Form) (buffer work : List ℕ) (w : Decidable
               letters = w .letters;
               there = few;
               room = omega (arith, w .room, room);
-              polynomial = gathered-polynomial table (w .letters) (es i) (all-modest f g i (monomials now) compare-asks) (values tau i h .1)
-                  (few-all f g i (monomials now) compare-asks) r (monomials now) ns c some;
+              polynomial = gathered-polynomial table (w .letters) (es i) (all-modest f g i (summands now) compare-asks) (values tau i h .1)
+                  (few-all f g i (summands now) compare-asks) r (summands now) ns c some;
               zeros = z;
             }
 

@@ -1,4 +1,4 @@
--- Where a variable stands at most n times in each key, some number from 0 to n for it leaves a monomial: the grid lemma on the keys of one rest.
+-- Where a variable stands at most n times in each key, some number from 0 to n for it leaves a summand: the grid lemma on the keys of one rest.
 -- Assumes nothing.
 use mathlib.Core.Path.{_≡_, refl, sym, _∙_, ap}
 use mathlib.Core.Bool.{Bool, true, false}
@@ -15,10 +15,10 @@ use lib.IntN as I
 use Rattle.algebra.specs.Integers as R
 use Rattle.algebra.specs.Grid.{eval, AllZero, grid-points}
 use Rattle.theory.specs.Elements.{All}
-use Rattle.decision.specs.Keys.{rest, exponent, Ordered}
-use Rattle.decision.specs.Monomials.{Monomial, weigh, substituted, isSome, Rising}
-use Rattle.decision.proofs.Keys.{key-known}
-use Rattle.decision.proofs.Monomials.{substituted-weigh, AllOrdered}
+use Rattle.polynomials.specs.Keys.{rest, exponent, Ordered}
+use Rattle.polynomials.specs.Summands.{Summand, weigh, substituted, isSome, Rising}
+use Rattle.polynomials.proofs.Keys.{key-known}
+use Rattle.polynomials.proofs.Summands.{substituted-weigh, AllOrdered}
 
 -- 1 where two numbers are equal, else 0
 unfoldable same : ℕ → ℕ → ℤ
@@ -39,18 +39,18 @@ unfolding same
 same-other a b h = rw (ne-eqb a b h)
 
 -- weights that agree on the keys give the same sum
-agree : (P : ℕ → Type 0) (w u : ℕ → ℤ) → ((k : ℕ) → P k → w k ≡ u k) → (ms : List Monomial) → All (λ (m : Monomial). P (m .key)) ms → weigh w ms ≡ weigh u ms
+agree : (P : ℕ → Type 0) (w u : ℕ → ℤ) → ((k : ℕ) → P k → w k ≡ u k) → (ms : List Summand) → All (λ (m : Summand). P (m .key)) ms → weigh w ms ≡ weigh u ms
 unfolding weigh
 agree P w u h [] a = refl
 agree P w u h (m ∷ ms) a = λ i. m .coef *ℤ h (m .key) (a .0) i +ℤ agree P w u h ms (a .1) i
 
-weigh-zero : (ms : List Monomial) → weigh (λ k. pos 0) ms ≡ pos 0
+weigh-zero : (ms : List Summand) → weigh (λ k. pos 0) ms ≡ pos 0
 unfolding weigh
 weigh-zero [] = refl
 weigh-zero (m ∷ ms) = simp (I.*ℤ-zero, weigh-zero ms)
 
 -- a sum of weights
-weigh-sum : (v : ℤ) (w u : ℕ → ℤ) (ms : List Monomial) → weigh (λ k. w k +ℤ v *ℤ u k) ms ≡ weigh w ms +ℤ v *ℤ weigh u ms
+weigh-sum : (v : ℤ) (w u : ℕ → ℤ) (ms : List Summand) → weigh (λ k. w k +ℤ v *ℤ u k) ms ≡ weigh w ms +ℤ v *ℤ weigh u ms
 unfolding weigh
 weigh-sum v w u [] = simp (I.*ℤ-zero)
 weigh-sum v w u (m ∷ ms) =
@@ -68,16 +68,16 @@ module _ (d t : ℕ) where
   units (suc n) e k = at e k ∷ units n (suc e) k
 
   -- the n coefficients of the powers from e on
-  abbrev powers : (n e : ℕ) (ms : List Monomial) → List ℤ
+  abbrev powers : (n e : ℕ) (ms : List Summand) → List ℤ
   powers zero e ms = []
   powers (suc n) e ms = weigh (at e) ms ∷ powers n (suc e) ms
 
-  length-powers : (n e : ℕ) (ms : List Monomial) → length (powers n e ms) ≡ n
+  length-powers : (n e : ℕ) (ms : List Summand) → length (powers n e ms) ≡ n
   length-powers zero e ms = refl
   length-powers (suc n) e ms = ap suc (length-powers n (suc e) ms)
 
   -- the polynomial in d is a sum over the keys
-  powers-units : (v : ℤ) (n e : ℕ) (ms : List Monomial) → eval v (powers n e ms) ≡ weigh (λ k. eval v (units n e k)) ms
+  powers-units : (v : ℤ) (n e : ℕ) (ms : List Summand) → eval v (powers n e ms) ≡ weigh (λ k. eval v (units n e k)) ms
   unfolding eval
   powers-units v zero e ms = sym (weigh-zero ms)
   powers-units v (suc n) e ms =
@@ -102,7 +102,7 @@ module _ (d t : ℕ) where
       (sym (R.*ℤ-assoc (pos v) (pos (v ^ x)) (same t (rest 8 d k))))
 
   -- the value of the polynomial in d at v is what is left of the keys of the rest t with v put for d
-  powers-eval : (v n : ℕ) (ms : List Monomial) → All (λ (m : Monomial). exponent 8 d (m .key) ≤ n) ms
+  powers-eval : (v n : ℕ) (ms : List Summand) → All (λ (m : Summand). exponent 8 d (m .key) ≤ n) ms
       → eval (pos v) (powers (suc n) 0 ms) ≡ weigh (same t) (substituted d v ms)
   powers-eval v n ms a =
       powers-units (pos v) (suc n) 0 ms
@@ -110,13 +110,13 @@ module _ (d t : ℕ) where
       (λ k h. units-eval v (suc n) 0 k (exponent 8 d k) (omega arith) (omega arith)) ms a
       ∙ sym (substituted-weigh (same t) d v ms)
 
-  powers-zero : (n e x : ℕ) (ms : List Monomial) → x < n → AllZero (powers n e ms) → weigh (at (e + x)) ms ≡ pos 0
+  powers-zero : (n e x : ℕ) (ms : List Summand) → x < n → AllZero (powers n e ms) → weigh (at (e + x)) ms ≡ pos 0
   powers-zero zero e x ms h a = absurd (omega arith)
   powers-zero (suc n) e zero ms h a = ap (λ (z : ℕ). weigh (at z) ms) (N.add-zero e) ∙ a .0
   powers-zero (suc n) e (suc x) ms h a = let q : e + suc x ≡ suc e + x = omega arith in ap (λ (z : ℕ). weigh (at z) ms) q ∙ powers-zero n (suc e) x ms (omega arith) (a .1)
 
   -- later keys are not the first
-  later-zero : (k : ℕ) → 1 ≤ d → t ≡ rest 8 d k → Ordered d 8 k → (low : ℕ) (ms : List Monomial) → k < low → Rising low ms → AllOrdered d ms → weigh (at (exponent 8 d k)) ms ≡ pos 0
+  later-zero : (k : ℕ) → 1 ≤ d → t ≡ rest 8 d k → Ordered d 8 k → (low : ℕ) (ms : List Summand) → k < low → Rising low ms → AllOrdered d ms → weigh (at (exponent 8 d k)) ms ≡ pos 0
   unfolding weigh
   later-zero k o e r low [] l s a = refl
   later-zero k o e r low (m ∷ ms) l s a =
@@ -132,7 +132,7 @@ module _ (d t : ℕ) where
       apart = go (eqb (exponent 8 d k) (exponent 8 d (m .key))) (eqb t (rest 8 d (m .key))) refl refl
 
 -- the first key's coefficient is among those of its powers
-first-there : (d : ℕ) → 1 ≤ d → (m : Monomial) (ms : List Monomial) → Rising 0 (m ∷ ms) → AllOrdered d (m ∷ ms) → weigh (at d (rest 8 d (m .key)) (exponent 8 d (m .key))) (m ∷ ms) ≡ m .coef
+first-there : (d : ℕ) → 1 ≤ d → (m : Summand) (ms : List Summand) → Rising 0 (m ∷ ms) → AllOrdered d (m ∷ ms) → weigh (at d (rest 8 d (m .key)) (exponent 8 d (m .key))) (m ∷ ms) ≡ m .coef
 unfolding weigh
 first-there d o m ms s a =
     let k = m .key in
@@ -140,14 +140,14 @@ first-there d o m ms s a =
     let z = later-zero d (rest 8 d k) k o refl (a .0) (suc k) ms (N.le-refl (suc k)) (s .2) (a .1) in
     (λ i. m .coef *ℤ e i +ℤ z i) ∙ I.+ℤ-idr (m .coef *ℤ pos 1) ∙ R.*ℤ-1 (m .coef)
 
--- without a monomial the sum is 0
-none-weighs : (w : ℕ → ℤ) (ms : List Monomial) → isSome ms ≡ false → weigh w ms ≡ pos 0
+-- without a summand the sum is 0
+none-weighs : (w : ℕ → ℤ) (ms : List Summand) → isSome ms ≡ false → weigh w ms ≡ pos 0
 unfolding weigh isSome
 none-weighs w [] e = refl
 none-weighs w (m ∷ ms) e = absurd (let z : _≡_ {A = ℕ} 0 1 = cc in omega arith)
 
--- where no number below n leaves a monomial, n does
-pub survives : (d n : ℕ) → 1 ≤ d → (ms : List Monomial) → isSome ms ≡ true → Rising 0 ms → AllOrdered d ms → All (λ (m : Monomial). exponent 8 d (m .key) ≤ n) ms
+-- where no number below n leaves a summand, n does
+pub survives : (d n : ℕ) → 1 ≤ d → (ms : List Summand) → isSome ms ≡ true → Rising 0 ms → AllOrdered d ms → All (λ (m : Summand). exponent 8 d (m .key) ≤ n) ms
     → ((v : ℕ) → v < n → isSome (substituted d v ms) ≡ false) → isSome (substituted d n ms) ≡ true
 unfolding isSome
 survives d n o [] ne s a x h = absurd (let z : _≡_ {A = ℕ} 0 1 = cc in omega arith)

@@ -11,8 +11,8 @@ use Rattle.algebra.specs.Integers.{NonZero}
 use Rattle.specification.specs.Results.{if_then_else_}
 use Rattle.specification.specs.Letters.{vector, kindOf}
 use Rattle.theory.specs.Elements.{All}
-use Rattle.decision.specs.Keys.{Ordered, tally}
-use Rattle.decision.specs.Monomials.{Monomial, total, size, substituted, isSome, Rising}
+use Rattle.polynomials.specs.Keys.{Ordered, tally}
+use Rattle.polynomials.specs.Summands.{Summand, total, size, substituted, isSome, Rising}
 
 -- ════ variables of a table
 
@@ -57,20 +57,20 @@ bound = 3456 * 2147483647 * 186624
 -- ════ what the functions ask and promise
 
 -- a polynomial of the difference of two forms that is not 0
-pub record Polynomial (table : List ℕ) (ms : List Monomial) : Type 0 where
+pub record Polynomial (table : List ℕ) (ms : List Summand) : Type 0 where
   pub rising : Rising 0 ms
   pub some : isSome ms ≡ true
-  pub has : All (λ (m : Monomial). Has table 6 2 (m .key)) ms
+  pub has : All (λ (m : Summand). Has table 6 2 (m .key)) ms
   pub small : size (weight table) ms ≤ bound
 
--- r is the first number up to `most` that leaves a monomial, or `most`
-pub record FirstNumber (ms : List Monomial) (d most r : ℕ) : Type 0 where
+-- r is the first number up to `most` that leaves a summand, or `most`
+pub record FirstNumber (ms : List Summand) (d most r : ℕ) : Type 0 where
   pub few : r ≤ most
   pub before : (v : ℕ) → v < r → isSome (substituted d v ms) ≡ false
   pub found : (isSome (substituted d r ms) ≡ true) ⊎ (r ≡ most)
 
--- the first n monomials are such a polynomial, and the first 3 bytes a letter are 0
-pub record Eliminable (table : List ℕ) (n : ℕ) (ms : List Monomial) (buffer : List ℕ) : Type 0 where
+-- the first n summands are such a polynomial, and the first 3 bytes a letter are 0
+pub record Eliminable (table : List ℕ) (n : ℕ) (ms : List Summand) (buffer : List ℕ) : Type 0 where
   pub letters : length table ≤ 24
   pub there : n ≤ length ms
   pub room : 72 ≤ length buffer
@@ -78,7 +78,7 @@ pub record Eliminable (table : List ℕ) (n : ℕ) (ms : List Monomial) (buffer 
   pub zeros : (x : ℕ) → x < 3 * length table → getD buffer x 0 ≡ 0
 
 -- numbers are chosen under which it is not 0
-pub record Eliminated (table : List ℕ) (ms : List Monomial) (buffer buffer′ : List ℕ) : Type 0 where
+pub record Eliminated (table : List ℕ) (ms : List Summand) (buffer buffer′ : List ℕ) : Type 0 where
   pub sameLength : length buffer′ ≡ length buffer
   pub within : (x : ℕ) → x < 3 * length table → getD buffer′ x 0 ≤ limitOf table x
   pub behind : drop (3 * length table) buffer′ ≡ drop (3 * length table) buffer

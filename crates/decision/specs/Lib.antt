@@ -1,10 +1,5 @@
 -- What the contracts cite.
-pub mod Keys
-pub mod Monomials
-pub mod Memory
-pub mod Passes
-pub mod Sorting
-pub mod Expansion
+pub mod Differences
 pub mod Elimination
 pub mod Answers
 pub mod Taking

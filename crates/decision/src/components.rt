@@ -1,16 +1,17 @@
 // A component of the difference of two forms, gathered in lent bytes.
 ghost use Rattle.terms.specs.Abstraction.{formOf};
-ghost use Rattle.decision.specs.Memory.{monomials};
-ghost use Rattle.decision.specs.Expansion.{expandTerms, FormExpandable, Expanded, difference, Comparable, Compared};
-use crate::expansion::expand_term;
-use crate::passes::substitute;
-use crate::sorting::sort;
+ghost use Rattle.polynomials.specs.Memory.{summands};
+ghost use Rattle.polynomials.specs.Expansion.{Expanded};
+ghost use Rattle.decision.specs.Differences.{expandTerms, FormExpandable, difference, Comparable, Compared};
+use polynomials::expansion::expand_term;
+use polynomials::passes::substitute;
+use polynomials::sorting::sort;
 use terms::types::Form;
 
-// Writes the monomials of a component of a form, times a sign, from `start` on; so many they are.
+// Writes the summands of a component of a form, times a sign, from `start` on; so many they are.
 fn expand_form(work: &mut [u8], start: usize, f: Form, i: u8, sign: i64) -> usize
-    requires { ⌜ FormExpandable start f i sign (monomials (now work)) ⌝ }
-    ensures { λ r. ⌜ Expanded start (expandTerms i sign (formOf f .terms)) r (monomials (now (work .entry))) (monomials (now (work .exit))) ⌝ }
+    requires { ⌜ FormExpandable start f i sign (summands (now work)) ⌝ }
+    ensures { λ r. ⌜ Expanded start (expandTerms i sign (formOf f .terms)) r (summands (now (work .entry))) (summands (now (work .exit))) ⌝ }
 {
     let mut n: usize = 0;
     let mut k: usize = 0;
@@ -22,10 +23,10 @@ fn expand_form(work: &mut [u8], start: usize, f: Form, i: u8, sign: i64) -> usiz
     n
 }
 
-// The monomials of a component of the difference of two forms, gathered; so many are left. The digit 255 is no variable.
+// The summands of a component of the difference of two forms, gathered; so many are left. The digit 255 is no variable.
 pub fn compare(work: &mut [u8], f: Form, g: Form, i: u8) -> usize
-    requires { ⌜ Comparable f g i (monomials (now work)) ⌝ }
-    ensures { λ r. ⌜ Compared (difference i (formOf f) (formOf g)) r (monomials (now (work .entry))) (monomials (now (work .exit))) ⌝ }
+    requires { ⌜ Comparable f g i (summands (now work)) ⌝ }
+    ensures { λ r. ⌜ Compared (difference i (formOf f) (formOf g)) r (summands (now (work .entry))) (summands (now (work .exit))) ⌝ }
 {
     let m = expand_form(work, 0, f, i, 1);
     let n = m + expand_form(work, m, g, i, -1);

@@ -2,12 +2,12 @@
 ghost use mathlib.Core.Path.{_≡_};
 ghost use Prim.Native.Nat.{ℕ, _/_, _≤_, _<_};
 ghost use lib.ListN.{length, getD, take, drop};
-ghost use Rattle.decision.specs.Memory.{monomials};
-ghost use Rattle.decision.specs.Passes.{Fit};
+ghost use Rattle.polynomials.specs.Memory.{summands};
+ghost use Rattle.polynomials.specs.Passes.{Fit};
 ghost use Rattle.decision.specs.Elimination.{mostOf, FirstNumber, Eliminable, Eliminated};
-use crate::passes::least;
-use crate::passes::leaves;
-use crate::passes::substitute;
+use polynomials::passes::least;
+use polynomials::passes::leaves;
+use polynomials::passes::substitute;
 
 // The largest number for a variable.
 fn most(table: &[u8], x: usize) -> u64
@@ -17,10 +17,10 @@ fn most(table: &[u8], x: usize) -> u64
     if table[x / 3] == 1 { 6 } else { 2 }
 }
 
-// The first number for the variable of a digit that leaves a monomial; the last one needs no test.
+// The first number for the variable of a digit that leaves a summand; the last one needs no test.
 fn first_number(work: &[u8], n: usize, d: u64, most: u64) -> u64
-    requires { ⌜ (n ≤ length (monomials (now work))) × (most ≤ 6) × ((v : ℕ) → v ≤ most → Fit d v (take n (monomials (now work)))) ⌝ }
-    ensures { λ r. ⌜ FirstNumber (take n (monomials (now (work .entry)))) d most r ⌝ }
+    requires { ⌜ (n ≤ length (summands (now work))) × (most ≤ 6) × ((v : ℕ) → v ≤ most → Fit d v (take n (summands (now work)))) ⌝ }
+    ensures { λ r. ⌜ FirstNumber (take n (summands (now (work .entry)))) d most r ⌝ }
 {
     let mut v: u64 = 0;
     while v < most {
@@ -34,8 +34,8 @@ fn first_number(work: &[u8], n: usize, d: u64, most: u64) -> u64
 
 // Chooses a number for each variable of a polynomial that is not 0, and writes it into the buffer.
 pub fn eliminate(table: &[u8], work: &mut [u8], n: usize, buffer: &mut [u8])
-    requires { ⌜ Eliminable (now table) n (monomials (now work)) (now buffer) ⌝ }
-    ensures { λ r. ⌜ Eliminated (now (table .entry)) (take n (monomials (now (work .entry)))) (now (buffer .entry)) (now (buffer .exit)) ⌝ }
+    requires { ⌜ Eliminable (now table) n (summands (now work)) (now buffer) ⌝ }
+    ensures { λ r. ⌜ Eliminated (now (table .entry)) (take n (summands (now (work .entry)))) (now (buffer .entry)) (now (buffer .exit)) ⌝ }
 {
     let mut m = n;
     let mut d = least(work, n);

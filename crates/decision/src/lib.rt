@@ -6,11 +6,6 @@ ghost use Rattle.decision.specs.Answers.{decisionOf, Decidable, DecidedS
 
 mod components;
 mod elimination;
-mod expansion;
-mod memory;
-mod passes;
-mod sorting;
-mod variables;
 
 use crate::components::compare;
 use crate::elimination::clear;

@@ -4,7 +4,8 @@ use Rattle.specification.specs.Decision.{Decided}
 use Rattle.terms.specs.Abstraction.{formOf}
 use Rattle.records.specs.Reading.{termsOf}
 use Rattle.decision.specs.Answers.{decisionOf}
-use Rattle.decision.proofs.Deciding.{table-refused, buffer-refused, work-refused, first-refused, second-refused, letters-refused, others-refused, kinds-refused, settle-asks, settled}
+use Rattle.decision.proofs.Deciding.{table-refused, buffer-refused, work-refused, first-refused, second-refused, letters-refused, others-refused}
+use Rattle.decision.proofs.Deciding.{kinds-refused, settle-asks, settled}
 use Rattle.decision.proofs.decide.Statement.{statement}
 use Rattle.decision.proofs.decide.Tie as tie
 
@@ -109,7 +110,8 @@ returns-9 : tie.Need-returns-9
 unfolding Decided decisionOf formOf termsOf
 returns-9 c =
     settled _ _ _ _ _ _
-    (c .before .before .before .before .before .before .before .before .before .before .before .before .before .before .before .before .before .before .before .before .before .before .before .check-table .ensures)
+    (c .before .before .before .before .before .before .before .before .before .before .before .before
+    .before .before .before .before .before .before .before .before .before .before .before .check-table .ensures)
     (c .before .before .before .before .before .before .before .before .before .before .before .before .before .before .before .before .before .before .before .before .before .before .if1 .left)
     (c .before .before .before .before .before .before .before .before .before .before .before .before .before .before .before .before .before .before .before .before .before .if2 .left)
     (c .before .before .before .before .before .before .before .before .before .before .before .before .before .before .before .before .before .before .before .before .if3 .left)

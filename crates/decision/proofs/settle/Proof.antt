@@ -10,8 +10,8 @@ use Rattle.algebra.specs.Numbers.{below-more, below-fewer}
 use Rattle.specification.specs.Decision.{DecidedBy}
 use Rattle.terms.specs.Abstraction.{formOf}
 use Rattle.decision.specs.Answers.{decisionOf}
-use Rattle.decision.specs.Expansion.{difference}
-use Rattle.decision.specs.Monomials.{total}
+use Rattle.decision.specs.Differences.{difference}
+use Rattle.polynomials.specs.Summands.{total}
 use Rattle.decision.proofs.Settling.{compare-asks, eliminate-asks, differs, none-left, equal, three}
 use Rattle.decision.proofs.settle.Statement.{statement}
 use Rattle.decision.proofs.settle.Tie as tie

@@ -6,15 +6,15 @@ use lib.ListN.{length, length-map}
 use mir.Val.{toZ}
 use mir.Syntax.{w64}
 use Rattle.integers.proofs.Machine.{back, back-is}
-use Rattle.decision.specs.Expansion.{FormExpandable}
-use Rattle.decision.specs.Memory.{monomials}
-use Rattle.decision.proofs.Layers.{words}
+use Rattle.decision.specs.Differences.{FormExpandable}
+use Rattle.polynomials.specs.Memory.{summands}
+use Rattle.polynomials.proofs.Layers.{words}
 use Rattle.decision.proofs.Differences.{Filled, fill-starts, fill-asks, sum-fits, fill-on, fill-ends, fill-as, filled-as}
 use Rattle.decision.proofs.components.expand_form.Statement.{statement}
 use Rattle.decision.proofs.components.expand_form.Tie as tie
 
 abbrev Inv-loop : tie.InvT-loop
-Inv-loop work₀ start i sign f n₀ k₀ work n k = (length work ≡ length work₀) × Filled start f i (toZ w64 sign) k n (monomials work₀) (monomials work)
+Inv-loop work₀ start i sign f n₀ k₀ work n k = (length work ≡ length work₀) × Filled start f i (toZ w64 sign) k n (summands work₀) (summands work)
 
 abbrev μ-loop : tie.MeasureT-loop
 μ-loop work₀ start i sign f n₀ k₀ work n k = f .count - k
@@ -28,7 +28,7 @@ few : (c : tie.Start Inv-loop μ-loop) → c .args .t3 .count ≤ length (c .arg
 few c = omega (arith, places c, c .pre .valid .few)
 
 -- the sign is read back
-asks : (c : tie.Start Inv-loop μ-loop) → FormExpandable (c .args .start) (c .args .t3) (c .args .i) (back (c .args .sign)) (monomials (c .args .work .now))
+asks : (c : tie.Start Inv-loop μ-loop) → FormExpandable (c .args .start) (c .args .t3) (c .args .i) (back (c .args .sign)) (summands (c .args .work .now))
 asks c = fill-as _ _ _ _ _ _ (back-is (c .fits .sign)) (c .pre)
 
 loop-holds : tie.Need-loop-holds Inv-loop μ-loop

@@ -3,14 +3,15 @@ use mathlib.Core.Path.{_≡_, refl, _∙_}
 use Prim.Native.Nat.{_≤_}
 use native.Mathlib.Omega.{arith}
 use lib.ListN.{length, take}
-use Rattle.decision.specs.Memory.{monomials}
-use Rattle.decision.proofs.Choices.{Choosing, choose-starts, choose-on, choose-ends, choose-falls, fallOf, letter-there, most-six, fits, number-small, byte-there}
+use Rattle.polynomials.specs.Memory.{summands}
+use Rattle.decision.proofs.Choices.{Choosing, choose-starts, choose-on, choose-ends, choose-falls, fallOf, letter-there, most-six, fits, number-small}
+use Rattle.decision.proofs.Choices.{byte-there}
 use Rattle.decision.proofs.elimination.eliminate.Statement.{statement}
 use Rattle.decision.proofs.elimination.eliminate.Tie as tie
 
 abbrev Inv-loop : tie.InvT-loop
 Inv-loop table work₀ n buffer₀ m₀ d₀ work buffer m d =
-    (length work ≡ length work₀) × (m ≤ length (monomials work)) × Choosing table (take n (monomials work₀)) (take m (monomials work)) d buffer₀ buffer
+    (length work ≡ length work₀) × (m ≤ length (summands work)) × Choosing table (take n (summands work₀)) (take m (summands work)) d buffer₀ buffer
 
 abbrev μ-loop : tie.MeasureT-loop
 μ-loop table work₀ n buffer₀ m₀ d₀ work buffer m d = fallOf d

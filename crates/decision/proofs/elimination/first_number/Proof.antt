@@ -1,18 +1,18 @@
--- `decision::elimination::first_number` meets its contract: no number below v leaves a monomial. Assumes nothing.
+-- `decision::elimination::first_number` meets its contract: no number below v leaves a summand. Assumes nothing.
 use mathlib.Core.Path.{_≡_, sym, _∙_}
 use mathlib.Core.Bool.{false}
 use Prim.Native.Nat.{ℕ, _-_, _≤_, _<_}
 use native.Mathlib.Omega.{arith}
 use native.Mathlib.Nat.{not-suc-le-zero}
 use lib.ListN.{take}
-use Rattle.decision.specs.Monomials.{substituted, isSome}
-use Rattle.decision.specs.Memory.{monomials}
+use Rattle.polynomials.specs.Summands.{substituted, isSome}
+use Rattle.polynomials.specs.Memory.{summands}
 use Rattle.decision.proofs.Choices.{first-asks, first-found, first-on, first-last}
 use Rattle.decision.proofs.elimination.first_number.Statement.{statement}
 use Rattle.decision.proofs.elimination.first_number.Tie as tie
 
 abbrev Inv-loop : tie.InvT-loop
-Inv-loop work n d most v₀ v = (v ≤ most) × ((u : ℕ) → u < v → isSome (substituted d u (take n (monomials work))) ≡ false)
+Inv-loop work n d most v₀ v = (v ≤ most) × ((u : ℕ) → u < v → isSome (substituted d u (take n (summands work))) ≡ false)
 
 abbrev μ-loop : tie.MeasureT-loop
 μ-loop work n d most v₀ v = most - v
