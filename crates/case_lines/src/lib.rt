@@ -1,12 +1,15 @@
 // What the programs over cases share: bytes taken from the input, and lines written to standard output.
-ghost use Prim.Native.Nat.{_+_, _*_, _^_, _<_};
+ghost use mathlib.Core.Path.{_≡_};
+ghost use Prim.Native.Nat.{_+_, _*_, _^_, _≤_, _<_};
 ghost use lib.IntN.{natAbs};
 ghost use lib.ListN.{length};
+ghost use Rattle.case_lines.specs.Filling.{AllFilling, Stand};
 ghost use Rattle.evaluation.specs.Vectors.{vecOf, Within};
 use evaluation::Valued;
 use evaluation::value;
 use evaluation::vectors::Vector;
 use integers::is_negative;
+use integers::less;
 use integers::size;
 
 // A byte as a number.
@@ -39,7 +42,7 @@ pub fn print_bytes(s: &[u8]) {
     }
 }
 
-// A signed number in decimal.
+// A signed number of less than 64 bits in decimal.
 fn print_number(a: i64)
     requires { ⌜ natAbs a < 2 ^ 63 ⌝ }
 {
@@ -47,6 +50,15 @@ fn print_number(a: i64)
         print_character(b'-');
     }
     io::print_decimal(1, size(a));
+}
+
+// Any signed number in decimal.
+pub fn print_signed(a: i64) {
+    if less(a, -9223372036854775807) {
+        io::write_all(1, b"-9223372036854775808");
+        return;
+    }
+    print_number(a);
 }
 
 // R and the number of a refusal.
@@ -59,7 +71,10 @@ pub fn print_refusal(n: u8) {
 const FILLING: u8 = 170;
 
 // Fills the bytes.
-pub fn fill(s: &mut [u8]) {
+pub fn fill(s: &mut [u8])
+    ensures filled { λ r. ⌜ AllFilling (now (s .exit)) ⌝ }
+    ensures same { λ r. ⌜ length (now (s .exit)) ≡ length (now (s .entry)) ⌝ }
+{
     let mut i: usize = 0;
     while i < s.len() {
         s[i] = FILLING;
@@ -67,8 +82,10 @@ pub fn fill(s: &mut [u8]) {
     }
 }
 
-// Whether the bytes are as they were before.
-fn stands(s: &[u8]) -> bool {
+// Whether the bytes are as they were filled.
+fn stands(s: &[u8]) -> bool
+    ensures { λ r. ⌜ Stand (now (s .entry)) r ⌝ }
+{
     let mut i: usize = 0;
     while i < s.len() {
         if s[i] != FILLING {
@@ -83,6 +100,82 @@ fn stands(s: &[u8]) -> bool {
 pub fn print_standing(s: &[u8]) {
     if !stands(s) {
         io::write_all(1, b" changed");
+    }
+}
+
+// Whether the three numbers of a letter are from 0 to 6, of a scalar letter from 0 to 2 and two zeros.
+fn letter_in_range(kind: u8, x: u8, y: u8, z: u8) -> bool {
+    if kind == 0 {
+        return x <= 2 && y == 0 && z == 0;
+    }
+    x <= 6 && y <= 6 && z <= 6
+}
+
+// Whether every letter has three numbers, and they are in range.
+pub fn in_range(table: &[u8], s: &[u8]) -> bool {
+    if s.len() / 3 < table.len() {
+        return false;
+    }
+    let mut n: usize = 0;
+    while n < table.len() {
+        let i = 3 * n;
+        if !letter_in_range(table[n], s[i], s[i + 1], s[i + 2]) {
+            return false;
+        }
+        n += 1;
+    }
+    true
+}
+
+// Whether two parts of memory hold the same bytes.
+fn same(s: &[u8], t: &[u8]) -> bool {
+    if s.len() != t.len() {
+        return false;
+    }
+    let mut i: usize = 0;
+    while i < s.len() {
+        if s[i] != t[i] {
+            return false;
+        }
+        i += 1;
+    }
+    true
+}
+
+// The terms that a form's record counts; 255 where it is cut off.
+fn terms_of(form: &[u8]) -> usize
+    ensures { λ r. ⌜ r < 256 ⌝ }
+{
+    if form.len() < 2 {
+        return 255;
+    }
+    byte_at(form, 1)
+}
+
+// The numbers of terms, and the word for a log that has more steps than terms were saved.
+fn print_counts(first: usize, last: usize, steps: usize)
+    requires { ⌜ (first < 256) × (last < 256) ⌝ }
+{
+    io::print_decimal(1, first as u64);
+    print_character(b' ');
+    io::print_decimal(1, last as u64);
+    if last > first {
+        io::write_all(1, b" longer");
+        return;
+    }
+    if steps > first - last {
+        io::write_all(1, b" idle-steps");
+    }
+}
+
+// An accepted log, with its first form, its last form and its steps.
+pub fn print_accepted(form: &[u8], first: &[u8], last: &[u8], counted: usize, steps: usize) {
+    print_counts(terms_of(first), terms_of(last), counted);
+    if !same(first, form) {
+        io::write_all(1, b" another-form");
+    }
+    if counted != steps {
+        io::write_all(1, b" steps-miscounted");
     }
 }
 

@@ -5,6 +5,7 @@ ghost use Prim.Native.Nat.{_*_, _<_, _≤_};
 ghost use lib.ListN.{length};
 use case_lines::byte_at;
 use case_lines::fill;
+use case_lines::in_range;
 use case_lines::print_character;
 use case_lines::print_refusal;
 use case_lines::print_standing;
@@ -14,29 +15,6 @@ use decision::decide;
 use evaluation::Valued;
 use evaluation::value;
 use evaluation::vectors::Vector;
-
-// Whether the three numbers of a letter are from 0 to 6, of a scalar letter from 0 to 2 and two zeros.
-fn letter_in_range(kind: u8, x: u8, y: u8, z: u8) -> bool {
-    if kind == 0 {
-        return x <= 2 && y == 0 && z == 0;
-    }
-    x <= 6 && y <= 6 && z <= 6
-}
-
-// Whether the numbers of every letter are in range.
-fn in_range(table: &[u8], s: &[u8]) -> bool
-    requires { ⌜ 3 * length (now table) ≤ length (now s) ⌝ }
-{
-    let mut n: usize = 0;
-    while n < table.len() {
-        let i = 3 * n;
-        if !letter_in_range(table[n], s[i], s[i + 1], s[i + 2]) {
-            return false;
-        }
-        n += 1;
-    }
-    true
-}
 
 // Whether two vectors are unequal.
 fn unequal(v: Vector, w: Vector) -> bool {
@@ -63,9 +41,7 @@ fn apart(table: &[u8], first: &[u8], second: &[u8], assignment: &[u8]) -> bool {
 }
 
 // The words for an assignment that is out of range or does not tell two forms apart.
-fn print_faults(table: &[u8], first: &[u8], second: &[u8], assignment: &[u8])
-    requires { ⌜ 3 * length (now table) ≤ length (now assignment) ⌝ }
-{
+fn print_faults(table: &[u8], first: &[u8], second: &[u8], assignment: &[u8]) {
     if !in_range(table, assignment) {
         io::write_all(1, b" out-of-range");
     }

@@ -6,6 +6,7 @@ ghost use Prim.Native.Nat.{_<_, _≤_};
 ghost use lib.ListN.{length};
 use case_lines::byte_at;
 use case_lines::fill;
+use case_lines::print_accepted;
 use case_lines::print_character;
 use case_lines::print_refusal;
 use case_lines::print_standing;
@@ -16,58 +17,6 @@ use checker::first_form;
 use checker::last_form;
 use shortening::Shortening;
 use shortening::shorten;
-
-// Whether two parts of memory hold the same bytes.
-fn same(s: &[u8], t: &[u8]) -> bool {
-    if s.len() != t.len() {
-        return false;
-    }
-    let mut i: usize = 0;
-    while i < s.len() {
-        if s[i] != t[i] {
-            return false;
-        }
-        i += 1;
-    }
-    true
-}
-
-// The terms that a form's record counts; 255 where it is cut off.
-fn terms_of(form: &[u8]) -> usize
-    ensures { λ r. ⌜ r < 256 ⌝ }
-{
-    if form.len() < 2 {
-        return 255;
-    }
-    byte_at(form, 1)
-}
-
-// The numbers of terms, and the word for a log that has more steps than terms were saved.
-fn print_counts(first: usize, last: usize, steps: usize)
-    requires { ⌜ (first < 256) × (last < 256) ⌝ }
-{
-    io::print_decimal(1, first as u64);
-    print_character(b' ');
-    io::print_decimal(1, last as u64);
-    if last > first {
-        io::write_all(1, b" longer");
-        return;
-    }
-    if steps > first - last {
-        io::write_all(1, b" idle-steps");
-    }
-}
-
-// An accepted log, with its first form, its last form and its steps.
-fn print_accepted(form: &[u8], first: &[u8], last: &[u8], counted: usize, steps: usize) {
-    print_counts(terms_of(first), terms_of(last), counted);
-    if !same(first, form) {
-        io::write_all(1, b" another-form");
-    }
-    if counted != steps {
-        io::write_all(1, b" steps-miscounted");
-    }
-}
 
 // A log that was written, with the steps reported.
 fn print_log(table: &[u8], form: &[u8], log: &[u8], steps: usize) {

@@ -1,7 +1,6 @@
 -- `decision_cases::print_differing` is safe and ends. Assumes nothing.
 use mathlib.Core.Path.{sym}
 use native.Mathlib.Omega.{arith}
-use lib.ListN.{length-take}
 use lib.Seq.{length-take-le}
 use borrow.Author.Needs.{needs}
 use Rattle.decision_cases.proofs.print_differing.Statement.{statement}
@@ -50,7 +49,7 @@ slice-aggregate-print-faults : tie.Need-slice-aggregate-print-faults
 slice-aggregate-print-faults c = sym (length-take-le _ _ (omega arith))
 
 print-faults-requires : tie.Need-print-faults-requires
-print-faults-requires c κs = simp length-take (omega arith)
+print-faults-requires c κs = search needs
 
 returns-3 : tie.Need-returns-3
 returns-3 c = search needs

@@ -1,10 +1,10 @@
--- `shortening_cases::same` is safe and ends. Assumes nothing.
+-- `case_lines::same` is safe and ends. Assumes nothing.
 use Prim.Native.Nat.{_-_}
 use native.Mathlib.Omega.{arith}
 use lib.ListN.{length}
 use borrow.Author.Needs.{needs}
-use Rattle.shortening_cases.proofs.same.Statement.{statement}
-use Rattle.shortening_cases.proofs.same.Tie as tie
+use Rattle.case_lines.proofs.same.Statement.{statement}
+use Rattle.case_lines.proofs.same.Tie as tie
 
 abbrev Inv-loop : tie.InvT-loop
 Inv-loop s t i₀ i = Unit {0}
