@@ -125,7 +125,7 @@ def spread(cases, most, longest=300):
 def values():
     yield from spread([(VALUE, *case, 3, 0, 0) for case in forms.cases()], {0: 12})
     table, form, assignment = forms.TABLE, bytes.fromhex("010125FFFFFFFE0100010203"), bytes([1, 254, 3, 252, 5, 250, 2, 0, 255, 6, 253, 1, 251, 4, 2, 250, 0, 0, 3, 0, 0])
-    for some, data, numbers, lent in itertools.product((table, table + b"\2"), (form, form[:-1]), (assignment, assignment[:-1]), (2, 3, 4)):
+    for some, data, numbers, lent in itertools.product((table, table + b"\2"), (form, form[:-1]), (assignment, assignment[:-1]), (2, 3)):
         yield VALUE, some, data, numbers, lent, 0, 0
 
 
@@ -140,7 +140,7 @@ def logs_to_check():
     yield from spread([(CHECK, table, data, b"", 3, 0, 0) for group in logs.GROUPS for table, data, _ in group()], {0: 12, 13: 4})
     first = vector("(bcd)*a-(acd)*b+(abd)*c-(abc)*d")
     step = logs.step(2, "abcd", "1")
-    for table, last, lent in itertools.product((TABLE, TABLE + b"\2"), (NOTHING[1], first, first[:-1]), (2, 3, 4)):
+    for table, last, lent in itertools.product((TABLE, TABLE + b"\2"), (NOTHING[1], first, first[:-1]), (2, 3)):
         yield CHECK, table, logs.log(first, [step], last), b"", lent, 0, 0
 
 
@@ -161,7 +161,7 @@ def forms_to_shorten():
 
 def shortened():
     yield from spread([(SHORTEN, table, data, b"", lent, 1, 0) for table, data, lent in forms_to_shorten()], {0: 12})
-    for table, data, lent, steps in itertools.product((TABLE, TABLE + b"\2"), (vector("(bcd)*a-(acd)*b+(abd)*c-(abc)*d"), b"\1"), (LENT - 1, LENT + 9), (0, 1, 2)):
+    for table, data, lent, steps in itertools.product((TABLE, TABLE + b"\2"), (vector("(bcd)*a-(acd)*b+(abd)*c-(abc)*d"), b"\1"), (LENT - 1, LENT + 9), (0, 1)):
         yield SHORTEN, table, data, b"", lent, steps, 0
 
 

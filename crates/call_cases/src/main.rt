@@ -6,8 +6,8 @@ ghost use Prim.Native.Nat.{_<_, _≤_};
 ghost use lib.ListN.{length};
 use audit::Verdict;
 use audit::audit;
+use case_lines::FILLING;
 use case_lines::byte_at;
-use case_lines::fill;
 use case_lines::in_range;
 use case_lines::print_accepted;
 use case_lines::print_bytes;
@@ -101,18 +101,16 @@ fn print_value(table: &[u8], form: &[u8], assignment: &[u8], values: &mut [i64])
     print_all_signed(values);
 }
 
-// The same with two numbers lent, with three, or with four.
+// The same with two numbers lent, or with three.
 fn run_value(table: &[u8], form: &[u8], assignment: &[u8], p: usize) {
     match p {
         2 => print_value(table, form, assignment, &mut [SIGNED; 2]),
-        3 => print_value(table, form, assignment, &mut [SIGNED; 3]),
-        _ => print_value(table, form, assignment, &mut [SIGNED; 4]),
+        _ => print_value(table, form, assignment, &mut [SIGNED; 3]),
     }
 }
 
 // The reduction call: the number returned, and the bytes written.
 fn print_reduced(table: &[u8], expression: &[u8], out: &mut [u8]) {
-    fill(out);
     let r = kalzunbi_reduce(table, expression, out);
     print_signed(r);
     let n = written(r);
@@ -125,7 +123,7 @@ fn print_reduced(table: &[u8], expression: &[u8], out: &mut [u8]) {
 
 // The same with so many bytes lent.
 fn run_reduced(table: &[u8], expression: &[u8], p: usize) {
-    let mut out = io::buffer();
+    let mut out = [FILLING; 4096];
     print_reduced(table, expression, lend(&mut out, p));
 }
 
@@ -136,12 +134,11 @@ fn print_checked(table: &[u8], log: &[u8], places: &mut [u64]) {
     print_numbers(places, 0);
 }
 
-// The same with two numbers lent, with three, or with four.
+// The same with two numbers lent, or with three.
 fn run_checked(table: &[u8], log: &[u8], p: usize) {
     match p {
         2 => print_checked(table, log, &mut [NUMBER; 2]),
-        3 => print_checked(table, log, &mut [NUMBER; 3]),
-        _ => print_checked(table, log, &mut [NUMBER; 4]),
+        _ => print_checked(table, log, &mut [NUMBER; 3]),
     }
 }
 
@@ -182,8 +179,6 @@ fn print_kept(r: i64, buffer: &[u8], work: &[u8]) {
 
 // The decision call: the number returned.
 fn print_decided(table: &[u8], first: &[u8], second: &[u8], buffer: &mut [u8], work: &mut [u8]) {
-    fill(buffer);
-    fill(work);
     let r = kalzunbi_decide(table, first, second, buffer, work);
     print_signed(r);
     if is_one(r) {
@@ -195,8 +190,8 @@ fn print_decided(table: &[u8], first: &[u8], second: &[u8], buffer: &mut [u8], w
 
 // The same with so many bytes of each part lent.
 fn run_decided(table: &[u8], first: &[u8], second: &[u8], q: usize, r: usize) {
-    let mut buffer = io::buffer();
-    let mut work = io::large_buffer();
+    let mut buffer = [FILLING; 256];
+    let mut work = [FILLING; 65536];
     print_decided(
         table,
         first,
@@ -229,7 +224,6 @@ fn first_of(s: &[u64]) -> usize {
 
 // The shortening call: the number returned where it is a refusal, else the terms; behind them the numbers lent, but not that of the steps.
 fn print_shortened(table: &[u8], form: &[u8], out: &mut [u8], steps: &mut [u64]) {
-    fill(out);
     let r = kalzunbi_shorten(table, form, out, steps);
     let n = written(r);
     if is_negative(r) {
@@ -242,14 +236,13 @@ fn print_shortened(table: &[u8], form: &[u8], out: &mut [u8], steps: &mut [u64])
     print_standing(behind(out, n));
 }
 
-// The same with so many bytes lent, and no number, one, or two.
+// The same with so many bytes lent, and no number, or one.
 fn run_shortened(table: &[u8], form: &[u8], p: usize, q: usize) {
-    let mut memory = io::buffer();
+    let mut memory = [FILLING; 4096];
     let out = lend(&mut memory, p);
     match q {
         0 => print_shortened(table, form, out, &mut [NUMBER; 0]),
-        1 => print_shortened(table, form, out, &mut [NUMBER; 1]),
-        _ => print_shortened(table, form, out, &mut [NUMBER; 2]),
+        _ => print_shortened(table, form, out, &mut [NUMBER; 1]),
     }
 }
 
@@ -274,9 +267,6 @@ fn print_verdict(v: Verdict, table: &[u8], form: &[u8], out: &[u8], work: &[u8])
 
 // The audit, and the buffer, which stands.
 fn print_audited(table: &[u8], form: &[u8], out: &mut [u8], buffer: &mut [u8], work: &mut [u8]) {
-    fill(out);
-    fill(buffer);
-    fill(work);
     let v = audit(table, form, out, buffer, work);
     print_verdict(v, table, form, out, work);
     print_standing(buffer);
@@ -284,9 +274,9 @@ fn print_audited(table: &[u8], form: &[u8], out: &mut [u8], buffer: &mut [u8], w
 
 // The same with so many bytes of each part lent.
 fn run_audited(table: &[u8], form: &[u8], p: usize, q: usize, r: usize) {
-    let mut out = io::buffer();
-    let mut buffer = io::buffer();
-    let mut work = io::large_buffer();
+    let mut out = [FILLING; 4096];
+    let mut buffer = [FILLING; 256];
+    let mut work = [FILLING; 65536];
     print_audited(
         table,
         form,

@@ -68,7 +68,7 @@ pub fn print_refusal(n: u8) {
 }
 
 // What every byte lent is before a call: no number of an assignment, and in a record only a byte of a coefficient.
-const FILLING: u8 = 170;
+pub const FILLING: u8 = 170;
 
 // Fills the bytes.
 pub fn fill(s: &mut [u8])
