@@ -1,4 +1,4 @@
--- `call_cases::print_numbers` is safe and ends. Assumes nothing.
+-- `call_cases::print_numbers` is safe and ends: nothing is asked of the numbers before i. Assumes nothing.
 use Prim.Native.Nat.{_-_}
 use native.Mathlib.Omega.{arith}
 use lib.ListN.{length}

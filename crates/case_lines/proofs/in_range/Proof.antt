@@ -1,4 +1,4 @@
--- `case_lines::in_range` is safe and ends. Assumes nothing.
+-- `case_lines::in_range` is safe and ends: nothing is asked of the letters before n. Assumes nothing.
 use Prim.Native.Nat.{_-_}
 use native.Mathlib.Omega.{arith}
 use lib.ListN.{length}

@@ -1,4 +1,4 @@
--- `case_lines::same` is safe and ends. Assumes nothing.
+-- `case_lines::same` is safe and ends: nothing is asked of the bytes before i. Assumes nothing.
 use Prim.Native.Nat.{_-_}
 use native.Mathlib.Omega.{arith}
 use lib.ListN.{length}
