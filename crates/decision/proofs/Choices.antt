@@ -22,7 +22,7 @@ use Rattle.specification.specs.Letters.{vector, kindOf}
 use Rattle.theory.specs.Elements.{All, all-implies, both-all}
 use Rattle.polynomials.specs.Keys.{digitValue, keyValue, rest, exponent, lowest, Ordered, tally}
 use Rattle.polynomials.specs.Summands.{Summand, weigh, total, reduced, substituted, isSome, Rising}
-use Rattle.polynomials.specs.Passes.{Fit, Substituted, lesserOf, leastFrom}
+use Rattle.polynomials.specs.Passes.{Substitutable, Substituted, lesserOf, leastFrom}
 use Rattle.decision.specs.Elimination.{mostOf, limitOf, vectorDigit, scalarDigit, strangeDigit, Has, weight, Polynomial, FirstNumber, Eliminable}
 use Rattle.decision.specs.Elimination.{Eliminated}
 use Rattle.polynomials.proofs.Keys.{value-zero, rest-tally, rest-ordered}
@@ -259,7 +259,7 @@ least-one P d (m ∷ ms) h a = least-one P (lesserOf d (lowest 8 (m .key))) ms (
 -- ════ the first number
 
 -- every number up to the largest can be tried
-pub first-asks : (ms : List Summand) (d most v : ℕ) → v < most → ((u : ℕ) → u ≤ most → Fit d u ms) → Fit d v ms
+pub first-asks : (ms : List Summand) (d most v : ℕ) → v < most → ((u : ℕ) → u ≤ most → Substitutable d u ms) → Substitutable d v ms
 first-asks ms d most v l h = h v (N.le-of-lt l)
 
 -- a number that leaves a summand ends the search
@@ -403,7 +403,7 @@ module _ (table : List ℕ) (ms rs : List Summand) (d : ℕ) (b₀ b : List ℕ)
           (weight-step table (d - 1) v k (N.le-trans l (N.le-of-eq e)))
 
       -- no number for it leaves 64 bits
-      pub fits : (v : ℕ) → v ≤ m → Fit d v rs
+      pub fits : (v : ℕ) → v ≤ m → Substitutable d v rs
       fits v l =
           record {
             digit = some;

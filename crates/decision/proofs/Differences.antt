@@ -24,8 +24,8 @@ use Rattle.records.proofs.Factors.{joined-append}
 use Rattle.records.proofs.Forms.{term-at}
 use Rattle.polynomials.specs.Keys.{exponent}
 use Rattle.polynomials.specs.Summands.{Summand, size, mass, reduced, substituted, Weakly}
-use Rattle.polynomials.specs.Passes.{Fit, Substituted}
-use Rattle.polynomials.specs.Sorting.{Reordered, Sorted}
+use Rattle.polynomials.specs.Passes.{Substitutable, Substituted}
+use Rattle.polynomials.specs.Sorting.{Reordered, SortedTo}
 use Rattle.polynomials.specs.Expansion.{Modest, expandTerm, Expandable, Expanded}
 use Rattle.decision.specs.Differences.{expandTerms, TermBelow, FormExpandable, difference, Comparable, Compared}
 use Rattle.polynomials.proofs.Expansions.{term-few, term-modest}
@@ -204,12 +204,12 @@ module _ (f g : Form) (i : ℕ) (ms : List Summand) (w : Comparable f g i ms) wh
       pub sort-asks : m + r ≤ length os
       sort-asks = omega (arith, counts-few, w .room, e .same, d .same)
 
-      module _ (ps : List Summand) (s : Sorted (m + r) os ps) where
+      module _ (ps : List Summand) (s : SortedTo (m + r) os ps) where
         same-sorted : length ps ≡ length os
         same-sorted = reordered-length (m + r) os (s .reordered)
 
         -- like ones can be added
-        pub substitute-asks : (m + r ≤ length ps) × Fit 255 1 (take (m + r) ps)
+        pub substitute-asks : (m + r ≤ length ps) × Substitutable 255 1 (take (m + r) ps)
         substitute-asks =
             let a : All Modest (take (m + r) ps) = reordered-all Modest (m + r) os (s .reordered) (subst (All Modest) (sym both) all-modest) in
             let l : length (take (m + r) ps) ≡ m + r = length-take-le (m + r) ps (omega (arith, sort-asks, same-sorted)) in (

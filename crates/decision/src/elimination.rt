@@ -3,7 +3,7 @@ ghost use mathlib.Core.Path.{_≡_};
 ghost use Prim.Native.Nat.{ℕ, _/_, _≤_, _<_};
 ghost use lib.ListN.{length, getD, take, drop};
 ghost use Rattle.polynomials.specs.Memory.{summands};
-ghost use Rattle.polynomials.specs.Passes.{Fit};
+ghost use Rattle.polynomials.specs.Passes.{Substitutable};
 ghost use Rattle.decision.specs.Elimination.{mostOf, FirstNumber, Eliminable, Eliminated};
 use polynomials::passes::least;
 use polynomials::passes::leaves;
@@ -19,7 +19,7 @@ fn most(table: &[u8], x: usize) -> u64
 
 // The first number for the variable of a digit that leaves a summand; the last one needs no test.
 fn first_number(work: &[u8], n: usize, d: u64, most: u64) -> u64
-    requires { ⌜ (n ≤ length (summands (now work))) × (most ≤ 6) × ((v : ℕ) → v ≤ most → Fit d v (take n (summands (now work)))) ⌝ }
+    requires { ⌜ (n ≤ length (summands (now work))) × (most ≤ 6) × ((v : ℕ) → v ≤ most → Substitutable d v (take n (summands (now work)))) ⌝ }
     ensures { λ r. ⌜ FirstNumber (take n (summands (now (work .entry)))) d most r ⌝ }
 {
     let mut v: u64 = 0;

@@ -31,7 +31,8 @@ use Rattle.polynomials.specs.declared.expansion.Block.the-variants.{Zero
 use Rattle.polynomials.specs.Summands.{Summand}
 use Rattle.polynomials.specs.Memory.{summand, none}
 use Rattle.polynomials.specs.Expansion.{pieceAt, countOf, pieces, blockOf, partBlock, timesPiece, timesPieces, timesBlock, timesFactors, expandTerm}
-use Rattle.polynomials.specs.Expansion.{PieceSmall, Modest, Small, Multiplying, Multiplied, LettersBelow, top, Layer, Factorable, Factored, Expandable}
+use Rattle.polynomials.specs.Expansion.{PieceSmall, Modest, SmallBlock, Multiplying, Multiplied, LettersBelow, top, Layer, Factorable, Factored}
+use Rattle.polynomials.specs.Expansion.{Expandable}
 use Rattle.polynomials.specs.Expansion.{Expanded}
 use Rattle.polynomials.proofs.Layers.{piece-small}
 
@@ -116,12 +117,12 @@ pieces-modest (p ∷ ps) ms s h =
     all-append Modest (map (timesPiece p) ms) (timesPieces ps ms) (all-map Modest Modest (timesPiece p) (piece-modest p (s .0)) ms h) (pieces-modest ps ms (s .1) h)
 
 -- no coefficient grows
-pub block-modest : (f : Block) (ms : List Summand) → Small f → All Modest ms → All Modest (timesBlock f ms)
+pub block-modest : (f : Block) (ms : List Summand) → SmallBlock f → All Modest ms → All Modest (timesBlock f ms)
 unfolding timesBlock pieces
 block-modest f ms s h = pieces-modest (pieces f) ms (all-tabulated PieceSmall (countOf f) (pieceAt f) (λ j l. piece-small f j s l)) h
 
 -- the letters of a factor are below 24
-pub block-small : (f : List ℕ) → LettersBelow f → Small (blockOf f)
+pub block-small : (f : List ℕ) → LettersBelow f → SmallBlock (blockOf f)
 unfolding blockOf
 block-small [] b = tt
 block-small (l ∷ []) b = (b .0, omega arith)
@@ -129,11 +130,11 @@ block-small (l ∷ m ∷ []) b = (b .0, b .1 .0)
 block-small (l ∷ m ∷ k ∷ f) b = (b .0, b .1 .0, b .1 .1 .0)
 
 -- those of a vector part too
-pub part-small : (i : ℕ) (p : List ℕ) → i < 3 → LettersBelow p → Small (partBlock i p)
+pub part-small : (i : ℕ) (p : List ℕ) → i < 3 → LettersBelow p → SmallBlock (partBlock i p)
 unfolding partBlock
 part-small i [] h b = go (eqb i 0)
   where
-    go : (t : Bool) → Small (if t then One else Zero)
+    go : (t : Bool) → SmallBlock (if t then One else Zero)
     go true = tt
     go false = tt
 part-small i (l ∷ []) h b = (b .0, h)
@@ -184,7 +185,7 @@ module _ (start n : ℕ) (ms ns layer : List Summand) (w : Layer start n ms ns l
   front-stands =
       sym (take-take start (start + n) ns (omega arith)) ∙ ap (take start) (w .front) ∙ take-at (take start ms) layer start (length-take-le start ms (omega arith))
 
-  module _ (f : Block) (s : Small f) (room : start + countOf f * n ≤ length ms) where
+  module _ (f : Block) (s : SmallBlock f) (room : start + countOf f * n ≤ length ms) where
     -- it can be multiplied in place
     pub layer-asks : Multiplying start n f ns
     layer-asks =
@@ -288,8 +289,8 @@ module _ (start : ℕ) (t : Term) (ms : List Summand) (w : Factorable start t ms
     there = omega (arith, w .room, layer-few)
 
     module _ (b : Block) (e : b ≡ blockOf f) where
-      small : Small b
-      small = subst Small (sym e) (block-small f (letters .0))
+      small : SmallBlock b
+      small = subst SmallBlock (sym e) (block-small f (letters .0))
 
       enough : start + countOf b * n ≤ length ms
       enough = subst (λ (x : Block). start + countOf x * n ≤ length ms) (sym e) (omega (arith, w .room, product-few))
@@ -367,8 +368,8 @@ module _ (start : ℕ) (t : Term) (i : ℕ) (sign : ℤ) (ms : List Summand) (w 
             subst (λ (x : Block). countOf x * n ≤ 36) (sym u)
             (omega (arith, N.mul-comm (countOf (partBlock i (termOf t .part))) n, N.mul-le-mul-left n (part-step i (termOf t .part) part-short), f .room))
 
-        part-fits : Small c
-        part-fits = subst Small (sym u) (part-small i (termOf t .part) (w .component) (w .part))
+        part-fits : SmallBlock c
+        part-fits = subst SmallBlock (sym u) (part-small i (termOf t .part) (w .component) (w .part))
 
         -- then the vector part
         pub part-asks : Multiplying start n c os

@@ -22,7 +22,7 @@ use Rattle.polynomials.specs.declared.expansion.Block.the-variants.{Zero
 use Rattle.polynomials.specs.Summands.{Summand}
 use Rattle.polynomials.specs.Memory.{none, summands}
 use Rattle.polynomials.specs.Expansion.{digitOf, signOf, crossPiece, pieceAt, countOf, pieces, timesPiece, timesPieces, timesBlock, PieceSmall}
-use Rattle.polynomials.specs.Expansion.{PieceFit, Modest, Small, Spreading, Spread, Multiplying, Multiplied}
+use Rattle.polynomials.specs.Expansion.{PieceFit, Modest, SmallBlock, Spreading, Spread, Multiplying, Multiplied}
 use Rattle.polynomials.proofs.Bytes.{length-summands}
 
 -- ════ summands times a product
@@ -104,7 +104,7 @@ module _ where
   cross-small l m i o c h k z = record { first = digit-small l ((i + 1 + o) % 3) h (omega arith); second = digit-small m ((i + 2 + 2 * o) % 3) k (omega arith); third = z; unit = sign-unit o }
 
   -- the digits of each product of a polynomial are small, and its sign is a unit
-  pub piece-small : (f : Block) (j : ℕ) → Small f → j < countOf f → PieceSmall (pieceAt f j)
+  pub piece-small : (f : Block) (j : ℕ) → SmallBlock f → j < countOf f → PieceSmall (pieceAt f j)
   unfolding pieceAt countOf
   piece-small Zero j s h = record { first = omega arith; second = omega arith; third = omega arith; unit = N.le-refl 1 }
   piece-small One j s h = record { first = omega arith; second = omega arith; third = omega arith; unit = N.le-refl 1 }

@@ -19,7 +19,7 @@ use Rattle.polynomials.specs.declared.expansion.Block.the-variants.{Zero
 use Rattle.polynomials.specs.Keys.{timesDigit}
 use Rattle.polynomials.specs.Summands.{Summand}
 use Rattle.polynomials.specs.Memory.{summand}
-use Rattle.polynomials.specs.Expansion.{digitOf, signOf, crossPiece, pieceAt, countOf, blockOf, partBlock, timesPiece, PieceFit, Small}
+use Rattle.polynomials.specs.Expansion.{digitOf, signOf, crossPiece, pieceAt, countOf, blockOf, partBlock, timesPiece, PieceFit, SmallBlock}
 
 -- ════ products
 
@@ -81,11 +81,11 @@ module _ (f : Block) (j : ℕ) where
     few-cross l m i e = subst (λ (g : Block). j < countOf g) e h
 
   -- components are below 3
-  pub small-single : (l i : ℕ) → Small f → f ≡ Single l i → i < 3
-  small-single l i s e = subst Small e s .1
+  pub small-single : (l i : ℕ) → SmallBlock f → f ≡ Single l i → i < 3
+  small-single l i s e = subst SmallBlock e s .1
 
-  pub small-cross : (l m i : ℕ) → Small f → f ≡ Cross l m i → i < 3
-  small-cross l m i s e = subst Small e s .2
+  pub small-cross : (l m i : ℕ) → SmallBlock f → f ≡ Cross l m i → i < 3
+  small-cross l m i s e = subst SmallBlock e s .2
 
 -- ════ polynomials
 

@@ -18,7 +18,7 @@ use Rattle.polynomials.specs.declared.passes.Loaded.{Loaded}
 use Rattle.polynomials.specs.Keys.{rest, exponent, lowest}
 use Rattle.polynomials.specs.Summands.{Summand, size, mass, kept, onto, likeAdded, reduced, substituted, isSome}
 use Rattle.polynomials.specs.Memory.{summand, none}
-use Rattle.polynomials.specs.Passes.{loadedOf, Fit, Kept, Substituted, lesserOf, leastFrom}
+use Rattle.polynomials.specs.Passes.{loadedOf, Substitutable, Kept, Substituted, lesserOf, leastFrom}
 use Rattle.polynomials.proofs.Summands.{kept-null, kept-not, onto-like, onto-apart}
 use Rattle.polynomials.proofs.Digits.{exponent-few}
 
@@ -56,7 +56,7 @@ pub record Passing (d v : ℕ) (ms : List Summand) (front : List Summand) (i key
 
 module _ (d v : ℕ) (ms : List Summand) (n : ℕ) (h : n ≤ length ms) where
   -- the first is read
-  module _ (o : ¬ (n ≡ 0)) (f : Fit d v (take n ms)) where
+  module _ (o : ¬ (n ≡ 0)) (f : Substitutable d v (take n ms)) where
     first-split : take n ms ≡ getD ms 0 none ∷ drop 1 (take n ms)
     first-split = rest-at ms n 0 none h (omega arith)
 

@@ -117,13 +117,13 @@ pub record PieceFit (p : Piece) (m : Summand) : Type 0 where
   pub modest : Modest m
 
 -- the letters are below 24, components below 3
-abbrev pub Small : (f : Block) → Type 0
-Small Zero = Unit {0}
-Small One = Unit {0}
-Small (Single l i) = (l < 24) × (i < 3)
-Small (Dot l m) = (l < 24) × (m < 24)
-Small (Triple l m k) = (l < 24) × (m < 24) × (k < 24)
-Small (Cross l m i) = (l < 24) × (m < 24) × (i < 3)
+abbrev pub SmallBlock : (f : Block) → Type 0
+SmallBlock Zero = Unit {0}
+SmallBlock One = Unit {0}
+SmallBlock (Single l i) = (l < 24) × (i < 3)
+SmallBlock (Dot l m) = (l < 24) × (m < 24)
+SmallBlock (Triple l m k) = (l < 24) × (m < 24) × (k < 24)
+SmallBlock (Cross l m i) = (l < 24) × (m < 24) × (i < 3)
 
 -- n summands can be multiplied by a product, to stand behind or in their own place
 pub record Spreading (from n to : ℕ) (p : Piece) (ms : List Summand) : Type 0 where
@@ -140,7 +140,7 @@ pub record Spread (from n to : ℕ) (p : Piece) (ms ns : List Summand) : Type 0 
 pub record Multiplying (start n : ℕ) (f : Block) (ms : List Summand) : Type 0 where
   pub there : start + n ≤ length ms
   pub room : start + countOf f * n ≤ length ms
-  pub small : Small f
+  pub small : SmallBlock f
   pub modest : All Modest (take n (drop start ms))
 
 -- they are multiplied, and the others stand

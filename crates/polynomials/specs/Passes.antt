@@ -16,7 +16,7 @@ unfoldable pub loadedOf : Loaded → Summand
 loadedOf s = summand (s .key) (s .coef)
 
 -- v can be put for the variable of the digit d: no sum on the way leaves 64 bits
-pub record Fit (d v : ℕ) (ms : List Summand) : Type 0 where
+pub record Substitutable (d v : ℕ) (ms : List Summand) : Type 0 where
   pub digit : 1 ≤ d
   pub number : v ≤ 6
   pub small : mass (map (reduced d v) ms) < 2 ^ 62

@@ -6,7 +6,7 @@ ghost use Rattle.terms.specs.Numbers.{lettersOf};
 ghost use Rattle.terms.specs.Abstraction.{partOf, termOf};
 ghost use Rattle.polynomials.specs.Memory.{none, summands};
 ghost use Rattle.polynomials.specs.Expansion.{digitOf, signOf, crossPiece, pieceAt, countOf, blockOf, partBlock, timesPiece, PieceFit, Spreading};
-ghost use Rattle.polynomials.specs.Expansion.{Spread, Small, Multiplying, Multiplied, Factorable, Factored, Expandable, Expanded, expandTerm};
+ghost use Rattle.polynomials.specs.Expansion.{Spread, SmallBlock, Multiplying, Multiplied, Factorable, Factored, Expandable, Expanded, expandTerm};
 use crate::memory::coef_at;
 use crate::memory::key_at;
 use crate::memory::put;
@@ -67,7 +67,7 @@ fn cross_piece(l: u8, m: u8, i: usize, o: usize, c: u64) -> Piece
 
 // The product number j of a polynomial.
 fn piece_at(f: Block, j: usize) -> Piece
-    requires { ⌜ (j < countOf f) × Small f ⌝ }
+    requires { ⌜ (j < countOf f) × SmallBlock f ⌝ }
     ensures { λ r. ⌜ r ≡ pieceAt f j ⌝ }
 {
     match f {

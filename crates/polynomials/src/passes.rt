@@ -6,7 +6,7 @@ ghost use lib.ListN.{length, getD, take};
 ghost use Rattle.polynomials.specs.Keys.{exponent};
 ghost use Rattle.polynomials.specs.Summands.{reduced, substituted, isSome};
 ghost use Rattle.polynomials.specs.Memory.{none, summands};
-ghost use Rattle.polynomials.specs.Passes.{loadedOf, Fit, Kept, Substituted, lesserOf, leastFrom};
+ghost use Rattle.polynomials.specs.Passes.{loadedOf, Substitutable, Kept, Substituted, lesserOf, leastFrom};
 use crate::memory::coef_at;
 use crate::memory::key_at;
 use crate::memory::put;
@@ -39,7 +39,7 @@ fn reduced_at(work: &[u8], i: usize, d: u64, v: u64) -> Loaded
 
 // Whether a summand is left when v is put for the variable of a digit.
 pub fn leaves(work: &[u8], n: usize, d: u64, v: u64) -> bool
-    requires { ⌜ (n ≤ length (summands (now work))) × Fit d v (take n (summands (now work))) ⌝ }
+    requires { ⌜ (n ≤ length (summands (now work))) × Substitutable d v (take n (summands (now work))) ⌝ }
     ensures { λ r. ⌜ r ≡ isSome (substituted d v (take n (summands (now (work .entry))))) ⌝ }
 {
     if n == 0 {
@@ -80,7 +80,7 @@ fn keep(work: &mut [u8], j: usize, key: u64, coef: i64) -> usize
 
 // Puts v for the variable of a digit in the first n summands and adds like neighbours; so many are left.
 pub fn substitute(work: &mut [u8], n: usize, d: u64, v: u64) -> usize
-    requires { ⌜ (n ≤ length (summands (now work))) × Fit d v (take n (summands (now work))) ⌝ }
+    requires { ⌜ (n ≤ length (summands (now work))) × Substitutable d v (take n (summands (now work))) ⌝ }
     ensures { λ r. ⌜ Substituted d v n r (summands (now (work .entry))) (summands (now (work .exit))) ⌝ }
 {
     if n == 0 {
