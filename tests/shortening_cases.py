@@ -288,8 +288,8 @@ def each_rule():
         right = 6 if rule == 5 else 3
         for letters, m in [(orders[0], "1")] + [(orders[1], m) for m in MULTIPLIERS[rule]]:
             yield TABLE, both(rule, letters, m), f"{right + 1} 0"
-            yield TABLE, side(0, rule, letters, m), "1 1"
             yield TABLE, side(1, rule, letters, m), f"{right} 1"
+        yield TABLE, side(0, rule, orders[1], m), "1 1"
         yield TABLE, joined(side(1, rule, orders[0], "g"), side(1, rule, orders[0], "-2h")), f"{2 * right} 2"
         yield TABLE, joined(both(rule, orders[0], "gg"), side(0, rule, orders[0], "-2gg"), side(1, rule, orders[0], "-2h")), f"{2 * right + 1} 2"
 
@@ -350,8 +350,8 @@ def some_terms():
 
 
 # Two steps that have one term in common: rule, letters, M of each.
-LINKED = [((1, "abcd", "1"), (2, "abcd", "1")), ((3, "abcde", "1"), (3, "bcdae", "1")), ((4, "abcde", "-3g"), (4, "abdce", "-3g")), ((1, "abcd", "g(e.f)"), (3, "abcef", "g*d")),
-          ((3, "abcef", "2*d"), (2, "abcd", "2(e.f)")), ((2, "abcd", "hh(a.f)"), (1, "bcda", "hh(a.f)"))]
+LINKED = [((1, "abcd", "1"), (2, "abcd", "1")), ((3, "abcde", "1"), (3, "bcdae", "1")), ((4, "abcde", "-3g"), (4, "abdce", "-3g")),
+          ((1, "abcd", "g(e.f)"), (3, "abcef", "g*d")), ((3, "abcef", "2*d"), (2, "abcd", "2(e.f)")), ((2, "abcd", "hh(a.f)"), (1, "bcda", "hh(a.f)"))]
 
 
 def linked(first, second):
@@ -372,6 +372,9 @@ def one_makes_another():
             for data in linked(first, second)[::2]:
                 yield TABLE, data, "5 1"
     yield FULL_TABLE, full(linked(*LINKED[1])[1]), "45 9"
+    # rule 1 takes 1 off a coefficient at the limit; then, and not before, the first term alone can be taken out
+    for n in (1, -1):
+        yield TABLE, joined(both(2, "abcd", "1", [-n * LIMIT, n, n * (LIMIT - 1), n * LIMIT]), side(1, 1, "abcd", str(n))), "7 3"
 
 
 def unlike_sizes():
@@ -385,6 +388,16 @@ def unlike_sizes():
                 larger = 3 if i // 4 % 2 == stay else 1
                 terms += [((i + 2) * k * c, pair + f, p) for k, (c, f, p) in [(larger, first), *((1, t) for t in others)]]
             yield FULL_TABLE, sum_of(kind, terms), meant[stay]
+
+
+def among_others():
+    """Of the many steps by rule 5 that take out a term of this form all but one lead to no fewer terms. The same with other letters and signs."""
+    text = ("-2(ade)(bcf)+(a.b)(c.e)(d.f)-(a.b)(c.f)(d.e)+2(a.c)(b.d)(e.f)-2(a.c)(b.e)(d.f)+2(a.c)(b.f)(d.e)-2(a.d)(b.c)(e.f)"
+            "-(a.f)(b.c)(d.e)-(a.f)(b.d)(c.e)+2(a.f)(b.e)(c.d)")
+    for letters in ("abcdef", "fedcba", "bcdefa", "acebdf"):
+        data = scalar(text.translate(str.maketrans("abcdef", letters)))
+        assert len({step[:2] for lot in lots(logs.gathered(forms.read(data))[1]) for _, step, _ in shortening_steps(0, lot)}) == 1
+        yield TABLE, data, "10 8"
 
 
 def quotients():
@@ -547,15 +560,33 @@ def changed_form(chance, *most):
     return table, decisions.changed(data, k, lambda coef: chance.choice((-coef, coef // 2 or 5, 1)))
 
 
+def crowded_form(chance):
+    """Some terms of steps of the same letters, some signs turned, and others beside them, also at the limit: many steps meet such terms, few shorten."""
+    kind, letters = chance.choice(((1, "abcd"), (1, "abcc"), (1, "abcde"), (1, "abcdee"), (0, "abcde"), (0, "aabcd"), (0, "abcdef"), (0, "abcdef")))
+    steps = [difference for difference, *_ in brought_in(kind, logs.numbers(letters))]
+    terms = collections.Counter()
+    for _ in range(chance.randint(1, 3)):
+        difference, coef = list(chance.choice(steps).items()), chance.choice((1, -1, 2, -3))
+        for m, c in chance.sample(difference, chance.randint(2, len(difference))):
+            terms[m] += coef * c * chance.choice((1, 1, 1, 1, -1))
+    monomials = sorted(set(itertools.chain(*steps)))
+    for m in chance.sample(monomials, min(len(monomials), chance.randint(0, 3))):
+        terms[m] += chance.choice((1, -1, 2, 5, LIMIT, -LIMIT))
+    terms = {m: max(-LIMIT, min(LIMIT, c)) for m, c in terms.items() if c}
+    return TABLE, expressions.record(kind, terms)
+
+
 def by_chance():
     chance = random.Random(20261117)
-    for _ in range(22):
+    for _ in range(6):
         yield *random_form(chance), ""
-    for _ in range(14):
+    for _ in range(6):
         yield *changed_form(chance), ""
+    for _ in range(32):
+        yield *crowded_form(chance), ""
 
 
-GROUPS = (lines_to_try, each_rule, equal_letters, every_difference, some_terms, one_makes_another, unlike_sizes, quotients, blocked, nothing_to_do, full_forms,
+GROUPS = (lines_to_try, each_rule, equal_letters, every_difference, some_terms, one_makes_another, unlike_sizes, among_others, quotients, blocked, nothing_to_do, full_forms,
           lengths, tables, shape, letters_of_the_table, order_of_refusals, by_chance)
 
 
