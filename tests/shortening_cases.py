@@ -586,8 +586,8 @@ def by_chance():
         yield *crowded_form(chance), ""
 
 
-GROUPS = (lines_to_try, each_rule, equal_letters, every_difference, some_terms, one_makes_another, unlike_sizes, among_others, quotients, blocked, nothing_to_do, full_forms,
-          lengths, tables, shape, letters_of_the_table, order_of_refusals, by_chance)
+GROUPS = (lines_to_try, each_rule, equal_letters, every_difference, some_terms, one_makes_another, unlike_sizes, among_others, quotients, blocked, nothing_to_do,
+          full_forms, lengths, tables, shape, letters_of_the_table, order_of_refusals, by_chance)
 
 
 # ════ the program
