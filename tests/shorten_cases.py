@@ -17,11 +17,11 @@ import itertools
 import pathlib
 import random
 
-from check_cases import LETTERS, reached, sides
+from check_cases import LETTERS, reached, sides, terms
 from printer_cases import LONGEST, name, refused, text, whole
 from reduction_cases import (
     A, B, C, D, E, F, LIMIT, NOTHING, SMALL, ZERO, Refused, add, constant, demand, dotted, letter, lines_to_try, neg, read, record, record_value, sub,
-    terms_of, times, triple, wedged, work,
+    terms_of, times, total, triple, wedged, work,
 )
 from shortening_cases import VECTORS, letters_of, lots, shorter, terms_of_letters, without
 
@@ -80,6 +80,17 @@ def printed(data):
         return [f"R{refusal.args[0]}"]
 
 
+def expression_of(some):
+    """The sum of terms of vector letters."""
+    def product(coef, factors, part):
+        x = letter(part[0]) if len(part) == 1 else wedged(*map(letter, part))
+        for f in factors:
+            x = times((dotted if len(f) == 2 else triple)(*map(letter, f)), x)
+        return times(constant(coef), x)
+
+    return total([product(*t) for t in some])
+
+
 def of_rules():
     """Both sides of each rule, the right side alone, and both with M before them."""
     multipliers = {
@@ -114,6 +125,10 @@ def inputs():
     # rule 2 first, which makes the term that rule 1 then needs
     _, right = sides(2, range(4))
     yield whole(SMALL, sub(right, add(times(dotted(D, A), wedged(B, C)), times(dotted(D, B), wedged(C, A)))))
+    # four steps, each of which makes the next one possible
+    for text_of_form in ("(a.e)(bde)*c-(a.b)(cde)*e+(a.e)(bcd)*e-(b.d)(ace)*e+(c.e)(abd)*e+(b.c)(e.e)*(a^d)-(b.c)(d.e)*(a^e)-(a.e)(c.e)*(b^d)+(a.e)(c.d)*(b^e)",
+                         "(a.e)(cdf)*b-(b.c)(adf)*e+(b.c)(ade)*f+(b.f)(d.e)*(a^c)-(b.f)(c.e)*(a^d)+(b.c)(d.f)*(a^e)-(b.c)(d.e)*(a^f)+(a.e)(b.d)*(c^f)-(a.f)(b.c)*(d^e)"):
+        yield whole(SIX, expression_of(terms(text_of_form)))
     # a step that would give a coefficient beyond the limit is no step
     left, right = sides(1, range(4))
     yield whole(SMALL, times(constant(LIMIT), add(left, right)))
