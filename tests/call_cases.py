@@ -14,6 +14,7 @@ call in its own way. Here they become numbers returned, with the tests of the ta
 import collections
 import itertools
 import pathlib
+import re
 
 import check_cases as logs
 import decision_cases as decisions
@@ -172,7 +173,27 @@ def audited():
         yield AUDIT, table, data, b"", *lent
 
 
-GROUPS = (values, reductions, logs_to_check, decided, shortened, audited)
+def examples():
+    """The examples of docs/FORMAT.md, whose answers must be those that stand there."""
+    document = (pathlib.Path(__file__).resolve().parent.parent / "docs" / "FORMAT.md").read_text()
+    blocks = [dict(line.split(": ", 1) for line in block.strip().split("\n")) for block in re.findall(r"(?m)^```\n((?:[a-z]+: .*\n)+)```$", document)]
+    assert {key for block in blocks for key in block} == {"table", "expression", "form", "assignment", "value", "log", "answer"}, "an example of each sort"
+    for block in blocks:
+        data = {key: bytes.fromhex(block[key]) for key in block if key not in ("value", "answer")}
+        if "log" in block:
+            case, answer = (CHECK, data["table"], data["log"], b"", 3, 0, 0), block["answer"]
+            number, line = check_answer(*case[1:])
+            assert answer == (f"R{number} {(-int(line.split()[0])) % 256}" if number else f"accepted {line[2:]}"), (answer, line)
+        elif "value" in block:
+            case = (VALUE, data["table"], data["form"], data["assignment"], 3, 0, 0)
+            assert value_answer(*case[1:])[1] == f"0 {block['value']}", block
+        else:
+            case = (REDUCE, data["table"], data["expression"], b"", ROOM, 0, 0)
+            assert reduce_answer(*case[1:])[1].split()[1] == data["form"].hex(), block
+        yield case
+
+
+GROUPS = (values, reductions, logs_to_check, decided, shortened, audited, examples)
 
 
 # ════ the program

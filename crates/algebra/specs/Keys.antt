@@ -79,16 +79,6 @@ unfolding mulKey count
 count-mulKey z [] l = omega arith
 count-mulKey z (x ∷ k) l = omega (arith, count-insVar z x (mulKey k l), count-mulKey z k l)
 
--- and so do the degrees that bound them
-pub mulKey-bounded : (d e : ℕ → ℕ) (low high : ℕ) (k l : Key) → Bounded d low high k → Bounded e low high l
-    → Bounded (λ x. d x + e x) low high (mulKey k l)
-mulKey-bounded d e low high k l a b =
-    record {
-      ascending = mulKey-ascending low low k l (N.le-refl low) (a .ascending) (b .ascending);
-      below = mulKey-below high k l (a .below) (b .below);
-      at-most = λ x. omega (arith, count-mulKey x k l, a .at-most x, b .at-most x);
-    }
-
 -- ════ a key without its leading x
 
 -- how often x stands at the front of the key

@@ -11,13 +11,13 @@ use Rattle.specification.specs.Results.{Result, refused, given}
 use Rattle.specification.specs.Letters.{testTable}
 use Rattle.specification.specs.Terms.{Form}
 use Rattle.specification.specs.Logs.{accepted, checkCall}
-use Rattle.specification.specs.Decision.{Decided, holds}
+use Rattle.specification.specs.Decision.{bufferBytes, workBytes, holds, Decided}
 use Rattle.specification.specs.Decision as D
 use Rattle.specification.specs.Shortening.{shortened, unshortened, shortenTested, ShortenedBy, Shortened}
 use Rattle.specification.specs.Shortening as H
 use Rattle.theory.specs.Records.Positions.{Bytes}
-use Rattle.records.specs.Tested.{testOf}
-use Rattle.records.proofs.LetterTests.{test-passed, test-refused}
+use Rattle.letters.specs.Tested.{testOf}
+use Rattle.letters.proofs.LetterTests.{test-passed, test-refused}
 use Rattle.checker.specs.declared.Checked.{Checked}
 use Rattle.checker.specs.declared.Checked.the-variants.{Accepted, Refused}
 use Rattle.checker.specs.Answers.{checkedOf}
@@ -28,9 +28,8 @@ use Rattle.decision.specs.Answers.{decisionOf}
 use Rattle.shortening.specs.declared.Shortening.{Shortening}
 use Rattle.shortening.specs.declared.Shortening.the-variants as short
 use Rattle.shortening.specs.Answers.{shorteningOf}
-use Rattle.audit.specs.declared.Verdict.{Verdict}
-use Rattle.audit.specs.declared.Verdict.the-variants as verdict
-use Rattle.audit.specs.Auditing.{Said, LogAudited, auditTested, AuditedBy, Audited}
+use Rattle.specification.specs.Auditing.{Verdict, agreed, unaudited, auditTested, AuditedBy, Audited}
+use Rattle.audit.specs.Auditing.{Said, LogAudited}
 
 -- no answer is both
 apart : {m k a b n : ℕ} → Refused m k ≡ Accepted a b n → ⊥
@@ -74,7 +73,7 @@ module _ (table log : List ℕ) (bytes : Bytes log) (steps : ℕ) (buffer work :
       };
     }
       where
-        holding : 72 ≤ length buffer → 55296 ≤ length work → decisionOf d ≡ holds
+        holding : bufferBytes ≤ length buffer → workBytes ≤ length work → decisionOf d ≡ holds
         holding hb hw = accepted-log-holds table log c called bytes a b n e buffer work buffer′ work′ (decisionOf d) hb hw decided
 
 -- the same ends in other words
@@ -116,40 +115,44 @@ module _ (table form out buffer work : List ℕ) where
 
   module _ (n : ℕ) (et : testOf n ≡ testTable table) where
     -- 1
-    pub audit-table : (n ≡ 0 → ⊥) → Audited table form out buffer work (verdict.Refused n) out buffer work
+    pub audit-table : (n ≡ 0 → ⊥) → Audited table form out buffer work (unaudited n) out buffer work
     unfolding AuditedBy auditTested
-    audit-table h = by-tests (refused n) (verdict.Refused n) out buffer work (rw (← et, test-refused n h)) (record { is = refl; outStands = refl; bufferStands = refl; workStands = refl })
+    audit-table h = by-tests (refused n) (unaudited n) out buffer work (rw (← et, test-refused n h)) (record { is = refl; outStands = refl; bufferStands = refl; workStands = refl })
 
     module _ (z : n ≡ 0) where
       good : testTable table ≡ given tt
       good = sym et ∙ test-passed n z
 
       -- 2
-      pub buffer-short : length buffer < 72 → Audited table form out buffer work (verdict.Refused 2) out buffer work
+      pub buffer-short : length buffer < bufferBytes → Audited table form out buffer work (unaudited 2) out buffer work
       unfolding AuditedBy auditTested
-      buffer-short h = by-tests (refused 2) (verdict.Refused 2) out buffer work (rw (good, lt-leb 72 (length buffer) h)) (record { is = refl; outStands = refl; bufferStands = refl; workStands = refl })
+      buffer-short h =
+          by-tests (refused 2) (unaudited 2) out buffer work (rw (good, lt-leb bufferBytes (length buffer) h))
+          (record { is = refl; outStands = refl; bufferStands = refl; workStands = refl })
 
-      module _ (lb : 72 ≤ length buffer) where
-        pub work-short : length work < 55296 → Audited table form out buffer work (verdict.Refused 2) out buffer work
+      module _ (lb : bufferBytes ≤ length buffer) where
+        pub work-short : length work < workBytes → Audited table form out buffer work (unaudited 2) out buffer work
         unfolding AuditedBy auditTested
-        work-short h = by-tests (refused 2) (verdict.Refused 2) out buffer work (rw (good, le-leb 72 (length buffer) lb, lt-leb 55296 (length work) h)) (record { is = refl; outStands = refl; bufferStands = refl; workStands = refl })
+        work-short h =
+            by-tests (refused 2) (unaudited 2) out buffer work (rw (good, le-leb bufferBytes (length buffer) lb, lt-leb workBytes (length work) h))
+            (record { is = refl; outStands = refl; bufferStands = refl; workStands = refl })
 
-        module _ (lw : 55296 ≤ length work) (s : Shortening) (out′ : List ℕ) (w : Shortened table form out (shorteningOf s) out′) where
+        module _ (lw : workBytes ≤ length work) (s : Shortening) (out′ : List ℕ) (w : Shortened table form out (shorteningOf s) out′) where
           tests-are : auditTested table form out buffer work ≡ shortenTested table form out
           unfolding auditTested
-          tests-are = rw (good, le-leb 72 (length buffer) lb, le-leb 55296 (length work) lw)
+          tests-are = rw (good, le-leb bufferBytes (length buffer) lb, le-leb workBytes (length work) lw)
 
           said : (answer : H.Shortening) → shorteningOf s ≡ answer → ShortenedBy (shortenTested table form out) table form out answer out′
           unfolding Shortened
           said answer e = subst (λ (a : H.Shortening). ShortenedBy (shortenTested table form out) table form out a out′) e w
 
           -- shortening's own refusals
-          pub audit-refused : (m : ℕ) → s ≡ short.Refused m → Audited table form out buffer work (verdict.Refused m) out′ buffer work
+          pub audit-refused : (m : ℕ) → s ≡ short.Refused m → Audited table form out buffer work (unaudited m) out′ buffer work
           unfolding shorteningOf ShortenedBy AuditedBy
-          audit-refused m e = by-tests (shortenTested table form out) (verdict.Refused m) out′ buffer work tests-are (go (shortenTested table form out) (said (unshortened m) (ap shorteningOf e)))
+          audit-refused m e = by-tests (shortenTested table form out) (unaudited m) out′ buffer work tests-are (go (shortenTested table form out) (said (unshortened m) (ap shorteningOf e)))
             where
-              go : (t : Result Form) → ShortenedBy t table form out (unshortened m) out′ → AuditedBy t table form out buffer work (verdict.Refused m) out′ buffer work
-              go (refused x) v = record { is = ap verdict.Refused (v .0); outStands = v .1; bufferStands = refl; workStands = refl }
+              go : (t : Result Form) → ShortenedBy t table form out (unshortened m) out′ → AuditedBy t table form out buffer work (unaudited m) out′ buffer work
+              go (refused x) v = record { is = ap unaudited (v .0); outStands = v .1; bufferStands = refl; workStands = refl }
               go (given f) v = absurd v
 
           module _ (size k : ℕ) (e : s ≡ short.Written size k) where
@@ -163,10 +166,12 @@ module _ (table form out buffer work : List ℕ) where
                 go (given f) v = omega (arith, v .fits, v .sameLength)
 
             -- shortening, the checker and the decision agree
-            pub audit-agrees : (r : Bool) (buffer′ work′ : List ℕ) (answer : Verdict) → LogAudited table (take size out′) k buffer work r buffer′ work′ → (r ≡ true → answer ≡ verdict.Agreed size k)
+            pub audit-agrees : (r : Bool) (buffer′ work′ : List ℕ) (answer : Verdict) → LogAudited table (take size out′) k buffer work r buffer′ work′ → (r ≡ true → answer ≡ agreed size k)
                 → Audited table form out buffer work answer out′ buffer′ work′
             unfolding shorteningOf ShortenedBy AuditedBy
-            audit-agrees r buffer′ work′ answer a h = by-tests (shortenTested table form out) answer out′ buffer′ work′ tests-are (go (shortenTested table form out) (said (shortened size k) (ap shorteningOf e)))
+            audit-agrees r buffer′ work′ answer a h =
+                by-tests (shortenTested table form out) answer out′ buffer′ work′ tests-are
+                (go (shortenTested table form out) (said (shortened size k) (ap shorteningOf e)))
               where
                 go : (t : Result Form) → ShortenedBy t table form out (shortened size k) out′ → AuditedBy t table form out buffer work answer out′ buffer′ work′
                 go (refused x) v = absurd v

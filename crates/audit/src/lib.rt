@@ -1,12 +1,16 @@
 // Demand 3 as one function: a form is shortened, the checker is given the log, and the log's ends are decided.
-ghost use Rattle.audit.specs.Auditing.{Said, LogAudited, Audited};
+ghost use Rattle.specification.specs.Auditing.{Audited};
+ghost use Rattle.audit.specs.Answers.{verdictOf};
+ghost use Rattle.audit.specs.Auditing.{Said, LogAudited};
 use checker::Checked;
 use checker::check;
 use checker::first_form;
 use checker::last_form;
+use decision::BUFFER_BYTES;
 use decision::Decision;
+use decision::WORK_BYTES;
 use decision::decide;
-use records::table::check_table;
+use letters::check_table;
 use shortening::Shortening;
 use shortening::shorten;
 
@@ -30,7 +34,7 @@ fn says_holds(d: Decision) -> bool
 }
 
 // Whether the checker accepts a log with so many steps, and the decision of its first and last forms, as parts of the log, holds.
-fn ends_hold(table: &[u8], log: &[u8], steps: usize, buffer: &mut [u8], work: &mut [u8]) -> bool
+pub fn ends_hold(table: &[u8], log: &[u8], steps: usize, buffer: &mut [u8], work: &mut [u8]) -> bool
     ensures { λ r. ⌜ LogAudited (now (table .entry)) (now (log .entry)) steps (now (buffer .entry)) (now (work .entry)) r (now (buffer .exit)) (now (work .exit)) ⌝ }
 {
     let c = check(table, log);
@@ -57,16 +61,16 @@ pub fn audit(
     buffer: &mut [u8],
     work: &mut [u8],
 ) -> Verdict
-    ensures { λ r. ⌜ Audited (now (table .entry)) (now (form .entry)) (now (out .entry)) (now (buffer .entry)) (now (work .entry)) r (now (out .exit)) (now (buffer .exit)) (now (work .exit)) ⌝ }
+    ensures { λ r. ⌜ Audited (now (table .entry)) (now (form .entry)) (now (out .entry)) (now (buffer .entry)) (now (work .entry)) (verdictOf r) (now (out .exit)) (now (buffer .exit)) (now (work .exit)) ⌝ }
 {
     let bad = check_table(table);
     if bad != 0 {
         return Verdict::Refused(bad);
     }
-    if buffer.len() < 72 {
+    if buffer.len() < BUFFER_BYTES {
         return Verdict::Refused(2);
     }
-    if work.len() < 55296 {
+    if work.len() < WORK_BYTES {
         return Verdict::Refused(2);
     }
     let s = shorten(table, form, out);

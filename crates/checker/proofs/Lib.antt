@@ -1,5 +1,4 @@
 -- Lemmas that belong to no one function.
-pub mod StepRecords
 pub mod Replaying
 pub mod CheckedLogs
 pub mod LogParts

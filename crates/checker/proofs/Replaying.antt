@@ -8,12 +8,11 @@ use borrow.Author.Tests.{eq-eqb, ne-eqb}
 use lib.Dec.{isEq}
 use lib.ListN.{length, getD, take, drop, length-map}
 use lib.Seq.{length-take-le}
-use Rattle.specification.specs.Results.{Result, Test, refused, given}
+use Rattle.specification.specs.Results.{Result, refused, given}
 use Rattle.specification.specs.Terms.{compareTerms}
 use Rattle.specification.specs.Terms as S
-use Rattle.specification.specs.Rules.{testStepLetters, takeStep}
-use Rattle.specification.specs.Rules as R
-use Rattle.specification.specs.Logs.{Log, refusedAt, atStep, stepsLetters, replay, sameCoef, sameTerms, sameForm}
+use Rattle.specification.specs.Rules.{takeStep}
+use Rattle.specification.specs.Logs.{Log, atStep, replay, sameCoef, sameTerms, sameForm}
 use Rattle.specification.specs.Logs as L
 use Rattle.theory.specs.Tests.{and-false}
 use Rattle.terms.specs.declared.types.Term.{Term}
@@ -28,12 +27,10 @@ use Rattle.gathering.specs.declared.Sum.{Sum}
 use Rattle.gathering.specs.Sums.{held, sumOf, Standing, SumValid, Holding}
 use Rattle.gathering.specs.Closing.{LimitsTested}
 use Rattle.gathering.proofs.FormTerms.{settled}
-use Rattle.records.specs.Tested.{testOf}
-use Rattle.records.proofs.LetterTests.{test-passed, test-refused}
 use Rattle.rules.specs.declared.steps.Step.{Step}
-use Rattle.rules.specs.Steps.{stepOf}
-use Rattle.checker.specs.Answers.{foundOf, sameTerm}
-use Rattle.checker.proofs.StepRecords.{noStep}
+use Rattle.logs.specs.Steps.{foundOf}
+use Rattle.logs.proofs.StepLetters.{found, stepsFrom, here, one-left, none-left}
+use Rattle.checker.specs.Replaying.{sameTerm}
 
 -- ════ the current form
 
@@ -63,74 +60,31 @@ current-next kind b v l s = record {
   inShape = s;
 }
 
--- ════ refusals found
-
--- a refusal
-pub found : (n k : ℕ) (rest : L.Checked) → (n ≡ 0 → ⊥) → refusedAt n k ≡ foundOf n k rest
-unfolding foundOf
-found n k rest h = rw (ne-eqb n 0 h)
-
--- the first n steps from a place on
-abbrev pub stepsFrom : (q : List Step) (n i : ℕ) → List R.Step
-stepsFrom q n i = map stepOf (drop i (take n q))
+-- ════ steps taken
 
 module _ (q : List Step) (n i : ℕ) (h : n ≤ length q) where
-  -- the one there
-  abbrev here : R.Step
-  here = stepOf (getD q i noStep)
-
-  one-left : i < n → stepsFrom q n i ≡ here ∷ stepsFrom q n (i + 1)
-  one-left g = ap (map stepOf) (rest-at q n i noStep h g)
-
-  none-left : n ≤ i → stepsFrom q n i ≡ []
-  none-left g = ap (map stepOf) (nothing-left q n i h g)
-
-  -- ════ letters
-
-  module _ (table : List ℕ) (k r : ℕ) (e : testOf r ≡ testStepLetters table here) where
-    -- the letters of the step at a place are refused
-    pub step-stops : i < n → (r ≡ 0 → ⊥) → (rest : L.Checked) → stepsLetters table k (stepsFrom q n i) rest ≡ foundOf r k rest
-    unfolding stepsLetters
-    step-stops g z rest =
-        ap (λ (l : List R.Step). stepsLetters table k l rest) (one-left g)
-        ∙ ap (λ (t : Test). atStep k t (λ _. stepsLetters table (k + 1) (stepsFrom q n (i + 1)) rest)) (sym e ∙ test-refused r z)
-        ∙ found r k rest z
-
-    -- or they pass
-    pub step-passes : i < n → r ≡ 0 → (rest : L.Checked) → stepsLetters table k (stepsFrom q n i) rest ≡ stepsLetters table (k + 1) (stepsFrom q n (i + 1)) rest
-    unfolding stepsLetters
-    step-passes g z rest =
-        ap (λ (l : List R.Step). stepsLetters table k l rest) (one-left g)
-        ∙ ap (λ (t : Test). atStep k t (λ _. stepsLetters table (k + 1) (stepsFrom q n (i + 1)) rest)) (sym e ∙ test-passed r z)
-
-  -- all passed
-  pub steps-pass : n ≤ i → (table : List ℕ) (k : ℕ) (rest : L.Checked) → stepsLetters table k (stepsFrom q n i) rest ≡ rest
-  unfolding stepsLetters
-  steps-pass g table k rest = ap (λ (l : List R.Step). stepsLetters table k l rest) (none-left g)
-
-  -- ════ the replay
-
   module _ (current : S.Form) (k : ℕ) (log : Log) where
     -- the step at a place is refused
-    pub step-fails : (r : ℕ) (rest : L.Checked) → i < n → (r ≡ 0 → ⊥) → takeStep current here ≡ refused r → replay log k current (stepsFrom q n i) ≡ foundOf r k rest
+    pub step-fails : (r : ℕ) (rest : L.Checked) → i < n → (r ≡ 0 → ⊥) → takeStep current (here q n i h) ≡ refused r → replay log k current (stepsFrom q n i) ≡ foundOf r k rest
     unfolding replay
-    step-fails r rest g h e =
-        ap (replay log k current) (one-left g) ∙ ap (λ (x : Result S.Form). atStep k x (λ f. replay log (k + 1) f (stepsFrom q n (i + 1)))) e ∙ found r k rest h
+    step-fails r rest g z e =
+        ap (replay log k current) (one-left q n i h g) ∙ ap (λ (x : Result S.Form). atStep k x (λ f. replay log (k + 1) f (stepsFrom q n (i + 1)))) e ∙ found r k rest z
 
     -- or it reaches a form
-    pub step-reaches : (f : S.Form) → i < n → takeStep current here ≡ given f → replay log k current (stepsFrom q n i) ≡ replay log (k + 1) f (stepsFrom q n (i + 1))
+    pub step-reaches : (f : S.Form) → i < n → takeStep current (here q n i h) ≡ given f → replay log k current (stepsFrom q n i) ≡ replay log (k + 1) f (stepsFrom q n (i + 1))
     unfolding replay
     step-reaches f g e =
-        ap (replay log k current) (one-left g) ∙ ap (λ (x : Result S.Form). atStep k x (λ f. replay log (k + 1) f (stepsFrom q n (i + 1)))) e
+        ap (replay log k current) (one-left q n i h g) ∙ ap (λ (x : Result S.Form). atStep k x (λ f. replay log (k + 1) f (stepsFrom q n (i + 1)))) e
 
   -- all steps are taken
   pub all-taken : n ≤ i → (log : Log) (k : ℕ) (f : S.Form) → replay log k f (stepsFrom q n i) ≡ replay log k f []
-  all-taken g log k f = ap (replay log k f) (none-left g)
+  all-taken g log k f = ap (replay log k f) (none-left q n i h g)
 
 -- ════ one form
 
 -- terms are the same where coefficient and order say so
-pub term-same : (t u : Term) (b : Bool) (o : Order) → b ≡ sameCoef (t .coef) (u .coef) → b ≡ true → orderingOf o ≡ compareTerms (termOf t) (termOf u) → isEq (orderingOf o) ≡ sameTerm (termOf t) (termOf u)
+pub term-same : (t u : Term) (b : Bool) (o : Order) → b ≡ sameCoef (t .coef) (u .coef) → b ≡ true → orderingOf o ≡ compareTerms (termOf t) (termOf u)
+    → isEq (orderingOf o) ≡ sameTerm (termOf t) (termOf u)
 unfolding sameTerm termOf
 term-same t u b o e z p = λ i. (sym z ∙ e) i && isEq (p i)
 

@@ -1,3 +1,3 @@
 -- What the contracts cite.
-pub mod Reading
 pub mod Answers
+pub mod Replaying

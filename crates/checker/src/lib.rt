@@ -5,14 +5,12 @@ ghost use Rattle.specification.specs.Logs.{checkCall};
 ghost use Rattle.checker.specs.Answers.{checkedOf};
 use crate::replay::replay;
 use crate::replay::same_form;
-use crate::steps::read_steps;
-use crate::steps::test_steps;
-use records::table::check_table;
-use records::table::test_terms;
-use records::take::read_form_at;
+use letters::check_table;
+use letters::test_terms;
+use logs::reading::read_log;
+use logs::steps::test_steps;
 
 pub mod replay;
-pub mod steps;
 
 // The checker's answer: accepted, with where the first form ends, where the last begins and the number of steps; or refused with number and step.
 pub enum Checked {
@@ -28,32 +26,15 @@ pub fn check(table: &[u8], log: &[u8]) -> Checked
     if bad != 0 {
         return Checked::Refused(bad, 0);
     }
-    let first = read_form_at(log, 0);
-    let a = first.next;
-    if !first.ok {
+    let q = read_log(log);
+    if !q.ok {
         return Checked::Refused(11, 0);
     }
-    if a >= log.len() {
-        return Checked::Refused(11, 0);
-    }
-    let n = log[a] as usize;
-    if n > 64 {
-        return Checked::Refused(11, 0);
-    }
+    let f = q.first;
+    let steps = q.steps;
+    let g = q.last;
+    let n = steps.count;
     let behind = (n + 1) as u8;
-    let steps = read_steps(log, a + 1, n);
-    let b = steps.next;
-    if !steps.ok {
-        return Checked::Refused(11, 0);
-    }
-    let last = read_form_at(log, b);
-    if !last.ok {
-        return Checked::Refused(11, 0);
-    }
-    if last.next != log.len() {
-        return Checked::Refused(11, 0);
-    }
-    let f = first.form;
     let at_first = test_terms(table, f);
     if at_first != 0 {
         return Checked::Refused(at_first, 0);
@@ -62,7 +43,6 @@ pub fn check(table: &[u8], log: &[u8]) -> Checked
     if found.number != 0 {
         return Checked::Refused(found.number, found.step);
     }
-    let g = last.form;
     let at_last = test_terms(table, g);
     if at_last != 0 {
         return Checked::Refused(at_last, behind);
@@ -75,7 +55,7 @@ pub fn check(table: &[u8], log: &[u8]) -> Checked
     if !same_form(g, h) {
         return Checked::Refused(13, behind);
     }
-    Checked::Accepted(a, b, n)
+    Checked::Accepted(q.first_end, q.last_start, n)
 }
 
 // The first form of an accepted log as a part of it, by where it ends; the whole log where that is past its end.

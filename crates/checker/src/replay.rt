@@ -1,23 +1,20 @@
 // The replay: the steps taken in their order from the first form, and two forms compared.
 ghost use mathlib.Core.Path.{_≡_};
-ghost use Prim.Native.Nat.{_≤_};
-ghost use lib.ListN.{take};
 ghost use Rattle.specification.specs.Logs.{sameForm};
-ghost use Rattle.theory.specs.Elements.{All};
 ghost use Rattle.terms.specs.Abstraction.{termOf, formOf, Counted};
 ghost use Rattle.terms.specs.Valid.{FormValid};
-ghost use Rattle.rules.specs.Steps.{StepValid};
-ghost use Rattle.checker.specs.Answers.{sameTerm, ReplayedAs};
-use crate::steps::Steps;
+ghost use Rattle.logs.specs.Steps.{StepsValid};
+ghost use Rattle.checker.specs.Replaying.{sameTerm, ReplayedAs};
 use gathering::bring_all;
 use gathering::close;
 use gathering::holding;
 use gathering::test_limits;
 use integers::equal;
+use logs::steps::Steps;
 use rules::steps::step_terms;
 use rules::steps::test_step;
-use terms::order::Order;
 use terms::order::compare;
+use terms::order::is_equal;
 use terms::types::Form;
 use terms::types::Term;
 
@@ -30,7 +27,7 @@ pub struct Replayed {
 
 // The steps taken in their order from a form. The sum that stands for the current form is kept from step to step, so that each step costs its own terms alone.
 pub fn replay(f: Form, q: Steps) -> Replayed
-    requires { ⌜ FormValid f × (q .count ≤ 64) × All StepValid (take (q .count) (q .steps)) ⌝ }
+    requires { ⌜ FormValid f × StepsValid q ⌝ }
     ensures { λ r. ⌜ ReplayedAs f q r ⌝ }
 {
     let kind = f.kind;
@@ -80,12 +77,7 @@ fn same_term(t: Term, u: Term) -> bool
     if !equal(t.coef, u.coef) {
         return false;
     }
-    let o = compare(t, u);
-    match o {
-        Order::Less => false,
-        Order::Equal => true,
-        Order::Greater => false,
-    }
+    is_equal(compare(t, u))
 }
 
 // Whether two forms are the same.

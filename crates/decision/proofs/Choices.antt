@@ -14,6 +14,7 @@ use lib.IntN as I
 use lib.Pow.{pow-add}
 use lib.ListN.{length, getD, take, drop, set, length-set}
 use lib.Seq.{getD-set-same, getD-set-other, drop-set-lt}
+use Rattle.specification.specs.Decision.{bufferBytes}
 use Rattle.algebra.specs.Integers.{NonZero}
 use Rattle.algebra.specs.Integers as R
 use Rattle.algebra.specs.Numbers.{below-more}
@@ -21,13 +22,11 @@ use Rattle.specification.specs.Results.{if_then_else_}
 use Rattle.specification.specs.Letters.{vector, kindOf}
 use Rattle.theory.specs.Elements.{All, all-implies, both-all}
 use Rattle.polynomials.specs.Keys.{digitValue, keyValue, rest, exponent, lowest, Ordered, tally}
-use Rattle.polynomials.specs.Summands.{Summand, weigh, total, reduced, substituted, isSome, Rising}
+use Rattle.polynomials.specs.Summands.{Summand, weigh, total, putFor, substituted, isSome, Rising}
 use Rattle.polynomials.specs.Passes.{Substitutable, Substituted, lesserOf, leastFrom}
-use Rattle.decision.specs.Elimination.{mostOf, limitOf, vectorDigit, scalarDigit, strangeDigit, Has, weight, Polynomial, FirstNumber, Eliminable}
-use Rattle.decision.specs.Elimination.{Eliminated}
+use Rattle.decision.specs.Elimination.{mostOf, limitOf, vectorDigit, scalarDigit, strangeDigit, Has, weight, Polynomial, FirstNumber, Eliminable, Eliminated}
 use Rattle.polynomials.proofs.Keys.{value-zero, rest-tally, rest-ordered}
-use Rattle.polynomials.proofs.Summands.{substituted-value, like-size, reduced-size, mass-size, AllOrdered, substituted-rising, substituted-ordered}
-use Rattle.polynomials.proofs.Summands.{substituted-keys}
+use Rattle.polynomials.proofs.Summands.{substituted-value, like-size, reduced-size, mass-size, AllOrdered, substituted-rising, substituted-ordered, substituted-keys}
 use Rattle.decision.proofs.Survival.{survives}
 
 -- ════ the variables of a table
@@ -408,7 +407,7 @@ module _ (table : List ℕ) (ms rs : List Summand) (d : ℕ) (b₀ b : List ℕ)
           record {
             digit = some;
             number = N.le-trans l most-six;
-            small = omega (arith, mass-size (weight table) (weight-some table) (map (reduced d v) rs), reduced-size (weight table) d v (weights v l) rs, w .polynomial .small);
+            small = omega (arith, mass-size (weight table) (weight-some table) (map (putFor d v) rs), reduced-size (weight table) d v (weights v l) rs, w .polynomial .small);
           }
 
       exponents : All (λ (t : Summand). exponent 8 d (t .key) ≤ m) rs
@@ -442,10 +441,10 @@ module _ (table : List ℕ) (ms rs : List Summand) (d : ℕ) (b₀ b : List ℕ)
               rising = substituted-rising d v some rs ordered-d (w .polynomial .rising);
               some = survived;
               has = has-next;
-              small = omega (arith, like-size (weight table) (map (reduced d v) rs), reduced-size (weight table) d v (weights v (f .few)) rs, w .polynomial .small);
+              small = omega (arith, like-size (weight table) (map (putFor d v) rs), reduced-size (weight table) d v (weights v (f .few)) rs, w .polynomial .small);
             }
 
-        module _ (room : 72 ≤ length b₀) (letters : length table ≤ 24) where
+        module _ (room : bufferBytes ≤ length b₀) (letters : length table ≤ 24) where
           -- it has a place in the buffer
           pub byte-there : d - 1 < length b
           byte-there = omega (arith, w .same, known .0)

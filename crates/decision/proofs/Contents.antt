@@ -24,7 +24,7 @@ use Rattle.polynomials.specs.declared.expansion.Piece.{Piece}
 use Rattle.polynomials.specs.declared.expansion.Block.the-variants.{Zero, One}
 use Rattle.polynomials.specs.Keys.{digitValue, keyValue, timesDigit, Ordered, tally}
 use Rattle.polynomials.specs.Summands.{Summand, weigh, total}
-use Rattle.polynomials.specs.Expansion.{digitOf, signOf, plus, crossPiece, pieceAt, countOf, pieces, blockOf, partBlock, timesPiece, timesPieces}
+use Rattle.polynomials.specs.Expansion.{digitOf, pieceSign, plus, crossPiece, pieceAt, countOf, pieces, blockOf, partBlock, timesPiece, timesPieces}
 use Rattle.decision.specs.Elimination.{vectorDigit, scalarDigit, strangeDigit, Has}
 use Rattle.polynomials.proofs.Keys.{times-value, times-ordered, times-tally, from-tally}
 use Rattle.polynomials.proofs.Summands.{weigh-append}
@@ -230,7 +230,7 @@ module _ (table : List ℕ) where
     cross-has : (v₃ l m i o c : ℕ) → Known table vector l → Known table vector m → Digit v₃ 0 c → PieceHas (2 + v₃) 0 (crossPiece l m i o c)
     unfolding crossPiece
     cross-has v₃ l m i o c p q r =
-        piece-has 1 0 1 0 v₃ 0 (digitOf l ((i + 1 + o) % 3)) (digitOf m ((i + 2 + 2 * o) % 3)) c (signOf o)
+        piece-has 1 0 1 0 v₃ 0 (digitOf l ((i + 1 + o) % 3)) (digitOf m ((i + 2 + 2 * o) % 3)) c (pieceSign o)
         (vector-digit l ((i + 1 + o) % 3) p (omega arith)) (vector-digit m ((i + 2 + 2 * o) % 3) q (omega arith)) r
 
     -- the products of a factor have its letters

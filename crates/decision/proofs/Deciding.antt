@@ -8,25 +8,24 @@ use Rattle.specification.specs.Results.{Result, refused, given}
 use Rattle.specification.specs.Letters.{testTable}
 use Rattle.specification.specs.Terms as S
 use Rattle.specification.specs.Records.{readForm, testTerms}
-use Rattle.specification.specs.Decision.{undecided, takeTwoForms, decideTested, DecidedBy}
+use Rattle.specification.specs.Decision.{undecided, takeTwoForms, decideTested, DecidedBy, bufferBytes, workBytes}
 use Rattle.specification.specs.Decision as D
 use Rattle.theory.specs.Shape.Letters.{table-good, good-short}
 use Rattle.terms.specs.declared.types.Form.{Form}
-use Rattle.terms.specs.Abstraction.{formOf}
-use Rattle.records.specs.declared.take.Taken.{Taken}
-use Rattle.records.specs.Reading.{takenOf}
-use Rattle.records.specs.Tested.{testOf}
-use Rattle.records.proofs.LetterTests.{test-passed, test-refused}
-use Rattle.decision.specs.Taking.{WholeRead}
-use Rattle.decision.specs.Answers.{Decidable}
+use Rattle.terms.specs.declared.types.Outcome.{Outcome}
+use Rattle.terms.specs.Abstraction.{formOf, outcomeOf}
+use Rattle.letters.specs.Tested.{testOf}
+use Rattle.letters.proofs.LetterTests.{test-passed, test-refused}
+use Rattle.forms.specs.Reading.{WholeRead}
+use Rattle.decision.specs.Settling.{Decidable}
 
 -- a form that is read, or refused with its number
-form-passed : (r : Taken) (f : Result S.Form) → takenOf r ≡ f → r .refusal ≡ 0 → f ≡ given (formOf (r .form))
-unfolding takenOf
+form-passed : (r : Outcome) (f : Result S.Form) → outcomeOf r ≡ f → r .refusal ≡ 0 → f ≡ given (formOf (r .form))
+unfolding outcomeOf
 form-passed r f e z = sym e ∙ rw (eq-eqb (r .refusal) 0 z)
 
-form-refused : (r : Taken) (f : Result S.Form) → takenOf r ≡ f → ¬ (r .refusal ≡ 0) → f ≡ refused (r .refusal)
-unfolding takenOf
+form-refused : (r : Outcome) (f : Result S.Form) → outcomeOf r ≡ f → ¬ (r .refusal ≡ 0) → f ≡ refused (r .refusal)
+unfolding outcomeOf
 form-refused r f e z = sym e ∙ rw (ne-eqb (r .refusal) 0 z)
 
 -- a refusal: everything stands
@@ -45,28 +44,28 @@ module _ (table s t b w : List ℕ) (n : ℕ) (e : testOf n ≡ testTable table)
     table-passed = sym e ∙ test-passed n z
 
     -- 2: the buffer
-    pub buffer-refused : length b < 72 → DecidedBy (decideTested table s t b w) table b w (undecided 2) b w
+    pub buffer-refused : length b < bufferBytes → DecidedBy (decideTested table s t b w) table b w (undecided 2) b w
     unfolding decideTested
-    buffer-refused h = refused-so (decideTested table s t b w) 2 table b w (rw (table-passed, lt-leb 72 (length b) h))
+    buffer-refused h = refused-so (decideTested table s t b w) 2 table b w (rw (table-passed, lt-leb bufferBytes (length b) h))
 
-    module _ (lb : 72 ≤ length b) where
+    module _ (lb : bufferBytes ≤ length b) where
       -- 2: the work bytes
-      pub work-refused : length w < 55296 → DecidedBy (decideTested table s t b w) table b w (undecided 2) b w
+      pub work-refused : length w < workBytes → DecidedBy (decideTested table s t b w) table b w (undecided 2) b w
       unfolding decideTested
-      work-refused h = refused-so (decideTested table s t b w) 2 table b w (rw (table-passed, le-leb 72 (length b) lb, lt-leb 55296 (length w) h))
+      work-refused h = refused-so (decideTested table s t b w) 2 table b w (rw (table-passed, le-leb bufferBytes (length b) lb, lt-leb workBytes (length w) h))
 
-      module _ (lw : 55296 ≤ length w) where
+      module _ (lw : workBytes ≤ length w) where
         lengths-passed : decideTested table s t b w ≡ takeTwoForms table s t
         unfolding decideTested
-        lengths-passed = rw (table-passed, le-leb 72 (length b) lb, le-leb 55296 (length w) lw)
+        lengths-passed = rw (table-passed, le-leb bufferBytes (length b) lb, le-leb workBytes (length w) lw)
 
-        module _ (p : Taken) (ep : WholeRead (readForm s) p) where
+        module _ (p : Outcome) (ep : WholeRead (readForm s) p) where
           -- 11: the first form
           pub first-refused : ¬ (p .refusal ≡ 0) → DecidedBy (decideTested table s t b w) table b w (undecided (p .refusal)) b w
           unfolding takeTwoForms
           first-refused h = refused-so (decideTested table s t b w) (p .refusal) table b w (lengths-passed ∙ rw (form-refused p (readForm s) (ep .is) h))
 
-          module _ (zp : p .refusal ≡ 0) (q : Taken) (eq : WholeRead (readForm t) q) where
+          module _ (zp : p .refusal ≡ 0) (q : Outcome) (eq : WholeRead (readForm t) q) where
             first-passed : readForm s ≡ given (formOf (p .form))
             first-passed = form-passed p (readForm s) (ep .is) zp
 

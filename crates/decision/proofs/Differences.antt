@@ -21,11 +21,11 @@ use Rattle.terms.specs.Abstraction.{termOf, formOf}
 use Rattle.terms.specs.Valid.{TermValid, FormValid}
 use Rattle.terms.proofs.Arrays.{noTerm, all-at, mapped-behind}
 use Rattle.records.proofs.Factors.{joined-append}
-use Rattle.records.proofs.Forms.{term-at}
+use Rattle.forms.proofs.Forms.{term-at}
 use Rattle.polynomials.specs.Keys.{exponent}
-use Rattle.polynomials.specs.Summands.{Summand, size, mass, reduced, substituted, Weakly}
+use Rattle.polynomials.specs.Summands.{Summand, size, mass, putFor, substituted, Weakly}
 use Rattle.polynomials.specs.Passes.{Substitutable, Substituted}
-use Rattle.polynomials.specs.Sorting.{Reordered, SortedTo}
+use Rattle.polynomials.specs.Sorting.{Rearranged, SortedTo}
 use Rattle.polynomials.specs.Expansion.{Modest, expandTerm, Expandable, Expanded}
 use Rattle.decision.specs.Differences.{expandTerms, TermBelow, FormExpandable, difference, Comparable, Compared}
 use Rattle.polynomials.proofs.Expansions.{term-few, term-modest}
@@ -143,8 +143,8 @@ pub in-shape : (f : Form) → FormValid f → All (λ (t : S.Term). T (S.termInS
 in-shape f v = all-T S.termInShape (formOf f .terms) (v .inShape .terms)
 
 -- with 1 put for a variable no coefficient changes
-mass-one : (d : ℕ) (ms : List Summand) → All Modest ms → mass (map (reduced d 1) ms) ≤ length ms * 2147483647
-unfolding size reduced
+mass-one : (d : ℕ) (ms : List Summand) → All Modest ms → mass (map (putFor d 1) ms) ≤ length ms * 2147483647
+unfolding size putFor
 mass-one d [] h = omega arith
 mass-one d (m ∷ ms) h =
     omega (arith, mass-one d ms (h .1), natAbs-*ℤ (m .coef) (pos (1 ^ exponent 8 d (m .key))), ap (λ (x : ℕ). natAbs (m .coef) * x) (power-one (exponent 8 d (m .key))), h .0)
@@ -228,7 +228,7 @@ module _ (f g : Form) (i : ℕ) (ms : List Summand) (w : Comparable f g i ms) wh
               before = os;
               sorted = ps;
               expanded = ap (λ (k : ℕ). take k os) (sym counts) ∙ both;
-              reordered = subst (λ (k : ℕ). Reordered k os ps) counts (s .reordered);
+              reordered = subst (λ (k : ℕ). Rearranged k os ps) counts (s .reordered);
               ascending = subst (λ (k : ℕ). Weakly 0 (take k ps)) counts (s .ascending);
               is = u .is ∙ ap (λ (k : ℕ). substituted 255 1 (take k ps)) counts;
               few = omega (arith, u .few, counts);

@@ -25,7 +25,7 @@ use Rattle.theory.specs.Shape.Letters.{FactorKnown, MonomialKnown}
 use Rattle.polynomials.specs.Keys.{digitValue, keyValue, Ordered, tally}
 use Rattle.polynomials.specs.Summands.{Summand, weigh, total}
 use Rattle.polynomials.specs.Memory.{summand}
-use Rattle.polynomials.specs.Expansion.{digitOf, signOf, crossPiece, pieceAt, countOf, pieces, blockOf, partBlock, timesBlock, timesFactors, expandTerm}
+use Rattle.polynomials.specs.Expansion.{digitOf, pieceSign, crossPiece, pieceAt, countOf, pieces, blockOf, partBlock, timesBlock, timesFactors, expandTerm}
 use Rattle.decision.specs.Differences.{expandTerms, difference}
 use Rattle.decision.specs.Elimination.{vectorDigit, scalarDigit, strangeDigit, Has}
 use Rattle.decision.specs.Values.{component, variables}
@@ -154,7 +154,7 @@ module _ (table : List ℕ) (τ : ℕ → Vec) where
   zero-value = refl
 
   factor-value : (f : List ℕ) → OneToThree f → piecesValue table σ (pieces (blockOf f)) ≡ factorValue τ f
-  unfolding pieces blockOf countOf pieceAt crossPiece signOf factorValue component
+  unfolding pieces blockOf countOf pieceAt crossPiece pieceSign factorValue component
   factor-value [] o = absurd (omega (arith, o .0))
   factor-value (a ∷ []) o = rw (zero-value, digit-value a 0 (omega arith)) (single-sum (τ a .x))
   factor-value (a ∷ b ∷ []) o =
@@ -184,7 +184,7 @@ module _ (table : List ℕ) (τ : ℕ → Vec) where
   factor-value (a ∷ b ∷ c ∷ d ∷ f) o = absurd (omega (arith, o .1))
 
   part-value : (i : ℕ) (p : List ℕ) → i < 3 → length p ≤ 2 → piecesValue table σ (pieces (partBlock i p)) ≡ component i (partValue τ p)
-  unfolding pieces partBlock countOf pieceAt crossPiece signOf partValue component
+  unfolding pieces partBlock countOf pieceAt crossPiece pieceSign partValue component
   part-value i (a ∷ b ∷ c ∷ p) h o = absurd (omega arith)
   part-value zero [] h o = rw zero-value
   part-value (suc zero) [] h o = refl

@@ -12,7 +12,7 @@ use Rattle.algebra.specs.Integers as R
 use Rattle.algebra.specs.Numbers.{power-one}
 use Rattle.theory.specs.Elements.{All}
 use Rattle.polynomials.specs.Keys.{rest, exponent, tally, keyValue}
-use Rattle.polynomials.specs.Summands.{Summand, total, size, likeAdded, reduced, substituted, isSome, Rising}
+use Rattle.polynomials.specs.Summands.{Summand, total, size, likeAdded, putFor, substituted, isSome, Rising}
 use Rattle.polynomials.specs.Memory.{summand}
 use Rattle.polynomials.specs.Expansion.{Modest}
 use Rattle.decision.specs.Differences.{Compared}
@@ -38,8 +38,8 @@ module _ (table : List ℕ) (short : length table ≤ 24) where
       go (same p e) ih = absurd (omega (arith, h, ap (strangeDigit table) e, strange-255))
       go (other p e) ih = rest-other n 255 k p e
 
-  reduced-plain : (ms : List Summand) → AllHas table 6 2 ms → map (reduced 255 1) ms ≡ ms
-  unfolding reduced
+  reduced-plain : (ms : List Summand) → AllHas table 6 2 ms → map (putFor 255 1) ms ≡ ms
+  unfolding putFor
   reduced-plain [] a = refl
   reduced-plain (m ∷ ms) a =
       ap₂ (λ (x : Summand) (l : List Summand). x ∷ l)

@@ -6,6 +6,5 @@ pub mod Contents
 pub mod ExpandedValues
 pub mod Gathered
 pub mod Settling
-pub mod Reading
 pub mod Deciding
 pub mod Told

@@ -33,7 +33,7 @@ use Rattle.polynomials.specs.Expansion.{LettersBelow}
 use Rattle.decision.specs.Differences.{TermBelow, difference, Comparable, Compared}
 use Rattle.decision.specs.Elimination.{limitOf, Eliminable, Eliminated}
 use Rattle.decision.specs.Values.{component, variables}
-use Rattle.decision.specs.Answers.{Decidable}
+use Rattle.decision.specs.Settling.{Decidable}
 use Rattle.polynomials.proofs.Bytes.{length-summands}
 use Rattle.decision.proofs.Contents.{AllHas}
 use Rattle.decision.proofs.ExpandedValues.{component-zero, component-plus, Sound, difference-value}

@@ -15,8 +15,9 @@ use Rattle.specification.specs.Values.{Vec}
 use Rattle.specification.specs.Terms.{Form}
 use Rattle.specification.specs.Records.{readForm, testTerms, takeForm}
 use Rattle.specification.specs.Evaluation.{value, assignment, valueCall}
-use Rattle.specification.specs.Decision.{takeTwoForms, decideTested, letterInRange, DecidedBy, Decided}
+use Rattle.specification.specs.Decision.{takeTwoForms, decideTested, letterInRange, DecidedBy, Decided, bufferBytes, workBytes}
 use Rattle.specification.specs.Decision as D
+use Rattle.specification.specs.Promises.{ValuesDiffer, DecisionPromise}
 use Rattle.theory.specs.Tests.{and-split, given-same, required, tested, past, into}
 use Rattle.theory.specs.Shape.Letters.{table-good, good-short}
 use Rattle.theory.specs.Values.Assignments.{value-given}
@@ -55,7 +56,7 @@ module _ (table s t buffer work : List ℕ) (answer : D.Decision) (buffer′ wor
 -- the decision took the table, the buffer and the two forms
 record BothTaken (table s t buffer : List ℕ) (forms : Form × Form) : Type 0 where
   tableTested : testTable table ≡ given tt
-  room : 72 ≤ length buffer
+  room : bufferBytes ≤ length buffer
   firstTaken : takeForm table s ≡ given (forms .0)
   secondTaken : takeForm table t ≡ given (forms .1)
   firstLetters : testTerms table (forms .0 .terms) ≡ given tt
@@ -65,7 +66,7 @@ both-taken : (table s t buffer work : List ℕ) (forms : Form × Form) → decid
 unfolding decideTested takeTwoForms takeForm
 both-taken table s t buffer work forms e =
     let first = tested (testTable table) _ forms e in
-    past (leb 72 (length buffer) && leb 55296 (length work)) 2 _ forms (first .1) (λ rooms e₁.
+    past (leb bufferBytes (length buffer) && leb workBytes (length work)) 2 _ forms (first .1) (λ rooms e₁.
     into (readForm s) _ forms e₁ (λ f f-read e₂.
     into (readForm t) _ forms e₂ (λ g g-read e₃.
     let f-tested = tested (testTerms table (f .terms)) _ forms e₃ in
@@ -74,20 +75,12 @@ both-taken table s t buffer work forms e =
     subst (BothTaken table s t buffer) (given-same (kinds .1))
     (record {
       tableTested = first .0;
-      room = leb→le 72 (length buffer) (and-split (leb 72 (length buffer)) (leb 55296 (length work)) rooms .0);
+      room = leb→le bufferBytes (length buffer) (and-split (leb bufferBytes (length buffer)) (leb workBytes (length work)) rooms .0);
       firstTaken = rw (f-read, f-tested .0);
       secondTaken = rw (g-read, g-tested .0);
       firstLetters = f-tested .0;
       secondLetters = g-tested .0;
     }))))
-
--- the value call refuses neither form, and what it gives for the two is different
-pub record ValuesDiffer (table s t bytes : List ℕ) : Type 0 where
-  pub first : Vec
-  pub second : Vec
-  pub firstGiven : valueCall table s bytes ≡ given first
-  pub secondGiven : valueCall table t bytes ≡ given second
-  pub different : ¬ (first ≡ second)
 
 -- where the decision says that two forms differ, the value call on the bytes handed over gives different numbers
 pub differs-values : (table s t buffer work : List ℕ) (answer : D.Decision) (buffer′ work′ : List ℕ) → Decided table s t buffer work answer buffer′ work′
@@ -108,3 +101,12 @@ differs-values table s t buffer work answer buffer′ work′ contract e =
           secondGiven = value-given table buffer′ long (w .inRange) t (forms .1) (k .tableTested) (k .secondTaken) (k .secondLetters);
           different = w .unequal;
         }
+
+-- what is promised of the answer
+pub decision-promise : (table s t buffer work : List ℕ) (answer : D.Decision) (buffer′ work′ : List ℕ) → Decided table s t buffer work answer buffer′ work′
+    → DecisionPromise table s t buffer work answer buffer′
+decision-promise table s t buffer work answer buffer′ work′ contract = record {
+  holdsOnly = λ f g taken. holds-equal table s t buffer work answer buffer′ work′ f g taken contract;
+  holdsAlways = λ f g taken. equal-holds table s t buffer work answer buffer′ work′ f g taken contract;
+  tellsApart = differs-values table s t buffer work answer buffer′ work′ contract;
+}

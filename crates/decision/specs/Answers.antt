@@ -1,15 +1,5 @@
--- The answer of the decision, and what holds of it for two forms that passed every test. Assumes nothing.
-use mathlib.Core.Path.{_≡_}
-use mathlib.Core.List.{List}
-use Prim.Native.Nat.{ℕ, _≤_}
-use lib.ListN.{length}
-use Rattle.specification.specs.Results.{given}
-use Rattle.specification.specs.Records.{testTerms}
+-- The answer of the decision: document 01's number and value for each case. Assumes nothing.
 use Rattle.specification.specs.Decision as S
-use Rattle.specification.specs.Decision.{DecidedBy}
-use Rattle.terms.specs.declared.types.Form.{Form}
-use Rattle.terms.specs.Abstraction.{formOf}
-use Rattle.terms.specs.Valid.{FormValid}
 use Rattle.decision.specs.declared.Decision.{Decision}
 use Rattle.decision.specs.declared.Decision.the-variants.{Holds, Differs, Refused}
 
@@ -18,18 +8,3 @@ unfoldable pub decisionOf : Decision → S.Decision
 decisionOf Holds = S.holds
 decisionOf Differs = S.differs
 decisionOf (Refused n) = S.undecided n
-
--- two forms passed every test
-pub record Decidable (table : List ℕ) (f g : Form) (buffer work : List ℕ) : Type 0 where
-  pub letters : length table ≤ 24
-  pub room : 72 ≤ length buffer
-  pub workRoom : 55296 ≤ length work
-  pub validFirst : FormValid f
-  pub validSecond : FormValid g
-  pub testedFirst : testTerms table (formOf f .terms) ≡ given tt
-  pub testedSecond : testTerms table (formOf g .terms) ≡ given tt
-  pub kinds : f .kind ≡ g .kind
-
--- what holds then of the answer and of the bytes lent
-abbrev pub DecidedSo : (table : List ℕ) (f g : Form) (buffer work : List ℕ) (answer : S.Decision) (buffer′ work′ : List ℕ) → Type 0
-DecidedSo table f g buffer work answer buffer′ work′ = DecidedBy (given (formOf f, formOf g)) table buffer work answer buffer′ work′

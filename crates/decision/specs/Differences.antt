@@ -11,7 +11,7 @@ use Rattle.terms.specs.declared.types.Form.{Form}
 use Rattle.terms.specs.Abstraction.{formOf}
 use Rattle.terms.specs.Valid.{FormValid}
 use Rattle.polynomials.specs.Summands.{Summand, Weakly, substituted}
-use Rattle.polynomials.specs.Sorting.{Reordered}
+use Rattle.polynomials.specs.Sorting.{Rearranged}
 use Rattle.polynomials.specs.Expansion.{LettersBelow, expandTerm}
 
 -- the component i of terms, times a sign
@@ -49,7 +49,7 @@ pub record Compared (es : List Summand) (r : ℕ) (ms ns : List Summand) : Type 
   pub before : List Summand
   pub sorted : List Summand
   pub expanded : take (length es) before ≡ es
-  pub reordered : Reordered (length es) before sorted
+  pub reordered : Rearranged (length es) before sorted
   pub ascending : Weakly 0 (take (length es) sorted)
   pub is : take r ns ≡ substituted 255 1 (take (length es) sorted)
   pub few : r ≤ length es

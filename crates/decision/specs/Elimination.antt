@@ -7,6 +7,7 @@ use Prim.Native.Nat.{ℕ, zero, suc, _*_, _/_, _%_, _^_, _≤_, _<_}
 use lib.Dec.{ltb, eqb}
 use lib.IntN.{ℤ, pos}
 use lib.ListN.{length, getD, take, drop}
+use Rattle.specification.specs.Decision.{bufferBytes}
 use Rattle.algebra.specs.Integers.{NonZero}
 use Rattle.specification.specs.Results.{if_then_else_}
 use Rattle.specification.specs.Letters.{vector, kindOf}
@@ -73,7 +74,7 @@ pub record FirstNumber (ms : List Summand) (d most r : ℕ) : Type 0 where
 pub record Eliminable (table : List ℕ) (n : ℕ) (ms : List Summand) (buffer : List ℕ) : Type 0 where
   pub letters : length table ≤ 24
   pub there : n ≤ length ms
-  pub room : 72 ≤ length buffer
+  pub room : bufferBytes ≤ length buffer
   pub polynomial : Polynomial table (take n ms)
   pub zeros : (x : ℕ) → x < 3 * length table → getD buffer x 0 ≡ 0
 

@@ -2,5 +2,5 @@
 pub mod Differences
 pub mod Elimination
 pub mod Answers
-pub mod Taking
+pub mod Settling
 pub mod Values

@@ -5,6 +5,7 @@ ghost use lib.ListN.{length, getD, take, drop};
 ghost use Rattle.polynomials.specs.Memory.{summands};
 ghost use Rattle.polynomials.specs.Passes.{Substitutable};
 ghost use Rattle.decision.specs.Elimination.{mostOf, FirstNumber, Eliminable, Eliminated};
+use letters::kind_of;
 use polynomials::passes::least;
 use polynomials::passes::leaves;
 use polynomials::passes::substitute;
@@ -14,7 +15,7 @@ fn most(table: &[u8], x: usize) -> u64
     requires { ⌜ x / 3 < length (now table) ⌝ }
     ensures { λ r. ⌜ r ≡ mostOf (now (table .entry)) x ⌝ }
 {
-    if table[x / 3] == 1 { 6 } else { 2 }
+    if kind_of(table, x / 3) == 1 { 6 } else { 2 }
 }
 
 // The first number for the variable of a digit that leaves a summand; the last one needs no test.

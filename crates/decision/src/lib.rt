@@ -1,8 +1,7 @@
 // The decision: whether two forms are equal under every assignment, or one under which they differ.
-ghost use Rattle.specification.specs.Records.{readForm};
 ghost use Rattle.specification.specs.Decision.{Decided};
-ghost use Rattle.decision.specs.Taking.{WholeRead};
-ghost use Rattle.decision.specs.Answers.{decisionOf, Decidable, DecidedSo};
+ghost use Rattle.decision.specs.Settling.{Decidable, DecidedSo};
+ghost use Rattle.decision.specs.Answers.{decisionOf};
 
 mod components;
 mod elimination;
@@ -10,41 +9,22 @@ mod elimination;
 use crate::components::compare;
 use crate::elimination::clear;
 use crate::elimination::eliminate;
-use records::table::check_table;
-use records::table::test_terms;
-use records::take::Taken;
-use records::take::read_form_at;
+use forms::read_whole;
+use letters::check_table;
+use letters::test_terms;
 use terms::types::Form;
+
+// Bytes of the buffer that the decision takes at least.
+pub const BUFFER_BYTES: usize = 72;
+
+// Work bytes that it takes at least: 3,456 monomials.
+pub const WORK_BYTES: usize = 55296;
 
 // What the decision says.
 pub enum Decision {
     Holds,
     Differs,
     Refused(u8),
-}
-
-// The form whose record the bytes are, from the first to the last, or 11.
-fn read_whole(s: &[u8]) -> Taken
-    ensures { λ r. ⌜ WholeRead (readForm (now (s .entry))) r ⌝ }
-{
-    let r = read_form_at(s, 0);
-    let f = r.form;
-    if !r.ok {
-        return Taken {
-            refusal: 11,
-            form: f,
-        };
-    }
-    if r.next != s.len() {
-        return Taken {
-            refusal: 11,
-            form: f,
-        };
-    }
-    Taken {
-        refusal: 0,
-        form: f,
-    }
 }
 
 // The decision of two forms that passed every test: their components are compared one after the other.
@@ -84,10 +64,10 @@ pub fn decide(
     if n != 0 {
         return Decision::Refused(n);
     }
-    if buffer.len() < 72 {
+    if buffer.len() < BUFFER_BYTES {
         return Decision::Refused(2);
     }
-    if work.len() < 55296 {
+    if work.len() < WORK_BYTES {
         return Decision::Refused(2);
     }
     let a = read_whole(first);

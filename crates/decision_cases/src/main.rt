@@ -10,6 +10,7 @@ use case_lines::print_character;
 use case_lines::print_refusal;
 use case_lines::print_standing;
 use case_lines::two_bytes_at;
+use decision::BUFFER_BYTES;
 use decision::Decision;
 use decision::decide;
 use evaluation::Valued;
@@ -59,7 +60,7 @@ fn print_differing(table: &[u8], first: &[u8], second: &[u8], buffer: &[u8]) {
         io::write_all(1, b" table");
         return;
     }
-    if len < 72 {
+    if len < BUFFER_BYTES {
         io::write_all(1, b" buffer");
         return;
     }

@@ -13,10 +13,9 @@ use Rattle.specification.specs.Records.{takeForm}
 use Rattle.specification.specs.Evaluation.{sixOrLess, restIsZero, goodAssignment, assignment, value, valueCall}
 use Rattle.theory.specs.Tests.{is-true, holds, and-split}
 use Rattle.theory.specs.Shape.Letters.{table-good, good-short}
-use Rattle.terms.specs.Abstraction.{formOf}
-use Rattle.records.specs.declared.take.Taken.{Taken}
-use Rattle.records.specs.Reading.{takenOf}
-use Rattle.records.specs.Tested.{testOf}
+use Rattle.terms.specs.Abstraction.{formOf, outcomeOf}
+use Rattle.terms.specs.declared.types.Outcome.{Outcome}
+use Rattle.letters.specs.Tested.{testOf}
 use Rattle.evaluation.specs.declared.vectors.Vector.{Vector}
 use Rattle.evaluation.specs.declared.Valued.the-variants.{Given, Refused}
 use Rattle.evaluation.specs.Vectors.{vecOf}
@@ -46,15 +45,15 @@ module _ (table form s : List ℕ) (n : ℕ) (e : testOf n ≡ testTable table) 
   unfolding valuedOf valueCall testOf
   table-refused h = let q : testTable table ≡ refused n = sym e ∙ rw (ne-eqb n 0 h) in rw q
 
-  module _ (z : n ≡ 0) (r : Taken) (w : takenOf r ≡ takeForm table form) where
+  module _ (z : n ≡ 0) (r : Outcome) (w : outcomeOf r ≡ takeForm table form) where
     -- 11, 5 and 6 do
     pub form-refused : (r .refusal ≡ 0 → ⊥) → valuedOf (Refused (r .refusal)) ≡ valueCall table form s
-    unfolding valuedOf valueCall takenOf
+    unfolding valuedOf valueCall outcomeOf
     form-refused h = let q : takeForm table form ≡ refused (r .refusal) = sym w ∙ rw (ne-eqb (r .refusal) 0 h) in rw (table-passed table n e z, q)
 
     module _ (o : r .refusal ≡ 0) where
       form-taken : takeForm table form ≡ given (formOf (r .form))
-      unfolding takenOf
+      unfolding outcomeOf
       form-taken = sym w ∙ rw o
 
       -- 12 does

@@ -14,6 +14,7 @@ use mir.Syntax.{w64}
 use mir.Val.{SFits, toZ}
 use mir.ValLaws.{toZ-pos}
 use Rattle.specification.specs.Lists.{all, each}
+use Rattle.specification.specs.Letters.{kindOf}
 use Rattle.specification.specs.Evaluation.{signedByte, sixOrLess, restIsZero, goodAssignment, assignment}
 use Rattle.integers.proofs.Machine.{back, back-is}
 use Rattle.theory.specs.Values.Vectors.{by-components}
@@ -80,18 +81,18 @@ module _ (f : ℕ → Bool) (s : List ℕ) (i : ℕ) where
 -- ════ the second and third number of a scalar letter
 
 module _ (table s : List ℕ) (n : ℕ) where
-  pub rest-of-vector : getD table n 0 ≡ 1 → true ≡ restIsZero table s n
+  pub rest-of-vector : kindOf table n ≡ 1 → true ≡ restIsZero table s n
   unfolding restIsZero
-  rest-of-vector e = rw (eq-eqb (getD table n 0) 1 e)
+  rest-of-vector e = rw (eq-eqb (kindOf table n) 1 e)
 
-  module _ (o : getD table n 0 ≡ 1 → ⊥) where
+  module _ (o : kindOf table n ≡ 1 → ⊥) where
     pub second-not-zero : (getD s (3 * n + 1) 0 ≡ 0 → ⊥) → false ≡ restIsZero table s n
     unfolding restIsZero
-    second-not-zero h = rw (ne-eqb (getD table n 0) 1 o, ne-eqb (getD s (3 * n + 1) 0) 0 h)
+    second-not-zero h = rw (ne-eqb (kindOf table n) 1 o, ne-eqb (getD s (3 * n + 1) 0) 0 h)
 
     pub third-decides : getD s (3 * n + 1) 0 ≡ 0 → eqb (getD s (3 * n + 2) 0) 0 ≡ restIsZero table s n
     unfolding restIsZero
-    third-decides h = rw (ne-eqb (getD table n 0) 1 o, eq-eqb (getD s (3 * n + 1) 0) 0 h)
+    third-decides h = rw (ne-eqb (kindOf table n) 1 o, eq-eqb (getD s (3 * n + 1) 0) 0 h)
 
 -- ════ a test at 0, 1, ..
 

@@ -2,7 +2,7 @@
 use mathlib.Core.Path.{_≡_, ap, sym, _∙_}
 use mathlib.Core.Bool.{true}
 use mathlib.Core.List.{List, [], _∷_, map}
-use Prim.Native.Nat.{ℕ, zero, suc, _+_, _-_, _*_, _/_, _%_, _^_, _≤_, _<_}
+use Prim.Native.Nat.{ℕ, zero, suc, _+_, _-_, _*_, _^_, _≤_, _<_}
 use native.Mathlib.Nat as N
 use native.Mathlib.Omega.{arith}
 use lib.Dec.{T}
@@ -19,17 +19,17 @@ use Rattle.algebra.specs.Integers.{natAbs-*ℤ}
 use Rattle.integers.proofs.Machine.{back, back-is}
 use Rattle.theory.specs.Elements.{All, all-T}
 use Rattle.theory.specs.Shape.Terms.{OneToThree, term-opens}
+use Rattle.terms.specs.declared.factors.Factor.{Factor}
+use Rattle.terms.specs.declared.factors.Factor.the-variants.{Scalar, Dot, Triple}
 use Rattle.terms.specs.declared.types.Part.{Part}
 use Rattle.terms.specs.declared.types.Part.the-variants.{Nothing, Letter, Wedge}
 use Rattle.terms.specs.declared.types.Term.{Term}
 use Rattle.terms.specs.declared.types.Form.{Form}
 use Rattle.terms.specs.Numbers.{lettersOf}
-use Rattle.terms.specs.Abstraction.{partOf, termOf, formOf}
+use Rattle.terms.specs.Abstraction.{factorOf, partOf, termOf, formOf}
 use Rattle.terms.specs.Valid.{TermValid, FormValid}
 use Rattle.terms.proofs.Arrays.{rest-at, nothing-left}
-use Rattle.terms.proofs.Numbers.{one-is}
-use Rattle.records.proofs.Letters.{two-bytes, three-bytes}
-use Rattle.records.proofs.Letters as L
+use Rattle.terms.proofs.Letters as L
 use Rattle.evaluation.specs.declared.vectors.Vector.{Vector}
 use Rattle.evaluation.specs.Vectors.{vecOf, Within}
 use Rattle.evaluation.proofs.Bounds.{within-more, assignment-small, letters-most, factors-small, scalar-small, term-small, terms-small}
@@ -64,20 +64,20 @@ module _ (s : List ℕ) (small : all sixOrLess s ≡ true) (a : ℕ) (v : Vector
 
 -- ════ a factor
 
-module _ (s : List ℕ) (k : ℕ) (m : ℤ) (f : SFits w64 m) where
-  pub factor-one : k < 256 → m ≡ signedByte (getD s (3 * k) 0) → back m ≡ factorValue (assignment s) (lettersOf k)
+module _ (s : List ℕ) (k : ℕ) (f : Factor) (e : factorOf f ≡ lettersOf k) (m : ℤ) (fits : SFits w64 m) where
+  pub factor-one : (x : ℕ) → f ≡ Scalar x → m ≡ signedByte (getD s (3 * x) 0) → back m ≡ factorValue (assignment s) (lettersOf k)
   unfolding factorValue assignment
-  factor-one h e = back-is f ∙ e ∙ rw (one-is k h)
+  factor-one x h r = back-is fits ∙ r ∙ rw (L.scalar-is k f e x h)
 
-  pub factor-two : (a b : ℕ) (u v : Vector) → 256 ≤ k → k < 65792 → a ≡ (k - 256) / 256 % 256 → b ≡ (k - 256) % 256 → vecOf u ≡ assignment s a → vecOf v ≡ assignment s b
+  pub factor-two : (x y : ℕ) (u v : Vector) → f ≡ Dot x y → vecOf u ≡ assignment s x → vecOf v ≡ assignment s y
       → m ≡ dot (vecOf u) (vecOf v) → back m ≡ factorValue (assignment s) (lettersOf k)
   unfolding factorValue
-  factor-two a b u v h g p q d e r = back-is f ∙ r ∙ (λ i. dot (d i) (e i)) ∙ rw (two-bytes k a b h g p q)
+  factor-two x y u v h a b r = back-is fits ∙ r ∙ (λ i. dot (a i) (b i)) ∙ rw (L.dot-is k f e x y h)
 
-  pub factor-three : (a b c : ℕ) (u v w : Vector) → 65792 ≤ k → k < 16843008 → a ≡ (k - 65792) / 65536 % 256 → b ≡ (k - 65792) / 256 % 256 → c ≡ (k - 65792) % 256
-      → vecOf u ≡ assignment s a → vecOf v ≡ assignment s b → vecOf w ≡ assignment s c → m ≡ triple (vecOf u) (vecOf v) (vecOf w) → back m ≡ factorValue (assignment s) (lettersOf k)
+  pub factor-three : (x y z : ℕ) (u v w : Vector) → f ≡ Triple x y z → vecOf u ≡ assignment s x → vecOf v ≡ assignment s y → vecOf w ≡ assignment s z
+      → m ≡ triple (vecOf u) (vecOf v) (vecOf w) → back m ≡ factorValue (assignment s) (lettersOf k)
   unfolding factorValue
-  factor-three a b c u v w h g p q r d e o t = back-is f ∙ t ∙ (λ i. triple (d i) (e i) (o i)) ∙ rw (three-bytes k a b c h g p q r)
+  factor-three x y z u v w h a b c r = back-is fits ∙ r ∙ (λ i. triple (a i) (b i) (c i)) ∙ rw (L.triple-is k f e x y z h)
 
 -- ════ a vector part
 
@@ -204,13 +204,15 @@ unfolding formOf
 terms-of f v = all-T termInShape (map termOf (take (f .count) (f .terms))) (v .inShape .terms)
 
 -- all of them are the form
-pub all-terms : (s : List ℕ) (f : Form) (i : ℕ) (v : Vector) → i ≤ 0 → vecOf v ≡ termsValue (assignment s) (map termOf (drop i (take (f .count) (f .terms)))) → vecOf v ≡ value (assignment s) (formOf f)
+pub all-terms : (s : List ℕ) (f : Form) (i : ℕ) (v : Vector) → i ≤ 0 → vecOf v ≡ termsValue (assignment s) (map termOf (drop i (take (f .count) (f .terms))))
+    → vecOf v ≡ value (assignment s) (formOf f)
 unfolding value formOf
 all-terms s f zero v h e = e
 all-terms s f (suc i) v h e = absurd (omega arith)
 
 -- and all factors the term
-pub all-factors : (s : List ℕ) (t : Term) (i : ℕ) (v : ℤ) → i ≤ 0 → v ≡ factorsValue (assignment s) (map lettersOf (drop i (take (t .«factor_count») (t .factors)))) → v ≡ factorsValue (assignment s) (termOf t .factors)
+pub all-factors : (s : List ℕ) (t : Term) (i : ℕ) (v : ℤ) → i ≤ 0 → v ≡ factorsValue (assignment s) (map lettersOf (drop i (take (t .«factor_count») (t .factors))))
+    → v ≡ factorsValue (assignment s) (termOf t .factors)
 unfolding termOf
 all-factors s t zero v h e = e
 all-factors s t (suc i) v h e = absurd (omega arith)

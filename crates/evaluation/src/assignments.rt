@@ -7,6 +7,7 @@ ghost use Rattle.specification.specs.Lists.{all, each};
 ghost use Rattle.specification.specs.Evaluation.{signedByte, sixOrLess, restIsZero, goodAssignment, assignment};
 ghost use Rattle.evaluation.specs.Vectors.{vecOf};
 use crate::vectors::Vector;
+use letters::kind_of;
 
 // The byte at a position, 0 behind the end.
 fn byte(s: &[u8], i: usize) -> u8
@@ -69,10 +70,10 @@ fn all_small(s: &[u8]) -> bool
 
 // The second and third number of a letter are 0, or it is a vector.
 fn rest_is_zero(table: &[u8], s: &[u8], n: usize) -> bool
-    requires { ⌜ n < 24 ⌝ }
+    requires { ⌜ (n < length (now table)) × (length (now table) ≤ 24) ⌝ }
     ensures { λ r. ⌜ r ≡ restIsZero (now (table .entry)) (now (s .entry)) n ⌝ }
 {
-    if byte(table, n) == 1 {
+    if kind_of(table, n) == 1 {
         return true;
     }
     if byte(s, 3 * n + 1) != 0 {

@@ -4,14 +4,14 @@ ghost use Rattle.specification.specs.Evaluation.{valueCall};
 ghost use Rattle.evaluation.specs.Answers.{valuedOf};
 
 mod assignments;
-mod forms;
+mod values;
 pub mod vectors;
 
 use crate::assignments::good_assignment;
-use crate::forms::form_value;
+use crate::values::form_value;
 use crate::vectors::Vector;
-use records::table::check_table;
-use records::take::read_form;
+use forms::read_form;
+use letters::check_table;
 
 // What the value call gives.
 pub enum Valued {

@@ -6,17 +6,17 @@ use native.Mathlib.Omega.{arith}
 use lib.IntN.{ℤ}
 use lib.ListN.{length, drop, set}
 use borrow.Author.Tests.{le-leb, lt-leb}
+use Rattle.specification.specs.Shortening.{shorteningBytes, logLength, shortened, unshortened, shortenTested, ShortenedBy, Shortened}
 use Rattle.specification.specs.Results.{Result, refused, given}
 use Rattle.specification.specs.Letters.{testTable}
 use Rattle.specification.specs.Terms.{Form}
-use Rattle.specification.specs.Shortening.{shortened, unshortened, shortenTested, ShortenedBy, Shortened}
 use Rattle.specification.specs.Shortening as H
-use Rattle.records.specs.Tested.{testOf}
-use Rattle.records.proofs.LetterTests.{test-passed, test-refused}
+use Rattle.letters.specs.Tested.{testOf}
+use Rattle.letters.proofs.LetterTests.{test-passed, test-refused}
 use Rattle.shortening.specs.declared.Shortening.{Shortening}
 use Rattle.shortening.specs.declared.Shortening.the-variants.{Written, Refused}
-use Rattle.shortening.specs.Answers.{shorteningOf, logLength}
-use Rattle.exports.specs.Returns.{returned, shortenAsked, ShortenReturnedBy, ShortenReturned}
+use Rattle.shortening.specs.Answers.{shorteningOf}
+use Rattle.specification.specs.Returns.{returned, shortenAsked, ShortenReturnedBy, ShortenReturned}
 
 -- one store puts the number of steps in front
 pub step-stored : (l : List ℕ) (k : ℕ) → 1 ≤ length l → set l 0 k ≡ k ∷ drop 1 l
@@ -24,12 +24,13 @@ step-stored [] k h = absurd (omega arith)
 step-stored (x ∷ l) k h = refl
 
 -- a log that was written is short
-pub written-short : (s : Shortening) (size k : ℕ) → s ≡ Written size k → logLength s ≤ 2309 → size ≤ 2309
-unfolding logLength
-written-short s size k e h = subst (λ (x : Shortening). logLength x ≤ 2309) e h
+pub written-short : (s : Shortening) (size k : ℕ) → s ≡ Written size k → logLength (shorteningOf s) ≤ shorteningBytes → size ≤ shorteningBytes
+unfolding logLength shorteningOf
+written-short s size k e h = subst (λ (x : Shortening). logLength (shorteningOf x) ≤ shorteningBytes) e h
 
 module _ (table form out steps : List ℕ) where
-  by-tests : (t : Result Form) (r : ℤ) (out′ steps′ : List ℕ) → shortenAsked table form out steps ≡ t → ShortenReturnedBy t table form out steps r out′ steps′ → ShortenReturned table form out steps r out′ steps′
+  by-tests : (t : Result Form) (r : ℤ) (out′ steps′ : List ℕ) → shortenAsked table form out steps ≡ t → ShortenReturnedBy t table form out steps r out′ steps′
+      → ShortenReturned table form out steps r out′ steps′
   unfolding ShortenReturned
   by-tests t r out′ steps′ e w = subst (λ (t : Result Form). ShortenReturnedBy t table form out steps r out′ steps′) (sym e) w
 

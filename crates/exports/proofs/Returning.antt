@@ -10,6 +10,8 @@ use borrow.Author.Tests.{le-leb, lt-leb}
 use mir.Syntax.{w64}
 use mir.Val.{toZ}
 use mir.ValLaws.{toZ-pos}
+use Rattle.specification.specs.Records.{formBytes}
+use Rattle.specification.specs.Shortening.{shorteningBytes}
 use Rattle.specification.specs.Results.{Result, refused, given, require}
 use Rattle.specification.specs.Letters.{testTable}
 use Rattle.specification.specs.Values.{Vec}
@@ -20,7 +22,7 @@ use Rattle.checker.specs.declared.Checked as checked
 use Rattle.checker.specs.declared.Checked.the-variants as variants
 use Rattle.checker.specs.Answers.{checkedOf}
 use Rattle.specification.specs.Decision as D
-use Rattle.records.specs.Tested.{testOf}
+use Rattle.letters.specs.Tested.{testOf}
 use Rattle.evaluation.specs.declared.vectors.Vector.{Vector}
 use Rattle.evaluation.specs.declared.Valued.{Valued}
 use Rattle.evaluation.specs.declared.Valued.the-variants as valued
@@ -32,9 +34,10 @@ use Rattle.reduction.specs.Answers.{reducedOf}
 use Rattle.decision.specs.declared.Decision.{Decision}
 use Rattle.decision.specs.declared.Decision.the-variants as decided
 use Rattle.decision.specs.Answers.{decisionOf}
-use Rattle.records.proofs.LetterTests.{test-passed, test-refused}
+use Rattle.letters.proofs.LetterTests.{test-passed, test-refused}
 use Rattle.reduction.proofs.KeptValue.{reduce-keeps-value}
-use Rattle.exports.specs.Returns.{returned, handed, threeInto, answerVec, valueTested, valueReturned, reduceReturned, returnedAt, placesInto, answerLog, checkReturned, decisionReturned, DecideReturned}
+use Rattle.specification.specs.Returns.{returned, handed, threeInto, answerVec, valueTested, valueReturned, reduceReturned, returnedAt, placesInto, answerLog}
+use Rattle.specification.specs.Returns.{checkReturned, decisionReturned, DecideReturned}
 
 -- ════ one number
 
@@ -47,7 +50,7 @@ pub cast-negative : {n : ℕ} {r : ℤ} → n < 65536 → r ≡ negℤ (toZ w64 
 cast-negative {n} h e = e ∙ rw (toZ-pos w64 n (omega arith))
 
 -- a length, cast, is what is returned
-pub cast-length : {n : ℕ} → n ≤ 2309 → toZ w64 n ≡ returned (given n)
+pub cast-length : {n : ℕ} → n ≤ shorteningBytes → toZ w64 n ≡ returned (given n)
 unfolding returned
 cast-length {n} h = toZ-pos w64 n (omega arith)
 
@@ -125,7 +128,7 @@ module _ (table expr out after : List ℕ) (a : Reduced) (contract : (reducedOf 
 
   module _ (n : ℕ) (g : a ≡ Written n) where
     -- a length fits
-    pub reduce-short : n ≤ 770
+    pub reduce-short : n ≤ formBytes
     unfolding reducedOf
     reduce-short = reduce-keeps-value table expr out after a n contract (rw g) .short
 

@@ -3,7 +3,8 @@ ghost use mathlib.Core.Path.{_≡_};
 ghost use Prim.Native.Nat.{_≤_};
 ghost use lib.ListN.{length};
 ghost use Rattle.specification.specs.Results.{given, refused};
-ghost use Rattle.exports.specs.Returns.{returned, returnedAt, threeInto, placesInto, valueReturned, reduceReturned, checkReturned, DecideReturned, ShortenReturned};
+ghost use Rattle.specification.specs.Shortening.{shorteningBytes};
+ghost use Rattle.specification.specs.Returns.{returned, returnedAt, threeInto, placesInto, valueReturned, reduceReturned, checkReturned, DecideReturned, ShortenReturned};
 ghost use Rattle.evaluation.specs.Vectors.{vecOf};
 use checker::Checked;
 use checker::check;
@@ -13,7 +14,7 @@ use evaluation::Valued;
 use evaluation::value;
 use evaluation::vectors::Vector;
 use integers::neg;
-use records::table::check_table;
+use letters::check_table;
 use reduction::Reduced;
 use reduction::reduce;
 use shortening::Shortening;
@@ -68,7 +69,7 @@ pub extern "C" fn kalzunbi_value(
 
 // A length that is returned.
 fn written(n: usize) -> i64
-    requires { ⌜ n ≤ 2309 ⌝ }
+    requires { ⌜ n ≤ shorteningBytes ⌝ }
     ensures { λ r. ⌜ r ≡ returned (given n) ⌝ }
 {
     n as i64

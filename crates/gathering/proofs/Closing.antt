@@ -17,12 +17,12 @@ use Rattle.theory.specs.Tests.{given-same, refused≢given}
 use Rattle.theory.specs.Shape.Forms.{FormInShape, AllFit, within-given, within-in-shape, form-within}
 use Rattle.terms.specs.declared.types.Term.{Term}
 use Rattle.terms.specs.declared.types.Form.{Form}
-use Rattle.terms.specs.Abstraction.{termOf, formOf, Counted}
-use Rattle.terms.specs.Valid.{FormValid}
+use Rattle.terms.specs.Abstraction.{termOf, formOf, Counted, outcomeOf}
+use Rattle.terms.specs.Valid.{FormValid, Gives}
 use Rattle.gathering.specs.declared.Sum.{Sum}
-use Rattle.gathering.specs.declared.Closed.{Closed}
+use Rattle.terms.specs.declared.types.Outcome.{Outcome}
 use Rattle.gathering.specs.Sums.{held, sumOf, Standing, SumValid, Changed, Brought}
-use Rattle.gathering.specs.Closing.{closedOf, limitedOf, LimitsTested, Copied, ClosedAs, WorkedAs}
+use Rattle.gathering.specs.Closing.{limitedOf, LimitsTested, Copied, ClosedAs}
 use Rattle.gathering.proofs.Steps.{length-sum}
 use Rattle.specification.specs.Terms as S
 
@@ -78,12 +78,12 @@ limits-none s b k e p h = record { is = λ kind. within-both kind (sumOf s) (sym
 
 -- refused: a form of no terms
 pub closed-refused : (s : Sum) (kind n : ℕ) (ts : List Term) → LimitsTested s n → (n ≡ 0 → ⊥) → ClosedAs s kind (record { refusal = n; form = record { kind = kind; count = 0; terms = ts } })
-unfolding closedOf limitedOf
+unfolding outcomeOf limitedOf
 closed-refused s kind n ts w h = record { is = rw (ne-eqb n 0 h) (sym (w .is kind ∙ rw (ne-eqb n 0 h))); few = omega arith; counted = tt }
 
 -- the form with the terms of the sum
 pub given-form : (s : Sum) (kind n : ℕ) (g : Form) → SumValid s → LimitsTested s n → n ≡ 0 → Copied s kind g → ClosedAs s kind (record { refusal = 0; form = g })
-unfolding closedOf formOf sumOf limitedOf
+unfolding outcomeOf formOf sumOf limitedOf
 given-form s kind n g v w z c =
     record {
       is = ap given (λ j. record { kind = c .kind j; terms = map termOf (c .terms j) }) ∙ sym (w .is kind ∙ rw (eq-eqb n 0 z));
@@ -94,12 +94,12 @@ given-form s kind n g v w z c =
 -- ════ what callers cite
 
 -- a closed sum without a refusal is a form given
-pub closed-given : (s : Sum) (kind : ℕ) (r : Closed) → ClosedAs s kind r → r .refusal ≡ 0 → within kind (sumOf s) ≡ given (formOf (r .form))
-unfolding closedOf
+pub closed-given : (s : Sum) (kind : ℕ) (r : Outcome) → ClosedAs s kind r → r .refusal ≡ 0 → within kind (sumOf s) ≡ given (formOf (r .form))
+unfolding outcomeOf
 closed-given s kind r c e = sym (c .is) ∙ rw (eq-eqb (r .refusal) 0 e)
 
 -- gathered from terms that fit, the form given is in shape
-pub closed-valid : (s : Sum) (kind : ℕ) (ts : List S.Term) (r : Closed) → ClosedAs s kind r → r .refusal ≡ 0 → kind ≤ 1 → sumOf s ≡ gather ts → AllFit kind ts → FormValid (r .form)
+pub closed-valid : (s : Sum) (kind : ℕ) (ts : List S.Term) (r : Outcome) → ClosedAs s kind r → r .refusal ≡ 0 → kind ≤ 1 → sumOf s ≡ gather ts → AllFit kind ts → FormValid (r .form)
 closed-valid s kind ts r c e k g h =
     record {
       few = c .few;
@@ -109,37 +109,37 @@ closed-valid s kind ts r c e k g h =
     }
 
 -- a refusal is that refusal
-pub refuses : (x : Result S.Form) (r : Closed) (n : ℕ) → r .refusal ≡ n → (n ≡ 0 → ⊥) → x ≡ refused n → WorkedAs x r
-unfolding closedOf
+pub refuses : (x : Result S.Form) (r : Outcome) (n : ℕ) → r .refusal ≡ n → (n ≡ 0 → ⊥) → x ≡ refused n → Gives x r
+unfolding outcomeOf
 refuses x r n e h p = record {
   is = rw (ne-eqb (r .refusal) 0 (λ z. h (sym e ∙ z))) (ap refused e) ∙ sym p;
   valid = λ z. absurd (h (sym e ∙ z));
 }
 
 -- the same result in other words
-pub works-as : (x y : Result S.Form) (r : Closed) → x ≡ y → WorkedAs x r → WorkedAs y r
+pub works-as : (x y : Result S.Form) (r : Outcome) → x ≡ y → Gives x r → Gives y r
 works-as x y r e w = record { is = w .is ∙ e; valid = w .valid }
 
 -- a closed sum of terms that fit
-pub closes : (s : Sum) (kind : ℕ) (ts : List S.Term) (r : Closed) → kind ≤ 1 → sumOf s ≡ gather ts → AllFit kind ts → ClosedAs s kind r → WorkedAs (within kind (gather ts)) r
+pub closes : (s : Sum) (kind : ℕ) (ts : List S.Term) (r : Outcome) → kind ≤ 1 → sumOf s ≡ gather ts → AllFit kind ts → ClosedAs s kind r → Gives (within kind (gather ts)) r
 closes s kind ts r k e h c = record {
   is = c .is ∙ ap (within kind) e;
   valid = λ z. closed-valid s kind ts r c z k e h;
 }
 
 -- a result that was given, by its number
-pub worked-given : (x : Result S.Form) (r : Closed) → WorkedAs x r → r .refusal ≡ 0 → x ≡ given (formOf (r .form))
-unfolding closedOf
+pub worked-given : (x : Result S.Form) (r : Outcome) → Gives x r → r .refusal ≡ 0 → x ≡ given (formOf (r .form))
+unfolding outcomeOf
 worked-given x r w e = sym (w .is) ∙ rw (eq-eqb (r .refusal) 0 e)
 
 -- a result that was refused, by its number
-pub worked-refused : (x : Result S.Form) (r : Closed) → WorkedAs x r → (r .refusal ≡ 0 → ⊥) → x ≡ refused (r .refusal)
-unfolding closedOf
+pub worked-refused : (x : Result S.Form) (r : Outcome) → Gives x r → (r .refusal ≡ 0 → ⊥) → x ≡ refused (r .refusal)
+unfolding outcomeOf
 worked-refused x r w e = sym (w .is) ∙ rw (ne-eqb (r .refusal) 0 e)
 
 -- a closed sum that is a form
-pub closed-is : (r : Closed) (f : S.Form) → closedOf r ≡ given f → formOf (r .form) ≡ f
-unfolding closedOf
+pub closed-is : (r : Outcome) (f : S.Form) → outcomeOf r ≡ given f → formOf (r .form) ≡ f
+unfolding outcomeOf
 closed-is r f = go (eqb (r .refusal) 0)
   where
     go : (b : Bool) → (if b then given (formOf (r .form)) else refused (r .refusal)) ≡ given f → formOf (r .form) ≡ f
@@ -147,7 +147,7 @@ closed-is r f = go (eqb (r .refusal) 0)
     go false e = absurd (refused≢given e)
 
 -- the sum of a form's terms is closed to that form
-pub closed-form : (s : Sum) (kind : ℕ) (r : Closed) → FormInShape (record { kind = kind; terms = sumOf s }) → ClosedAs s kind r
+pub closed-form : (s : Sum) (kind : ℕ) (r : Outcome) → FormInShape (record { kind = kind; terms = sumOf s }) → ClosedAs s kind r
     → (formOf (r .form) ≡ record { kind = kind; terms = sumOf s }) × FormValid (r .form)
 closed-form s kind r v c =
     let e = closed-is r (record { kind = kind; terms = sumOf s }) (c .is ∙ form-within (record { kind = kind; terms = sumOf s }) v) in

@@ -9,15 +9,10 @@ use Rattle.specification.specs.Terms.{within}
 use Rattle.specification.specs.Terms as S
 use Rattle.theory.specs.Elements.{All}
 use Rattle.terms.specs.declared.types.Form.{Form}
-use Rattle.terms.specs.Abstraction.{formOf, Counted}
-use Rattle.terms.specs.Valid.{FormValid}
+use Rattle.terms.specs.Abstraction.{Counted, outcomeOf}
 use Rattle.gathering.specs.declared.Sum.{Sum}
-use Rattle.gathering.specs.declared.Closed.{Closed}
+use Rattle.terms.specs.declared.types.Outcome.{Outcome}
 use Rattle.gathering.specs.Sums.{held, sumOf}
-
--- the form, or the refusal where its number is not 0
-unfoldable pub closedOf : Closed → Result S.Form
-closedOf r = if eqb (r .refusal) 0 then given (formOf (r .form)) else refused (r .refusal)
 
 -- a form of a kind with these terms, or the refusal of its limits where the number is not 0
 unfoldable pub limitedOf : (refusal kind : ℕ) → List S.Term → Result S.Form
@@ -35,12 +30,7 @@ pub record Copied (s : Sum) (k : ℕ) (r : Form) : Type 0 where
   pub kind : r .kind ≡ k
 
 -- what closing a sum gives
-pub record ClosedAs (s : Sum) (kind : ℕ) (r : Closed) : Type 0 where
-  pub is : closedOf r ≡ within kind (sumOf s)
+pub record ClosedAs (s : Sum) (kind : ℕ) (r : Outcome) : Type 0 where
+  pub is : outcomeOf r ≡ within kind (sumOf s)
   pub few : r .form .count ≤ 48
   pub counted : All Counted (take (r .form .count) (r .form .terms))
-
--- what an operator or a step gives: the result, and where it is a form, a valid one
-pub record WorkedAs (x : Result S.Form) (r : Closed) : Type 0 where
-  pub is : closedOf r ≡ x
-  pub valid : r .refusal ≡ 0 → FormValid (r .form)

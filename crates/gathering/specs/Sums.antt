@@ -1,18 +1,18 @@
 -- A sum as the specification's gathered terms, its invariant, and what bringing a term in gives. Assumes nothing.
-use mathlib.Core.Bool.{Bool, true, false}
+use mathlib.Core.Bool.{Bool}
 use mathlib.Core.Path.{_≡_}
 use mathlib.Core.List.{List, [], _∷_, map}
 use Prim.Native.Nat.{ℕ, _+_, _*_, _≤_}
+use lib.Dec.{isEq}
 use lib.IntN.{natAbs, _+ℤ_}
 use lib.ListN.{take, length}
-use Rattle.specification.specs.Lists.{byOrder}
 use Rattle.specification.specs.Terms.{compareTerms, insert, keep, withCoef, gatherInto}
 use Rattle.specification.specs.Terms as S
 use Rattle.theory.specs.Elements.{All}
 use Rattle.theory.specs.Gathering.Coefficients.{Ascending}
 use Rattle.terms.specs.declared.types.Term.{Term}
 use Rattle.terms.specs.declared.types.Form.{Form}
-use Rattle.terms.specs.Abstraction.{termOf, formOf, Counted}
+use Rattle.terms.specs.Abstraction.{termOf, formOf, isMore, Counted}
 use Rattle.gathering.specs.declared.Sum.{Sum}
 
 -- the terms that stand
@@ -79,11 +79,11 @@ pub record Bringable (t : Term) : Type 0 where
 
 -- a term comes behind another
 unfoldable pub isBehind : S.Term → S.Term → Bool
-isBehind t u = byOrder (compareTerms t u) false false true
+isBehind t u = isMore (compareTerms t u)
 
 -- two terms are like
 unfoldable pub isLike : S.Term → S.Term → Bool
-isLike t u = byOrder (compareTerms t u) false true false
+isLike t u = isEq (compareTerms t u)
 
 -- what bringing in terms one after the other gives whose letters and factors stand in any order
 pub record AllBrought (s : Sum) (ts : List Term) (n : ℕ) (r : Sum) : Type 0 where

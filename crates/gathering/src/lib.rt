@@ -12,10 +12,12 @@ ghost use Rattle.gathering.specs.Closing.{LimitsTested, ClosedAs};
 use integers::add;
 use integers::is_zero;
 use integers::within;
-use terms::order::Order;
 use terms::order::compare;
+use terms::order::is_equal;
+use terms::order::is_more;
 use terms::tidy::tidy;
 use terms::types::Form;
+use terms::types::Outcome;
 use terms::types::Part;
 use terms::types::Term;
 
@@ -24,12 +26,6 @@ pub struct Sum {
     pub brought: usize,
     pub count: usize,
     pub terms: [Term; 96],
-}
-
-// What closing a sum gives: a form, or where refusal is not 0, its number.
-pub struct Closed {
-    pub refusal: u8,
-    pub form: Form,
 }
 
 // The sum of no terms.
@@ -75,12 +71,7 @@ pub fn comes_behind(t: Term, u: Term) -> bool
     requires { ⌜ Counted t × Counted u ⌝ }
     ensures { λ r. ⌜ r ≡ isBehind (termOf t) (termOf u) ⌝ }
 {
-    let o = compare(t, u);
-    match o {
-        Order::Less => false,
-        Order::Equal => false,
-        Order::Greater => true,
-    }
+    is_more(compare(t, u))
 }
 
 // Whether two terms are like.
@@ -88,12 +79,7 @@ pub fn are_like(t: Term, u: Term) -> bool
     requires { ⌜ Counted t × Counted u ⌝ }
     ensures { λ r. ⌜ r ≡ isLike (termOf t) (termOf u) ⌝ }
 {
-    let o = compare(t, u);
-    match o {
-        Order::Less => false,
-        Order::Equal => true,
-        Order::Greater => false,
-    }
+    is_equal(compare(t, u))
 }
 
 // So many terms with their letters and factors in any order brought into a sum, one after the other.
@@ -192,7 +178,7 @@ pub fn test_limits(s: Sum) -> u8
 }
 
 // The form of a sum, or the refusal of its limits.
-pub fn close(s: Sum, kind: u8) -> Closed
+pub fn close(s: Sum, kind: u8) -> Outcome
     requires { ⌜ SumValid s ⌝ }
     ensures { λ r. ⌜ ClosedAs s kind r ⌝ }
 {
@@ -206,7 +192,7 @@ pub fn close(s: Sum, kind: u8) -> Closed
     let n = test_limits(s);
     let count = s.count;
     if n != 0 {
-        return Closed {
+        return Outcome {
             refusal: n,
             form: f,
         };
@@ -218,7 +204,7 @@ pub fn close(s: Sum, kind: u8) -> Closed
         i += 1;
     }
     f.count = count;
-    Closed {
+    Outcome {
         refusal: 0,
         form: f,
     }

@@ -9,7 +9,6 @@ use lib.IntN.{ℤ, pos, natAbs, _+ℤ_, _*ℤ_}
 use lib.IntN as I
 use lib.ListN.{length, getD, take}
 use Rattle.algebra.specs.Integers as R
-use Rattle.specification.specs.Lists.{byOrder}
 use Rattle.specification.specs.Terms.{compareTerms, timesTerm, gather}
 use Rattle.specification.specs.Terms as S
 use Rattle.specification.specs.Rules.{stepTerms}
@@ -43,18 +42,18 @@ gained-none t s = record { is = refl; light = omega arith }
 -- a like term adds its coefficient, any other nothing
 like-adds : (t u : S.Term) → isLike t u ≡ true → weight (only (monomial t)) u ≡ u .coef
 unfolding isLike only
-like-adds t u e = ap (λ (z : ℤ). u .coef *ℤ z) (go (compareMonomials (monomial t) (monomial u)) (ap (λ (o : Ordering). byOrder o false true false) (sym (compareTerms-monomial t u)) ∙ e)) ∙ R.*ℤ-1 (u .coef)
+like-adds t u e = ap (λ (z : ℤ). u .coef *ℤ z) (go (compareMonomials (monomial t) (monomial u)) (ap (λ (o : Ordering). isEq o) (sym (compareTerms-monomial t u)) ∙ e)) ∙ R.*ℤ-1 (u .coef)
   where
-    go : (o : Ordering) → byOrder o false true false ≡ true → cond (isEq o) (pos 1) (pos 0) ≡ pos 1
+    go : (o : Ordering) → isEq o ≡ true → cond (isEq o) (pos 1) (pos 0) ≡ pos 1
     go Ordering·lt e = absurd (subst T (sym e) tt)
     go Ordering·eq e = refl
     go Ordering·gt e = absurd (subst T (sym e) tt)
 
 unlike-adds : (t u : S.Term) → isLike t u ≡ false → weight (only (monomial t)) u ≡ pos 0
 unfolding isLike only
-unlike-adds t u e = ap (λ (z : ℤ). u .coef *ℤ z) (go (compareMonomials (monomial t) (monomial u)) (ap (λ (o : Ordering). byOrder o false true false) (sym (compareTerms-monomial t u)) ∙ e)) ∙ I.*ℤ-zero (u .coef)
+unlike-adds t u e = ap (λ (z : ℤ). u .coef *ℤ z) (go (compareMonomials (monomial t) (monomial u)) (ap (λ (o : Ordering). isEq o) (sym (compareTerms-monomial t u)) ∙ e)) ∙ I.*ℤ-zero (u .coef)
   where
-    go : (o : Ordering) → byOrder o false true false ≡ false → cond (isEq o) (pos 1) (pos 0) ≡ pos 0
+    go : (o : Ordering) → isEq o ≡ false → cond (isEq o) (pos 1) (pos 0) ≡ pos 0
     go Ordering·lt e = refl
     go Ordering·eq e = absurd (subst T e tt)
     go Ordering·gt e = refl
@@ -64,7 +63,7 @@ unlike-marks : (t u : S.Term) → (markOf t ≡ markOf u → ⊥) → isLike t u
 unfolding isLike
 unlike-marks t u h = go (compareTerms t u) (compareTerms-eq t u)
   where
-    go : (o : Ordering) → (o ≡ Ordering·eq → (t .part ≡ u .part) × (t .factors ≡ u .factors)) → byOrder o false true false ≡ false
+    go : (o : Ordering) → (o ≡ Ordering·eq → (t .part ≡ u .part) × (t .factors ≡ u .factors)) → isEq o ≡ false
     go Ordering·lt e = refl
     go Ordering·eq e = let w = e refl in absurd (h (mark-like t u (w .0) (w .1)))
     go Ordering·gt e = refl
@@ -116,7 +115,8 @@ module _ (t : Term) (s : Step) (i : ℕ) (here : i < rowCount (s .rule)) (g : �
       gained-more (pos 0) g (record { is = sym (unlike-adds (termOf t) (S.tidy product) unlike); light = omega arith }) (sym (I.+ℤ-idr g))
 
 -- the products with all rows
-pub gained-all : (t : Term) (s : Step) (i : ℕ) (g : ℤ) → StepValid s → length (s .letters) ≡ 6 → i ≡ rowCount (s .rule) → Gained t s i g → g ≡ coeff (monomial (termOf t)) (gather (stepTerms (stepOf s)))
+pub gained-all : (t : Term) (s : Step) (i : ℕ) (g : ℤ) → StepValid s → length (s .letters) ≡ 6 → i ≡ rowCount (s .rule) → Gained t s i g
+    → g ≡ coeff (monomial (termOf t)) (gather (stepTerms (stepOf s)))
 unfolding stepOf
 gained-all t s i g v six e w =
     w .is ∙ ap (λ (n : ℕ). coeff (monomial (termOf t)) (map S.tidy (map (timesTerm (termOf (s .m))) (take n (rows s))))) e

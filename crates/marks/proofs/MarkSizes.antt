@@ -17,12 +17,14 @@ use Rattle.theory.specs.Elements.{All, all-implies, all-append}
 use Rattle.terms.specs.declared.types.Term.{Term}
 use Rattle.terms.specs.declared.types.Form.{Form}
 use Rattle.terms.specs.Numbers.{lettersOf}
-use Rattle.terms.specs.Abstraction.{partOf, termOf, formOf}
+use Rattle.terms.specs.declared.factors.Factor.{Factor}
+use Rattle.terms.specs.declared.factors.Factor.the-variants.{Scalar, Dot, Triple}
+use Rattle.terms.specs.Abstraction.{factorOf, partOf, termOf, formOf}
 use Rattle.terms.proofs.Arrays.{noTerm, rest-at, nothing-left, mapped-behind}
 use Rattle.rules.specs.Table.{letter}
 use Rattle.marks.specs.Marks.{letterMark, lettersMark, factorsMark, markOf, sizeMark, Shows, Covering, Joint, LettersMarked, placesMark, rowMark, rowPartMark, productMark}
 use Rattle.marks.proofs.MarkedTerms.{mark-small, shows-some}
-use Rattle.terms.proofs.Numbers.{scalar-letters, dot-letters, triple-letters}
+use Rattle.terms.proofs.Letters.{scalar-is, dot-is, triple-is}
 
 -- what the mark of a letter is known to be
 abbrev Letter : ℕ → ℕ → Type 0
@@ -48,15 +50,17 @@ three-letters : (x y z a b c : ℕ) → Letter x a → Letter y b → Letter z c
 unfolding lettersMark
 three-letters x y z a b c u v w = N.mul-assoc a b c ∙ (λ i. u .0 i * two-letters y z b c v w i)
 
-pub scalar-mark : (k r : ℕ) → k < 256 → Letter k r → (r ≡ lettersMark (lettersOf k)) × (r ≤ 15625000)
-scalar-mark k r h w = (one-letter k r w ∙ ap lettersMark (sym (scalar-letters k h)), omega (arith, w .1))
+module _ (k : ℕ) (f : Factor) (e : factorOf f ≡ lettersOf k) where
+  pub scalar-mark : (x a : ℕ) → f ≡ Scalar x → Letter x a → (a ≡ lettersMark (lettersOf k)) × (a ≤ 15625000)
+  scalar-mark x a h u = (one-letter x a u ∙ ap lettersMark (sym (scalar-is k f e x h)), omega (arith, u .1))
 
-pub dot-mark : (k j a b : ℕ) → 256 ≤ k → k < 65792 → j ≡ k - 256 → Letter (j / 256) a → Letter (j % 256) b → (a * b ≡ lettersMark (lettersOf k)) × (a * b ≤ 15625000)
-dot-mark k j a b g h e v w = (two-letters (j / 256) (j % 256) a b v w ∙ ap lettersMark (sym (dot-letters k j g h e)), omega (arith, two-small a b (v .1) (w .1)))
+  pub dot-mark : (x y a b : ℕ) → f ≡ Dot x y → Letter x a → Letter y b → (a * b ≡ lettersMark (lettersOf k)) × (a * b ≤ 15625000)
+  dot-mark x y a b h u v = (two-letters x y a b u v ∙ ap lettersMark (sym (dot-is k f e x y h)), omega (arith, two-small a b (u .1) (v .1)))
 
-pub triple-mark : (k j a b c : ℕ) → 65792 ≤ k → j ≡ k - 65792 → Letter (j / 65536) a → Letter (j / 256 % 256) b → Letter (j % 256) c
-    → (a * b * c ≡ lettersMark (lettersOf k)) × (a * b * c ≤ 15625000)
-triple-mark k j a b c g e u v w = (three-letters (j / 65536) (j / 256 % 256) (j % 256) a b c u v w ∙ ap lettersMark (sym (triple-letters k j g e)), three-small a b c (u .1) (v .1) (w .1))
+  pub triple-mark : (x y z a b c : ℕ) → f ≡ Triple x y z → Letter x a → Letter y b → Letter z c
+      → (a * b * c ≡ lettersMark (lettersOf k)) × (a * b * c ≤ 15625000)
+  triple-mark x y z a b c h u v w =
+      (three-letters x y z a b c u v w ∙ ap lettersMark (sym (triple-is k f e x y z h)), three-small a b c (u .1) (v .1) (w .1))
 
 pub nothing-mark : (p : List ℕ) → p ≡ [] → (1 ≡ lettersMark p) × (1 ≤ 62500)
 unfolding lettersMark
@@ -105,7 +109,8 @@ all-small [] a p = omega arith
 all-small (x ∷ l) a zero = a .0
 all-small (x ∷ l) a (suc p) = all-small l (a .1) p
 
-pub letters-marked : (ls : List ℕ) (a b c d e g : ℕ) → Letter (getD ls 0 0) a → Letter (getD ls 1 0) b → Letter (getD ls 2 0) c → Letter (getD ls 3 0) d → Letter (getD ls 4 0) e → Letter (getD ls 5 0) g
+pub letters-marked : (ls : List ℕ) (a b c d e g : ℕ) → Letter (getD ls 0 0) a → Letter (getD ls 1 0) b → Letter (getD ls 2 0) c → Letter (getD ls 3 0) d
+    → Letter (getD ls 4 0) e → Letter (getD ls 5 0) g
     → LettersMarked ls (1 ∷ a ∷ b ∷ c ∷ d ∷ e ∷ g ∷ 1 ∷ [])
 letters-marked ls a b c d e g u v w x y z = record {
   none = refl;
@@ -129,7 +134,8 @@ pub product-small : (b p : ℕ) → b ≤ 62500 → p ≤ 62500 → b * p ≤ 39
 product-small b p h k = N.mul-le-mul h k
 
 pub product-is : (a b x y z : ℕ) (l : List ℕ) (n : ℕ) → x ≡ placesMark l (n / 16777216 % 512) → y ≡ placesMark l (n / 32768 % 512) → z ≡ placesMark l (n / 64 % 512)
-    → ((a + (x + y + z) + 3 * (b * (getD l (n % 64 / 8) 0 * getD l (n % 64 % 8) 0))) % 509 ≡ productMark a b l n) × ((a + (x + y + z) + 3 * (b * (getD l (n % 64 / 8) 0 * getD l (n % 64 % 8) 0))) % 509 < 509)
+    → ((a + (x + y + z) + 3 * (b * (getD l (n % 64 / 8) 0 * getD l (n % 64 % 8) 0))) % 509 ≡ productMark a b l n)
+    × ((a + (x + y + z) + 3 * (b * (getD l (n % 64 / 8) 0 * getD l (n % 64 % 8) 0))) % 509 < 509)
 unfolding productMark rowMark rowPartMark
 product-is a b x y z l n u v w = ((λ i. (a + (u i + v i + w i) + 3 * (b * (getD l (n % 64 / 8) 0 * getD l (n % 64 % 8) 0))) % 509), omega arith)
 

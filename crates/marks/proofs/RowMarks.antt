@@ -21,7 +21,7 @@ use Rattle.theory.specs.Order.{nat-laws}
 use Rattle.theory.specs.Sorting as O
 use Rattle.theory.specs.Signs.{pair-lt, pair-gt}
 use Rattle.theory.specs.Shape.Terms.{term-opens, in-shape-tidy}
-use Rattle.rules.specs.Table.{ruleRows, letter, letterAt, factorAt, partAt, signOf, rowTerm}
+use Rattle.rules.specs.Table.{ruleRows, letter, letterAt, factorAt, partAt, rowSign, rowTerm}
 use Rattle.marks.specs.Marks.{letterMark, lettersMark, factorsMark, markOf, LettersMarked, placesMark, rowMark, rowPartMark, productMark, Differing, RowStands}
 use Rattle.marks.proofs.MarkedTerms.{factors-joined, mark-product}
 
@@ -72,8 +72,8 @@ five true false c d e h = absurd h
 five false b c d e h = absurd h
 
 -- a row's sign is 1 or −1
-pub sign-one : (n : ℕ) → natAbs (signOf n) ≡ 1
-unfolding signOf
+pub sign-one : (n : ℕ) → natAbs (rowSign n) ≡ 1
+unfolding rowSign
 sign-one n = go (eqb (n / 8589934592) 1)
   where
     go : (b : Bool) → natAbs (if b then pos 1 else negsuc 0) ≡ 1
@@ -132,7 +132,8 @@ module _ (ls l : List ℕ) (w : LettersMarked ls l) where
           let x = letterMark (letter ls (c / 64)) in
           let y = letterMark (letter ls (c / 8 % 8)) in
           let z = lettersMark (letterAt ls (c % 8)) in
-          (λ i. w .at (c / 64) (leb→le 1 (c / 64) (v .0)) (leb→le (c / 64) 6 (v .1)) i * w .at (c / 8 % 8) (leb→le 1 (c / 8 % 8) (v .2)) (leb→le (c / 8 % 8) 6 (v .3)) i * last-mark (c % 8) (leb→le (c % 8) 6 (v .4)) i)
+          (λ i. w .at (c / 64) (leb→le 1 (c / 64) (v .0)) (leb→le (c / 64) 6 (v .1)) i * w .at (c / 8 % 8) (leb→le 1 (c / 8 % 8) (v .2)) (leb→le (c / 8 % 8) 6 (v .3)) i
+          * last-mark (c % 8) (leb→le (c % 8) 6 (v .4)) i)
           ∙ N.mul-assoc x y z ∙ sym (N.add-zero (x * (y * z)))
 
   part-mark : (c : ℕ) → T (goodPart c) → getD l (c / 8) 0 * getD l (c % 8) 0 ≡ lettersMark (partAt ls c)
@@ -221,12 +222,13 @@ module _ (ls l : List ℕ) (w : LettersMarked ls l) where
   -- a row that surely stands, times a term in shape with any coefficient that is not 0
   pub product-stands : (c : ℤ) (m : S.Term) (n : ℕ) → NonZero c → T (termInShape m) → (m .part ≡ []) ⊎ (partAt ls (n % 64) ≡ []) → Good n → RowStands l n
       → NonZero (tidy (timesTerm (withCoef c m) (rowTerm ls n)) .coef)
-  unfolding tidy timesTerm rowTerm signOf
+  unfolding tidy timesTerm rowTerm rowSign
   product-stands c m n h s p g r =
-      product-nonzero (c *ℤ signOf n) (factorsSign (m .factors ++ (x ++ y ++ z)) *ℤ exchangeSign (m .part ++ partAt ls (n % 64)))
-      (product-nonzero c (signOf n) h (unit-nonzero (signOf n) (sign-one n)))
+      product-nonzero (c *ℤ rowSign n) (factorsSign (m .factors ++ (x ++ y ++ z)) *ℤ exchangeSign (m .part ++ partAt ls (n % 64)))
+      (product-nonzero c (rowSign n) h (unit-nonzero (rowSign n) (sign-one n)))
       (product-nonzero (factorsSign (m .factors ++ (x ++ y ++ z))) (exchangeSign (m .part ++ partAt ls (n % 64)))
-      (both-stand (m .factors) (x ++ y ++ z) (own .0) (both-stand (x ++ y) z (both-stand x y (factor-stands (n / 16777216 % 512) (g .first) (r .first)) (factor-stands (n / 32768 % 512) (g .second) (r .second)))
+      (both-stand (m .factors) (x ++ y ++ z) (own .0)
+      (both-stand (x ++ y) z (both-stand x y (factor-stands (n / 16777216 % 512) (g .first) (r .first)) (factor-stands (n / 32768 % 512) (g .second) (r .second)))
       (factor-stands (n / 64 % 512) (g .third) (r .third))))
       (parts p))
     where

@@ -19,7 +19,7 @@ use Rattle.theory.specs.Rules.Table.{stepTerms-rule}
 use Rattle.terms.specs.Abstraction.{termOf}
 use Rattle.terms.proofs.Arrays.{mapped-behind}
 use Rattle.rules.specs.declared.steps.Step.{Step}
-use Rattle.rules.specs.Table.{ruleRows, signOf, rowTerm, rowTerms, firstRow, rowCount, RowsOf}
+use Rattle.rules.specs.Table.{ruleRows, rowSign, rowTerm, rowTerms, firstRow, rowCount, RowsOf}
 use Rattle.rules.specs.Steps.{stepOf, StepValid, StepFits}
 use Rattle.rules.proofs.Tied.{tied, rows-inside, row-next, row-given}
 use Rattle.rules.proofs.Taking.{rows, row-fits}
@@ -64,7 +64,9 @@ module _ (marks : List ℕ) (size : ℕ) (s : Step) (v : StepValid s) (six : len
 
     mark-is : (c : ℤ) → markOf (product c) ≡ h
     unfolding product
-    mark-is c = product-mark (s .letters) l w c (termOf (s .m)) (getD ruleRows (firstRow (s .rule) + i) 0) good ∙ sym (eh ∙ (λ j. productMark (ea j) (eb j) l (getD ruleRows (firstRow (s .rule) + i) 0)))
+    mark-is c =
+        product-mark (s .letters) l w c (termOf (s .m)) (getD ruleRows (firstRow (s .rule) + i) 0) good ∙ sym
+        (eh ∙ (λ j. productMark (ea j) (eb j) l (getD ruleRows (firstRow (s .rule) + i) 0)))
 
     products : (c : ℤ) → map (timesTerm (withCoef c (termOf (s .m)))) (take (i + 1) (rows s)) ≡ map (timesTerm (withCoef c (termOf (s .m)))) (take i (rows s)) ++ product c ∷ []
     unfolding product
@@ -77,12 +79,14 @@ module _ (marks : List ℕ) (size : ℕ) (s : Step) (v : StepValid s) (six : len
 
     ahead-as : (n : ℕ) (c : ℤ) (ts : List S.Term) → Ahead marks (set seen (markOf (product c)) 1) ts (map (timesTerm (withCoef c (termOf (s .m)))) (take i (rows s)) ++ product c ∷ []) n
         → Ahead marks (set seen h 1) ts (map (timesTerm (withCoef c (termOf (s .m)))) (take (i + 1) (rows s))) n
-    ahead-as n c ts q = subst (λ (ps : List S.Term). Ahead marks (set seen h 1) ts ps n) (sym (products c)) (subst (λ (k : ℕ). Ahead marks (set seen k 1) ts (map (timesTerm (withCoef c (termOf (s .m)))) (take i (rows s)) ++ product c ∷ []) n) (mark-is c) q)
+    ahead-as n c ts q =
+        subst (λ (ps : List S.Term). Ahead marks (set seen h 1) ts ps n) (sym (products c))
+        (subst (λ (k : ℕ). Ahead marks (set seen k 1) ts (map (timesTerm (withCoef c (termOf (s .m)))) (take i (rows s)) ++ product c ∷ []) n) (mark-is c) q)
 
     -- the size of M's coefficient
     product-size : (c : ℤ) → natAbs (product c .coef) ≡ natAbs c
     unfolding product timesTerm rowTerm
-    product-size c = natAbs-*ℤ c (signOf (getD ruleRows (firstRow (s .rule) + i) 0)) ∙ ap (λ (n : ℕ). natAbs c * n) (sign-one (getD ruleRows (firstRow (s .rule) + i) 0)) ∙ N.mul-one (natAbs c)
+    product-size c = natAbs-*ℤ c (rowSign (getD ruleRows (firstRow (s .rule) + i) 0)) ∙ ap (λ (n : ℕ). natAbs c * n) (sign-one (getD ruleRows (firstRow (s .rule) + i) 0)) ∙ N.mul-one (natAbs c)
 
     -- one more row
     pub passed-more : (r : ℕ) → Scored marks seen size h l (getD ruleRows (firstRow (s .rule) + i) 0) r → Passed marks size (set seen h 1) s (score + r) (i + 1)
@@ -146,7 +150,8 @@ module _ {w : StepMarks} {n : ℕ} {rows : List ℕ} {s : Step} (f : Fitting w n
   row-is = row-given (s .rule) rows i (f .rowsAre) row-here
 
   -- the mark of M times a row
-  pub row-marked : (h : ℕ) → h ≡ productMark (w .factors) (w .part) (w .letters) (getD rows i 0) → h ≡ markOf (timesTerm (termOf (s .m)) (rowTerm (s .letters) (getD ruleRows (firstRow (s .rule) + i) 0)))
+  pub row-marked : (h : ℕ) → h ≡ productMark (w .factors) (w .part) (w .letters) (getD rows i 0)
+      → h ≡ markOf (timesTerm (termOf (s .m)) (rowTerm (s .letters) (getD ruleRows (firstRow (s .rule) + i) 0)))
   row-marked h e =
       e ∙ (λ j. productMark (f .marked .factors j) (f .marked .part j) (w .letters) (row-is j))
       ∙ sym (product-mark (s .letters) (w .letters) (f .marked .letters) (termOf (s .m) .coef) (termOf (s .m)) (getD ruleRows (firstRow (s .rule) + i) 0)
@@ -166,7 +171,8 @@ module _ {marks : List ℕ} {size : ℕ} {w : StepMarks} {n : ℕ} {rows : List 
     where
       there : (s : Step) → Fitting w n rows s → Passed marks size (set seen h 1) s (score + r) (i + 1)
       there s f =
-          passed-more marks size s (f .valid) (f .six) (f .fits) (f .few) (w .letters) (f .marked .letters) (w .factors) (w .part) (f .marked .factors) (f .marked .part) seen long score i (a .each s f)
+          passed-more marks size s (f .valid) (f .six) (f .fits) (f .few) (w .letters) (f .marked .letters) (w .factors) (w .part) (f .marked .factors) (f .marked .part)
+          seen long score i (a .each s f)
           (row-here f inside) h (eh ∙ ap (productMark (w .factors) (w .part) (w .letters)) (row-is f inside)) r (subst (λ (k : ℕ). Scored marks seen size h (w .letters) k r) (row-is f inside) v)
 
   -- the score is as much as there are rows

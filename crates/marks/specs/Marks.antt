@@ -1,4 +1,5 @@
--- Marks of terms: numbers that depend on no order of letters and factors. A term whose mark no other has is like none of them. Assumes nothing.
+-- Marks of terms, what the field calls hashes: numbers that depend on no order of letters and factors. A term whose mark no other has is like none of them.
+-- Assumes nothing.
 use mathlib.Core.Path.{_≡_}
 use mathlib.Core.Logic.{_⊎_}
 use mathlib.Core.List.{List, [], _∷_, _++_}

@@ -1,14 +1,18 @@
-// The marks of letters, factors and terms: numbers that depend on no order of letters and factors. A term whose mark no other has is like none of them.
+// The marks of letters, factors and terms: what the field calls hashes, numbers that depend on no order of letters and factors.
+// A term whose mark no other has is like none of them.
 ghost use mathlib.Core.Path.{_≡_};
 ghost use mathlib.Core.List.{map};
-ghost use Prim.Native.Nat.{_≤_, _<_};
+ghost use Prim.Native.Nat.{ℕ, _≤_, _<_};
 ghost use lib.IntN.{natAbs};
 ghost use lib.ListN.{length, take};
+ghost use Rattle.theory.specs.Elements.{All};
 ghost use Rattle.terms.specs.Numbers.{lettersOf};
 ghost use Rattle.terms.specs.Abstraction.{partOf, termOf, formOf, Counted};
 ghost use Rattle.terms.specs.Valid.{FormValid};
 ghost use Rattle.marks.specs.Marks.{letterMark, lettersMark, factorsMark, markOf, sizeMark, Joint, Covering};
 use integers::size;
+use terms::factors::Factor;
+use terms::factors::letters_of;
 use terms::types::Form;
 use terms::types::Part;
 use terms::types::Term;
@@ -22,27 +26,29 @@ pub fn letter_mark(x: u32) -> u64
 
 // The mark of a factor.
 fn factor_mark(k: u32) -> u64
+    requires { ⌜ k < 16843008 ⌝ }
     ensures { λ r. ⌜ (r ≡ lettersMark (lettersOf k)) × (r ≤ 15625000) ⌝ }
 {
-    if k < 256 {
-        return letter_mark(k);
+    let f = letters_of(k);
+    match f {
+        Factor::Scalar(x) => letter_mark(x as u32),
+        Factor::Dot(x, y) => {
+            let a = letter_mark(x as u32);
+            let b = letter_mark(y as u32);
+            a * b
+        }
+        Factor::Triple(x, y, z) => {
+            let a = letter_mark(x as u32);
+            let b = letter_mark(y as u32);
+            let c = letter_mark(z as u32);
+            a * b * c
+        }
     }
-    if k < 65792 {
-        let j = k - 256;
-        let a = letter_mark(j / 256);
-        let b = letter_mark(j % 256);
-        return a * b;
-    }
-    let j = k - 65792;
-    let a = letter_mark(j / 65536);
-    let b = letter_mark(j / 256 % 256);
-    let c = letter_mark(j % 256);
-    a * b * c
 }
 
 // The mark of n factors.
 pub fn factors_mark(f: &[u32; 7], n: u8) -> u64
-    requires { ⌜ (n ≤ 7) × (length (now f) ≡ 7) ⌝ }
+    requires { ⌜ (n ≤ 7) × (length (now f) ≡ 7) × All (λ (k : ℕ). k < 16843008) (take n (now f)) ⌝ }
     ensures { λ r. ⌜ (r ≡ factorsMark (map lettersOf (take n (now (f .entry))))) × (r ≤ 109375000) ⌝ }
 {
     let mut a: u64 = 0;

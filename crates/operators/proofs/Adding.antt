@@ -23,19 +23,19 @@ use Rattle.integers.proofs.Machine.{back, back-is}
 use Rattle.terms.specs.declared.types.Term.{Term}
 use Rattle.terms.specs.declared.types.Form.{Form}
 use Rattle.terms.specs.Abstraction.{termOf, formOf, Counted}
-use Rattle.terms.specs.Valid.{FormValid}
+use Rattle.terms.specs.Valid.{FormValid, Gives}
 use Rattle.terms.proofs.Arrays.{noTerm, stored-behind, mapped-behind}
 use Rattle.gathering.specs.declared.Sum.{Sum}
-use Rattle.gathering.specs.declared.Closed.{Closed}
+use Rattle.terms.specs.declared.types.Outcome.{Outcome}
 use Rattle.gathering.specs.Sums.{sumOf}
-use Rattle.gathering.specs.Closing.{ClosedAs, WorkedAs}
+use Rattle.gathering.specs.Closing.{ClosedAs}
 use Rattle.operators.specs.Sums.{Negated}
 use Rattle.gathering.proofs.Closing.{refuses, works-as, closes}
 
 -- ════ the sum
 
 -- unlike kinds
-pub sum-six : (f g : Form) (r : Closed) → (f .kind ≡ g .kind → ⊥) → r .refusal ≡ 6 → WorkedAs (sumForms (formOf f) (formOf g)) r
+pub sum-six : (f g : Form) (r : Outcome) → (f .kind ≡ g .kind → ⊥) → r .refusal ≡ 6 → Gives (sumForms (formOf f) (formOf g)) r
 unfolding sumForms formOf
 sum-six f g r h e = refuses (sumForms (formOf f) (formOf g)) r 6 e (λ z. omega arith) (rw (ne-eqb (f .kind) (g .kind) h))
 
@@ -48,11 +48,11 @@ module _ (f g : Form) (v : FormValid f) (w : FormValid g) (e : f .kind ≡ g .ki
   sum-is = rw (eq-eqb (f .kind) (g .kind) e)
 
   -- one kind: what is gathered is refused
-  pub sum-refused : (r : Closed) (n : ℕ) → r .refusal ≡ n → (n ≡ 0 → ⊥) → within (f .kind) (gatherInto (formOf f .terms) (formOf g .terms)) ≡ refused n → WorkedAs (sumForms (formOf f) (formOf g)) r
+  pub sum-refused : (r : Outcome) (n : ℕ) → r .refusal ≡ n → (n ≡ 0 → ⊥) → within (f .kind) (gatherInto (formOf f .terms) (formOf g .terms)) ≡ refused n → Gives (sumForms (formOf f) (formOf g)) r
   sum-refused r n h z p = refuses (sumForms (formOf f) (formOf g)) r n h z (sym sum-is ∙ ap (within (f .kind)) (sym gathered) ∙ p)
 
   -- or closed
-  pub sum-closed : (q : Sum) (r : Closed) → sumOf q ≡ gatherInto (formOf f .terms) (formOf g .terms) → ClosedAs q (f .kind) r → WorkedAs (sumForms (formOf f) (formOf g)) r
+  pub sum-closed : (q : Sum) (r : Outcome) → sumOf q ≡ gatherInto (formOf f .terms) (formOf g .terms) → ClosedAs q (f .kind) r → Gives (sumForms (formOf f) (formOf g)) r
   unfolding formOf
   sum-closed q r b c =
       works-as (within (f .kind) (gather (formOf f .terms ++ formOf g .terms))) (sumForms (formOf f) (formOf g)) r sum-is
@@ -101,5 +101,5 @@ all-turned f g v k c e =
     }
 
 -- the difference is the sum with the negation
-pub difference-worked : (f g h : Form) (r : Closed) → Negated g h → WorkedAs (sumForms (formOf f) (formOf h)) r → WorkedAs (sumForms (formOf f) (negateForm (formOf g))) r
+pub difference-worked : (f g h : Form) (r : Outcome) → Negated g h → Gives (sumForms (formOf f) (formOf h)) r → Gives (sumForms (formOf f) (negateForm (formOf g))) r
 difference-worked f g h r n w = works-as (sumForms (formOf f) (formOf h)) (sumForms (formOf f) (negateForm (formOf g))) r (ap (sumForms (formOf f)) (n .is)) w

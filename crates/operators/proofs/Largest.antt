@@ -29,7 +29,7 @@ use Rattle.terms.specs.Abstraction.{partOf, termOf, formOf}
 use Rattle.terms.specs.Used.{UsedBy}
 use Rattle.terms.specs.Valid.{FormValid}
 use Rattle.terms.proofs.Arrays.{noTerm}
-use Rattle.records.specs.Tested.{testOf}
+use Rattle.letters.specs.Tested.{testOf}
 use Rattle.operators.specs.declared.limits.Most.{Most}
 use Rattle.operators.proofs.Places.{form-at}
 use Rattle.operators.specs.Limits.{testPairs, larger, coefSize, largest, MostWith, MostOf, MostSmall}
@@ -166,8 +166,10 @@ module _ (ts us : List S.Term) (h : All Limited ts) (k : All Limited us) where
   unfolding pairLettersFit
   letters-by-most =
       all-both (λ (p : S.Term × S.Term). leb (vectorLetters (p .0) + vectorLetters (p .1)) 6) (λ (p : S.Term × S.Term). leb (scalarLetters (p .0) + scalarLetters (p .1)) 2) (pairsOf ts us)
-      ∙ (λ i. all-pairs _+_ (λ a b c d p q. omega arith) 6 vectorLetters ts us (all-implies Limited (λ (t : S.Term). vectorLetters t + 0 ≤ 6) (λ t l. omega (arith, l .vectors)) ts h) (omega (arith, most-vectors)) i
-      && all-pairs _+_ (λ a b c d p q. omega arith) 2 scalarLetters ts us (all-implies Limited (λ (t : S.Term). scalarLetters t + 0 ≤ 2) (λ t l. omega (arith, l .scalars)) ts h) (omega (arith, most-scalars)) i)
+      ∙ (λ i. all-pairs _+_ (λ a b c d p q. omega arith) 6 vectorLetters ts us
+      (all-implies Limited (λ (t : S.Term). vectorLetters t + 0 ≤ 6) (λ t l. omega (arith, l .vectors)) ts h) (omega (arith, most-vectors)) i
+      && all-pairs _+_ (λ a b c d p q. omega arith) 2 scalarLetters ts us
+      (all-implies Limited (λ (t : S.Term). scalarLetters t + 0 ≤ 2) (λ t l. omega (arith, l .scalars)) ts h) (omega (arith, most-scalars)) i)
 
   -- 9 by the largest coefficients
   coefs-by-most : all pairCoefFits (pairsOf ts us) ≡ leb (largest coefSize ts * largest coefSize us) 2147483647
@@ -223,7 +225,8 @@ pub size-asks : (z : ℤ) → natAbs z ≤ 2147483647 → natAbs (back z) < 2 ^ 
 size-asks z h = rw (back-is (sfits-natAbs z (omega arith))) (omega arith)
 
 -- what the functions found of one term
-pub with-most : (t : Term) (m r : Most) (u : Used) (p c : ℕ) → natAbs (t .coef) ≤ 2147483647 → UsedBy (map lettersOf (take (t .«factor_count») (t .factors))) u → p ≡ length (partOf (t .part)) → c ≡ natAbs (back (t .coef))
+pub with-most : (t : Term) (m r : Most) (u : Used) (p c : ℕ) → natAbs (t .coef) ≤ 2147483647 → UsedBy (map lettersOf (take (t .«factor_count») (t .factors))) u
+    → p ≡ length (partOf (t .part)) → c ≡ natAbs (back (t .coef))
     → r .vectors ≡ larger (u .vectors + p) (m .vectors) → r .scalars ≡ larger (u .scalars) (m .scalars) → r .size ≡ larger c (m .size) → MostWith (termOf t) m r
 unfolding termOf vectorLetters scalarLetters coefSize
 with-most t m r u p c small w e f v s z = record {

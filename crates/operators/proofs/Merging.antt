@@ -17,17 +17,17 @@ use Rattle.specification.specs.Terms.{isZero, keep, insert, gatherInto, tidy, w
 use Rattle.specification.specs.Terms as S
 use Rattle.theory.specs.Elements.{All, all-append}
 use Rattle.theory.specs.Order.{View, vlt, veq, vgt, Monomial, monomial, LtMonomial, monomial-laws, compareTerms-monomial, compares-less, compares-equal, compares-more, term-view, compareTerms-eq}
-use Rattle.theory.specs.Gathering.Coefficients.{Below, Ascending, below-trans}
+use Rattle.theory.specs.Gathering.Coefficients.{BelowAll, Ascending, below-trans}
 use Rattle.theory.specs.Gathering.Gathered.{Gathered}
 use Rattle.theory.specs.Shape.Forms.{form-gathered}
 use Rattle.terms.specs.declared.types.Term.{Term}
 use Rattle.terms.specs.declared.types.Form.{Form}
-use Rattle.terms.specs.Abstraction.{termOf, formOf, Counted}
+use Rattle.terms.specs.Abstraction.{termOf, formOf, Counted, outcomeOf}
 use Rattle.terms.specs.Valid.{FormValid}
 use Rattle.terms.proofs.Arrays.{noTerm, stored-behind, mapped-behind}
 use Rattle.gathering.specs.declared.Sum.{Sum}
 use Rattle.gathering.specs.Sums.{held, sumOf}
-use Rattle.gathering.specs.Closing.{closedOf, ClosedAs}
+use Rattle.gathering.specs.Closing.{ClosedAs}
 use Rattle.operators.specs.Sums.{Capped, nextOf}
 use Rattle.operators.proofs.Largest.{form-size}
 use Rattle.operators.proofs.Places.{form-length, form-rest, form-counted}
@@ -71,7 +71,7 @@ insert-behind t u us h =
     (compareTerms-monomial t u ∙ compares-more monomial-laws (monomial t) (monomial u) h)
 
 -- what comes before all of a list stays in front of it
-pub into-behind : (u : S.Term) (us ts : List S.Term) → Gathered ts → Below (monomial u) ts → gatherInto (u ∷ us) ts ≡ u ∷ gatherInto us ts
+pub into-behind : (u : S.Term) (us ts : List S.Term) → Gathered ts → BelowAll (monomial u) ts → gatherInto (u ∷ us) ts ≡ u ∷ gatherInto us ts
 unfolding gatherInto
 into-behind u us [] g b = refl
 into-behind u us (t ∷ ts) g b =
@@ -79,7 +79,7 @@ into-behind u us (t ∷ ts) g b =
     ∙ into-behind u (insert t us) ts (gathered-drop 1 (t ∷ ts) g) (below-trans (monomial u) (monomial t) ts b (g .ascending .0))
     ∙ ap (λ (z : S.Term). u ∷ gatherInto (insert z us) ts) (sym (g .tidied .0))
 
-insert-front : (t : S.Term) (us : List S.Term) → NonZero (t .coef) → Below (monomial t) us → insert t us ≡ t ∷ us
+insert-front : (t : S.Term) (us : List S.Term) → NonZero (t .coef) → BelowAll (monomial t) us → insert t us ≡ t ∷ us
 unfolding insert
 insert-front t [] n b = keep-kept t [] n
 insert-front t (u ∷ us) n b =
@@ -87,7 +87,7 @@ insert-front t (u ∷ us) n b =
     (compareTerms-monomial t u ∙ compares-less monomial-laws (monomial t) (monomial u) b) ∙ keep-kept t (u ∷ us) n
 
 -- the first of the terms brought in, where it comes before all that stand
-pub into-front : (t : S.Term) (us ts : List S.Term) → Gathered (t ∷ ts) → Below (monomial t) us → gatherInto us (t ∷ ts) ≡ t ∷ gatherInto us ts
+pub into-front : (t : S.Term) (us ts : List S.Term) → Gathered (t ∷ ts) → BelowAll (monomial t) us → gatherInto us (t ∷ ts) ≡ t ∷ gatherInto us ts
 unfolding gatherInto
 into-front t us ts g b =
     ap (λ (d : List S.Term). gatherInto d ts) (ap (λ (z : S.Term). insert z us) (g .tidied .0) ∙ insert-front t us (g .nonzero .0) b)
@@ -113,7 +113,7 @@ module _ (x y : S.Term) (xs ys : List S.Term) (g : Gathered (y ∷ ys)) (e : mon
   unfolding keep
   like-added h =
       into-like x y xs ys (g .tidied .0) e ∙ rw (← q, h)
-      (into-behind (withCoef z x) xs ys (gathered-drop 1 (y ∷ ys) g) (subst (λ (m : _). Below m ys) e (g .ascending .0)))
+      (into-behind (withCoef z x) xs ys (gathered-drop 1 (y ∷ ys) g) (subst (λ (m : _). BelowAll m ys) e (g .ascending .0)))
 
 -- ════ which comes next
 
@@ -242,16 +242,16 @@ module _ (f : Form) (v : FormValid f) (h : f .count ≤ length (f .terms)) (i : 
   rest-gathered = gathered-drop i (formOf f .terms) (form-gathered (formOf f) (v .inShape))
 
   -- nothing stands at the end
-  below-end : (m : Monomial) → f .count ≤ i → Below m (drop i (formOf f .terms))
-  below-end m l = let e : length (formOf f .terms) ≤ i = omega (arith, form-length f h) in subst (Below m) (sym (drop-of-length-le (formOf f .terms) e)) tt
+  below-end : (m : Monomial) → f .count ≤ i → BelowAll m (drop i (formOf f .terms))
+  below-end m l = let e : length (formOf f .terms) ≤ i = omega (arith, form-length f h) in subst (BelowAll m) (sym (drop-of-length-le (formOf f .terms) e)) tt
 
   module _ (a : ℕ) (p : Capped i a) (t : Term) (et : t ≡ getD (f .terms) a noTerm) (l : i < f .count) where
     -- the term at a place
     at-place : drop i (formOf f .terms) ≡ termOf t ∷ drop (i + 1) (formOf f .terms)
     at-place = let b : i < 48 = omega (arith, v .few) in rw (et, p .is b) (form-rest f i h l)
 
-    below-place : (m : Monomial) → LtMonomial m (monomial (termOf t)) → Below m (drop i (formOf f .terms))
-    below-place m q = subst (Below m) (sym at-place) q
+    below-place : (m : Monomial) → LtMonomial m (monomial (termOf t)) → BelowAll m (drop i (formOf f .terms))
+    below-place m q = subst (BelowAll m) (sym at-place) q
 
     -- is a valid one
     pub place-counted : Counted t
@@ -278,7 +278,8 @@ module _ (f g : Form) (vf : FormValid f) (vg : FormValid g) (hf : f .count ≤ l
       → (i < f .count) × (gatherInto (drop i (formOf f .terms)) (drop j (formOf g .terms)) ≡ x ∷ gatherInto (drop (i + 1) (formOf f .terms)) (drop j (formOf g .terms)))
   left-turn l n = go (left-next x y (ltb i (f .count)) (ltb j (g .count)) (sym e ∙ n))
     where
-      turn : (k : i < f .count) → Below (monomial x) (drop j (formOf g .terms)) → gatherInto (drop i (formOf f .terms)) (drop j (formOf g .terms)) ≡ x ∷ gatherInto (drop (i + 1) (formOf f .terms)) (drop j (formOf g .terms))
+      turn : (k : i < f .count) → BelowAll (monomial x) (drop j (formOf g .terms))
+          → gatherInto (drop i (formOf f .terms)) (drop j (formOf g .terms)) ≡ x ∷ gatherInto (drop (i + 1) (formOf f .terms)) (drop j (formOf g .terms))
       turn k z =
           ap (λ (d : List S.Term). gatherInto d (drop j (formOf g .terms))) (at-place f vf hf i a p t et k)
           ∙ into-behind x (drop (i + 1) (formOf f .terms)) (drop j (formOf g .terms)) (rest-gathered g vg hg j) z
@@ -293,12 +294,13 @@ module _ (f g : Form) (vf : FormValid f) (vg : FormValid g) (hf : f .count ≤ l
       → (j < g .count) × (gatherInto (drop i (formOf f .terms)) (drop j (formOf g .terms)) ≡ y ∷ gatherInto (drop i (formOf f .terms)) (drop (j + 1) (formOf g .terms)))
   right-turn n = let w = right-next x y (ltb i (f .count)) (ltb j (g .count)) (sym e ∙ n) in let k = ltb-true j (g .count) (w .0) in (k, turn k (go (w .1)))
     where
-      turn : (k : j < g .count) → Below (monomial y) (drop i (formOf f .terms)) → gatherInto (drop i (formOf f .terms)) (drop j (formOf g .terms)) ≡ y ∷ gatherInto (drop i (formOf f .terms)) (drop (j + 1) (formOf g .terms))
+      turn : (k : j < g .count) → BelowAll (monomial y) (drop i (formOf f .terms))
+          → gatherInto (drop i (formOf f .terms)) (drop j (formOf g .terms)) ≡ y ∷ gatherInto (drop i (formOf f .terms)) (drop (j + 1) (formOf g .terms))
       turn k z =
           ap (gatherInto (drop i (formOf f .terms))) (at-place g vg hg j b q u eu k)
           ∙ into-front y (drop i (formOf f .terms)) (drop (j + 1) (formOf g .terms)) (subst Gathered (at-place g vg hg j b q u eu k) (rest-gathered g vg hg j)) z
 
-      go : (ltb i (f .count) ≡ false) ⊎ ((ltb i (f .count) ≡ true) × LtMonomial (monomial y) (monomial x)) → Below (monomial y) (drop i (formOf f .terms))
+      go : (ltb i (f .count) ≡ false) ⊎ ((ltb i (f .count) ≡ true) × LtMonomial (monomial y) (monomial x)) → BelowAll (monomial y) (drop i (formOf f .terms))
       go (inl z) = below-end f vf hf i (monomial y) (omega (arith, ltb-false i (f .count) z))
       go (inr z) = below-place f vf hf i a p t et (ltb-true i (f .count) (z .0)) (monomial y) (z .1)
 
@@ -373,7 +375,7 @@ module _ (f g : Form) (hf : f .count ≤ length (f .terms)) (hg : g .count ≤ l
 
   -- and the form's
   pub merged-closed : count ≤ 48 → ClosedAs whole (f .kind) (record { refusal = 0; form = record { kind = f .kind; count = count; terms = ts } })
-  unfolding closedOf formOf within sumOf held
+  unfolding outcomeOf formOf within sumOf held
   merged-closed h =
       let n : length (map termOf (w .made)) ≤ 48 = omega (arith, length-map (w .made) termOf, w .many) in
       record {

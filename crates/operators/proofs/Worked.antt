@@ -20,13 +20,13 @@ use Rattle.theory.specs.Reduction.Products.{product-fits}
 use Rattle.theory.specs.Reduction.Operators.{timesLeft-follows, timesRight-follows, dot-follows, wedge-follows}
 use Rattle.terms.specs.declared.types.Form.{Form}
 use Rattle.terms.specs.Abstraction.{formOf}
-use Rattle.terms.specs.Valid.{FormValid}
+use Rattle.terms.specs.Valid.{FormValid, Gives}
 use Rattle.gathering.specs.declared.Sum.{Sum}
-use Rattle.gathering.specs.declared.Closed.{Closed}
-use Rattle.gathering.specs.Closing.{ClosedAs, WorkedAs}
+use Rattle.terms.specs.declared.types.Outcome.{Outcome}
+use Rattle.gathering.specs.Closing.{ClosedAs}
 use Rattle.gathering.proofs.Closing.{refuses, works-as, closes, worked-given, worked-refused}
-use Rattle.records.specs.Tested.{testOf}
-use Rattle.records.proofs.LetterTests.{test-passed, test-refused}
+use Rattle.letters.specs.Tested.{testOf}
+use Rattle.letters.proofs.LetterTests.{test-passed, test-refused}
 use Rattle.operators.specs.declared.parts.Operation.{Operation}
 use Rattle.operators.specs.declared.parts.Operation.the-variants.{Times, Dot, Wedge}
 use Rattle.operators.specs.Parts.{partsOf}
@@ -52,8 +52,8 @@ product-tested kind parts f g =
 
 module _ (op : Operation) (kind : ℕ) (f g : Form) where
   -- a pair is refused
-  pub pairs-refused : (n : ℕ) (r : Closed) → testOf n ≡ testPairs (formOf f .terms) (formOf g .terms) → (n ≡ 0 → ⊥) → r .refusal ≡ n
-      → WorkedAs (product kind (partsOf op) (formOf f) (formOf g)) r
+  pub pairs-refused : (n : ℕ) (r : Outcome) → testOf n ≡ testPairs (formOf f .terms) (formOf g .terms) → (n ≡ 0 → ⊥) → r .refusal ≡ n
+      → Gives (product kind (partsOf op) (formOf f) (formOf g)) r
   pairs-refused n r e h p =
       refuses (product kind (partsOf op) (formOf f) (formOf g)) r n p h
       (product-tested kind (partsOf op) (formOf f) (formOf g)
@@ -64,7 +64,9 @@ module _ (op : Operation) (kind : ℕ) (f g : Form) where
   unfolding testPairs
   pairs-fit n e z hf hg k =
       let p : testPairs (formOf f .terms) (formOf g .terms) ≡ given tt = sym e ∙ test-passed n z in
-      let a = required (leb (length (formOf f .terms) * length (formOf g .terms)) 48) 7 (require (all pairLettersFit (pairsOf (formOf f .terms) (formOf g .terms))) 8 >> require (all pairCoefFits (pairsOf (formOf f .terms) (formOf g .terms))) 9) tt p in
+      let a = required (leb (length (formOf f .terms) * length (formOf g .terms)) 48) 7
+      (require (all pairLettersFit (pairsOf (formOf f .terms) (formOf g .terms))) 8 >> require (all pairCoefFits (pairsOf (formOf f .terms) (formOf g .terms))) 9) tt
+      p in
       let b = required (all pairLettersFit (pairsOf (formOf f .terms) (formOf g .terms))) 8 (require (all pairCoefFits (pairsOf (formOf f .terms) (formOf g .terms))) 9) tt (a .1) in
       record {
         kind = kind;
@@ -99,8 +101,9 @@ module _ (op : Operation) (kind : ℕ) (f g : Form) where
   kind-small Wedge k v w = omega (arith, k .2)
 
   -- what closing them gives is the product
-  pub pairs-closed : (n : ℕ) (s : Sum) (r : Closed) → testOf n ≡ testPairs (formOf f .terms) (formOf g .terms) → n ≡ 0 → Kinds op kind f g → FormValid f → FormValid g → PairsFit op f g → PairsBrought op f g s
-      → ClosedAs s kind r → WorkedAs (product kind (partsOf op) (formOf f) (formOf g)) r
+  pub pairs-closed : (n : ℕ) (s : Sum) (r : Outcome) → testOf n ≡ testPairs (formOf f .terms) (formOf g .terms) → n ≡ 0 → Kinds op kind f g → FormValid f → FormValid g
+      → PairsFit op f g → PairsBrought op f g s
+      → ClosedAs s kind r → Gives (product kind (partsOf op) (formOf f) (formOf g)) r
   pairs-closed n s r e z k v w p b c =
       works-as (within kind (gather (flatMap (pairTerms (partsOf op)) (pairsOf (formOf f .terms) (formOf g .terms))))) (product kind (partsOf op) (formOf f) (formOf g)) r
       (sym (product-tested kind (partsOf op) (formOf f) (formOf g)
@@ -109,28 +112,28 @@ module _ (op : Operation) (kind : ℕ) (f g : Form) where
 
 -- ════ the kinds
 
-module _ (f g : Form) (r : Closed) where
+module _ (f g : Form) (r : Outcome) where
   -- a scalar times anything
-  pub times-left : f .kind ≡ 0 → WorkedAs (product (g .kind) (partsOf Times) (formOf f) (formOf g)) r → WorkedAs (timesForms (formOf f) (formOf g)) r
+  pub times-left : f .kind ≡ 0 → Gives (product (g .kind) (partsOf Times) (formOf f) (formOf g)) r → Gives (timesForms (formOf f) (formOf g)) r
   unfolding timesForms partsOf formOf
   times-left e w = works-as _ _ r (rw (eq-eqb (f .kind) 0 e)) w
 
   -- anything times a scalar
-  pub times-right : (f .kind ≡ 0 → ⊥) → g .kind ≡ 0 → WorkedAs (product (f .kind) (partsOf Times) (formOf f) (formOf g)) r → WorkedAs (timesForms (formOf f) (formOf g)) r
+  pub times-right : (f .kind ≡ 0 → ⊥) → g .kind ≡ 0 → Gives (product (f .kind) (partsOf Times) (formOf f) (formOf g)) r → Gives (timesForms (formOf f) (formOf g)) r
   unfolding timesForms partsOf formOf
   times-right h e w = works-as _ _ r (rw (ne-eqb (f .kind) 0 h, eq-eqb (g .kind) 0 e)) w
 
   -- neither is a scalar
-  pub times-six : (f .kind ≡ 0 → ⊥) → (g .kind ≡ 0 → ⊥) → r .refusal ≡ 6 → WorkedAs (timesForms (formOf f) (formOf g)) r
+  pub times-six : (f .kind ≡ 0 → ⊥) → (g .kind ≡ 0 → ⊥) → r .refusal ≡ 6 → Gives (timesForms (formOf f) (formOf g)) r
   unfolding timesForms formOf
   times-six h k e = refuses (timesForms (formOf f) (formOf g)) r 6 e (λ z. omega arith) (rw (ne-eqb (f .kind) 0 h, ne-eqb (g .kind) 0 k))
 
   -- two vectors
-  pub dot-vectors : f .kind ≡ 1 → g .kind ≡ 1 → WorkedAs (product scalar (partsOf Dot) (formOf f) (formOf g)) r → WorkedAs (dotForms (formOf f) (formOf g)) r
+  pub dot-vectors : f .kind ≡ 1 → g .kind ≡ 1 → Gives (product scalar (partsOf Dot) (formOf f) (formOf g)) r → Gives (dotForms (formOf f) (formOf g)) r
   unfolding dotForms partsOf formOf
   dot-vectors e h w = works-as _ _ r (rw (eq-eqb (f .kind) 1 e, eq-eqb (g .kind) 1 h)) w
 
-  pub wedge-vectors : f .kind ≡ 1 → g .kind ≡ 1 → WorkedAs (product vector (partsOf Wedge) (formOf f) (formOf g)) r → WorkedAs (wedgeForms (formOf f) (formOf g)) r
+  pub wedge-vectors : f .kind ≡ 1 → g .kind ≡ 1 → Gives (product vector (partsOf Wedge) (formOf f) (formOf g)) r → Gives (wedgeForms (formOf f) (formOf g)) r
   unfolding wedgeForms partsOf formOf
   wedge-vectors e h w = works-as _ _ r (rw (eq-eqb (f .kind) 1 e, eq-eqb (g .kind) 1 h)) w
 
@@ -139,11 +142,11 @@ module _ (f g : Form) (r : Closed) where
   no-vectors (inl h) = rw (ne-eqb (f .kind) 1 h)
   no-vectors (inr h) = rw (ne-eqb (g .kind) 1 h) (and-false (eqb (f .kind) 1))
 
-  pub dot-six : (f .kind ≡ 1 → ⊥) ⊎ (g .kind ≡ 1 → ⊥) → r .refusal ≡ 6 → WorkedAs (dotForms (formOf f) (formOf g)) r
+  pub dot-six : (f .kind ≡ 1 → ⊥) ⊎ (g .kind ≡ 1 → ⊥) → r .refusal ≡ 6 → Gives (dotForms (formOf f) (formOf g)) r
   unfolding dotForms formOf
   dot-six h e = refuses (dotForms (formOf f) (formOf g)) r 6 e (λ z. omega arith) (rw (no-vectors h))
 
-  pub wedge-six : (f .kind ≡ 1 → ⊥) ⊎ (g .kind ≡ 1 → ⊥) → r .refusal ≡ 6 → WorkedAs (wedgeForms (formOf f) (formOf g)) r
+  pub wedge-six : (f .kind ≡ 1 → ⊥) ⊎ (g .kind ≡ 1 → ⊥) → r .refusal ≡ 6 → Gives (wedgeForms (formOf f) (formOf g)) r
   unfolding wedgeForms formOf
   wedge-six h e = refuses (wedgeForms (formOf f) (formOf g)) r 6 e (λ z. omega arith) (rw (no-vectors h))
 
@@ -151,7 +154,7 @@ module _ (f g : Form) (r : Closed) where
 
 module _ (f g h : Form) where
   -- the third is no vector
-  pub triple-six : (r : Closed) → (h .kind ≡ 1 → ⊥) → r .refusal ≡ 6 → WorkedAs (tripleForms (formOf f) (formOf g) (formOf h)) r
+  pub triple-six : (r : Outcome) → (h .kind ≡ 1 → ⊥) → r .refusal ≡ 6 → Gives (tripleForms (formOf f) (formOf g) (formOf h)) r
   unfolding tripleForms formOf
   triple-six r n e = refuses (tripleForms (formOf f) (formOf g) (formOf h)) r 6 e (λ z. omega arith) (rw (ne-eqb (h .kind) 1 n, and-false (eqb (f .kind) 1 && eqb (g .kind) 1)))
 
@@ -165,14 +168,14 @@ module _ (f g h : Form) where
       again false x k = refl
 
   -- the wedge is refused
-  pub triple-refused : (w : Closed) → h .kind ≡ 1 → WorkedAs (wedgeForms (formOf f) (formOf g)) w → (w .refusal ≡ 0 → ⊥) → WorkedAs (tripleForms (formOf f) (formOf g) (formOf h)) w
+  pub triple-refused : (w : Outcome) → h .kind ≡ 1 → Gives (wedgeForms (formOf f) (formOf g)) w → (w .refusal ≡ 0 → ⊥) → Gives (tripleForms (formOf f) (formOf g) (formOf h)) w
   triple-refused w e x n =
       refuses (tripleForms (formOf f) (formOf g) (formOf h)) w (w .refusal) refl n
       (triple-is e ∙ ap (λ (r : Result S.Form). r >>= λ fg. dotForms fg (formOf h)) (worked-refused (wedgeForms (formOf f) (formOf g)) w x n))
 
   -- the dot follows
-  pub triple-dot : (w r : Closed) → h .kind ≡ 1 → WorkedAs (wedgeForms (formOf f) (formOf g)) w → w .refusal ≡ 0 → WorkedAs (dotForms (formOf (w .form)) (formOf h)) r
-      → WorkedAs (tripleForms (formOf f) (formOf g) (formOf h)) r
+  pub triple-dot : (w r : Outcome) → h .kind ≡ 1 → Gives (wedgeForms (formOf f) (formOf g)) w → w .refusal ≡ 0 → Gives (dotForms (formOf (w .form)) (formOf h)) r
+      → Gives (tripleForms (formOf f) (formOf g) (formOf h)) r
   triple-dot w r e x z y =
       works-as (dotForms (formOf (w .form)) (formOf h)) (tripleForms (formOf f) (formOf g) (formOf h)) r
       (sym (triple-is e ∙ ap (λ (r : Result S.Form). r >>= λ fg. dotForms fg (formOf h)) (worked-given (wedgeForms (formOf f) (formOf g)) w x z))) y

@@ -1,12 +1,12 @@
 // An operator's answer that is a refusal.
 ghost use mathlib.Core.Path.{_≡_};
-use gathering::Closed;
 use terms::types::Form;
+use terms::types::Outcome;
 use terms::types::Part;
 use terms::types::Term;
 
 // A refusal with its number; the form beside it has no terms and counts for nothing.
-pub fn refuse(n: u8) -> Closed
+pub fn refuse(n: u8) -> Outcome
     ensures { λ r. ⌜ r .refusal ≡ n ⌝ }
 {
     let p = Part::Nothing;
@@ -23,7 +23,7 @@ pub fn refuse(n: u8) -> Closed
         count: 0,
         terms: ts,
     };
-    Closed {
+    Outcome {
         refusal: n,
         form: g,
     }

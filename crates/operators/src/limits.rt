@@ -6,7 +6,7 @@ ghost use lib.Dec.{leb};
 ghost use lib.IntN.{natAbs};
 ghost use Rattle.terms.specs.Abstraction.{termOf, formOf, Counted};
 ghost use Rattle.terms.specs.Valid.{FormValid};
-ghost use Rattle.records.specs.Tested.{testOf};
+ghost use Rattle.letters.specs.Tested.{testOf};
 ghost use Rattle.operators.specs.Limits.{larger, MostWith, MostOf, MostSmall, testPairs};
 use integers::size;
 use terms::shape::letters_used;

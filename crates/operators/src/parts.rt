@@ -3,7 +3,7 @@ ghost use mathlib.Core.Path.{_≡_};
 ghost use mathlib.Core.Logic.{_⊎_};
 ghost use mathlib.Core.List.{[], _∷_};
 ghost use Prim.Native.Nat.{_≤_, _<_};
-ghost use lib.IntN.{pos, negsuc, natAbs};
+ghost use lib.IntN.{natAbs};
 ghost use Rattle.specification.specs.Terms.{plus, minus, dotOf, tripleOf};
 ghost use Rattle.specification.specs.Reduction.{timesParts, dotParts, wedgeParts};
 ghost use Rattle.terms.specs.Numbers.{lettersOf};

@@ -1,26 +1,22 @@
 // Products of forms: each left term with each right term, all pairs tested first, then gathered.
-ghost use mathlib.Core.Path.{_≡_};
-ghost use mathlib.Core.Logic.{_⊎_};
-ghost use mathlib.Core.List.{[]};
-ghost use Prim.Native.Nat.{_≤_, _<_};
+ghost use Prim.Native.Nat.{_<_};
 ghost use Rattle.specification.specs.Letters.{scalar, vector};
 ghost use Rattle.specification.specs.Reduction.{product, timesForms, dotForms, wedgeForms, tripleForms};
-ghost use Rattle.terms.specs.Abstraction.{termOf, formOf, Counted};
-ghost use Rattle.terms.specs.Valid.{FormValid};
+ghost use Rattle.terms.specs.Abstraction.{formOf, Counted};
+ghost use Rattle.terms.specs.Valid.{FormValid, Gives};
 ghost use Rattle.operators.specs.Parts.{partsOf};
-ghost use Rattle.gathering.specs.Closing.{WorkedAs};
 ghost use Rattle.operators.specs.Products.{Scalars, Pair, PairMade, Kinds, PairsFit, PairsBrought};
 use crate::limits::test_pairs;
 use crate::parts::Few;
 use crate::parts::Operation;
 use crate::parts::parts;
-use gathering::Closed;
 use gathering::Sum;
 use gathering::bring_all;
 use gathering::close;
 use gathering::empty_sum;
 use terms::tidy::join;
 use terms::types::Form;
+use terms::types::Outcome;
 use terms::types::Part;
 use terms::types::Term;
 
@@ -101,13 +97,13 @@ fn bring_pairs(op: Operation, f: Form, g: Form) -> Sum
 }
 
 // The product of two forms: 7, 8 and 9 of the pairs, then 9 and 10 of what is gathered.
-fn multiply(op: Operation, kind: u8, f: Form, g: Form) -> Closed
+fn multiply(op: Operation, kind: u8, f: Form, g: Form) -> Outcome
     requires { ⌜ FormValid f × FormValid g × Kinds op kind f g ⌝ }
-    ensures { λ r. ⌜ WorkedAs (product kind (partsOf op) (formOf f) (formOf g)) r ⌝ }
+    ensures { λ r. ⌜ Gives (product kind (partsOf op) (formOf f) (formOf g)) r ⌝ }
 {
     let n = test_pairs(f, g);
     if n != 0 {
-        return Closed {
+        return Outcome {
             refusal: n,
             form: f,
         };
@@ -117,9 +113,9 @@ fn multiply(op: Operation, kind: u8, f: Form, g: Form) -> Closed
 }
 
 // A product of which at least one operand is a scalar.
-pub fn times(f: Form, g: Form) -> Closed
+pub fn times(f: Form, g: Form) -> Outcome
     requires { ⌜ FormValid f × FormValid g ⌝ }
-    ensures { λ r. ⌜ WorkedAs (timesForms (formOf f) (formOf g)) r ⌝ }
+    ensures { λ r. ⌜ Gives (timesForms (formOf f) (formOf g)) r ⌝ }
 {
     let a = f.kind;
     let b = g.kind;
@@ -129,25 +125,25 @@ pub fn times(f: Form, g: Form) -> Closed
     if b == 0 {
         return multiply(Operation::Times, a, f, g);
     }
-    Closed {
+    Outcome {
         refusal: 6,
         form: f,
     }
 }
 
 // The dot of two vectors.
-pub fn dot(f: Form, g: Form) -> Closed
+pub fn dot(f: Form, g: Form) -> Outcome
     requires { ⌜ FormValid f × FormValid g ⌝ }
-    ensures { λ r. ⌜ WorkedAs (dotForms (formOf f) (formOf g)) r ⌝ }
+    ensures { λ r. ⌜ Gives (dotForms (formOf f) (formOf g)) r ⌝ }
 {
     if f.kind != 1 {
-        return Closed {
+        return Outcome {
             refusal: 6,
             form: f,
         };
     }
     if g.kind != 1 {
-        return Closed {
+        return Outcome {
             refusal: 6,
             form: f,
         };
@@ -156,18 +152,18 @@ pub fn dot(f: Form, g: Form) -> Closed
 }
 
 // The wedge of two vectors.
-pub fn wedge(f: Form, g: Form) -> Closed
+pub fn wedge(f: Form, g: Form) -> Outcome
     requires { ⌜ FormValid f × FormValid g ⌝ }
-    ensures { λ r. ⌜ WorkedAs (wedgeForms (formOf f) (formOf g)) r ⌝ }
+    ensures { λ r. ⌜ Gives (wedgeForms (formOf f) (formOf g)) r ⌝ }
 {
     if f.kind != 1 {
-        return Closed {
+        return Outcome {
             refusal: 6,
             form: f,
         };
     }
     if g.kind != 1 {
-        return Closed {
+        return Outcome {
             refusal: 6,
             form: f,
         };
@@ -176,12 +172,12 @@ pub fn wedge(f: Form, g: Form) -> Closed
 }
 
 // The triple of three vectors: their kinds first, then a wedge and a dot.
-pub fn triple(f: Form, g: Form, h: Form) -> Closed
+pub fn triple(f: Form, g: Form, h: Form) -> Outcome
     requires { ⌜ FormValid f × FormValid g × FormValid h ⌝ }
-    ensures { λ r. ⌜ WorkedAs (tripleForms (formOf f) (formOf g) (formOf h)) r ⌝ }
+    ensures { λ r. ⌜ Gives (tripleForms (formOf f) (formOf g) (formOf h)) r ⌝ }
 {
     if h.kind != 1 {
-        return Closed {
+        return Outcome {
             refusal: 6,
             form: f,
         };

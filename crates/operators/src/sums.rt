@@ -3,10 +3,8 @@ ghost use mathlib.Core.Path.{_≡_};
 ghost use mathlib.Core.Bool.{true};
 ghost use Rattle.specification.specs.Reduction.{sumForms, negateForm};
 ghost use Rattle.terms.specs.Abstraction.{termOf, formOf, orderingOf, Counted};
-ghost use Rattle.terms.specs.Valid.{FormValid};
-ghost use Rattle.gathering.specs.Closing.{WorkedAs};
+ghost use Rattle.terms.specs.Valid.{FormValid, Gives};
 ghost use Rattle.operators.specs.Sums.{Capped, nextOf, Negated};
-use gathering::Closed;
 use integers::add;
 use integers::is_zero;
 use integers::neg;
@@ -14,6 +12,7 @@ use integers::within;
 use terms::order::Order;
 use terms::order::compare;
 use terms::types::Form;
+use terms::types::Outcome;
 use terms::types::Term;
 
 // A place in a form, the last one for all behind it.
@@ -38,9 +37,9 @@ fn next(left: bool, right: bool, x: Term, y: Term) -> Order
 }
 
 // The terms of two forms of one kind in their order, like ones added.
-fn merge(f: Form, g: Form) -> Closed
+fn merge(f: Form, g: Form) -> Outcome
     requires { ⌜ FormValid f × FormValid g × (f .kind ≡ g .kind) ⌝ }
-    ensures { λ r. ⌜ WorkedAs (sumForms (formOf f) (formOf g)) r ⌝ }
+    ensures { λ r. ⌜ Gives (sumForms (formOf f) (formOf g)) r ⌝ }
 {
     let n = f.count;
     let m = g.count;
@@ -74,7 +73,7 @@ fn merge(f: Form, g: Form) -> Closed
                     continue;
                 }
                 if !within(sum) {
-                    return Closed {
+                    return Outcome {
                         refusal: 9,
                         form: r,
                     };
@@ -87,26 +86,26 @@ fn merge(f: Form, g: Form) -> Closed
         }
     }
     if count > 48 {
-        return Closed {
+        return Outcome {
             refusal: 10,
             form: r,
         };
     }
     r.count = count;
-    Closed {
+    Outcome {
         refusal: 0,
         form: r,
     }
 }
 
 // The sum of two forms of one kind.
-pub fn sum(f: Form, g: Form) -> Closed
+pub fn sum(f: Form, g: Form) -> Outcome
     requires { ⌜ FormValid f × FormValid g ⌝ }
-    ensures { λ r. ⌜ WorkedAs (sumForms (formOf f) (formOf g)) r ⌝ }
+    ensures { λ r. ⌜ Gives (sumForms (formOf f) (formOf g)) r ⌝ }
 {
     let kind = f.kind;
     if kind != g.kind {
-        return Closed {
+        return Outcome {
             refusal: 6,
             form: f,
         };
@@ -132,9 +131,9 @@ pub fn negate(f: Form) -> Form
 }
 
 // The difference of two forms of one kind.
-pub fn difference(f: Form, g: Form) -> Closed
+pub fn difference(f: Form, g: Form) -> Outcome
     requires { ⌜ FormValid f × FormValid g ⌝ }
-    ensures { λ r. ⌜ WorkedAs (sumForms (formOf f) (negateForm (formOf g))) r ⌝ }
+    ensures { λ r. ⌜ Gives (sumForms (formOf f) (negateForm (formOf g))) r ⌝ }
 {
     sum(f, negate(g))
 }

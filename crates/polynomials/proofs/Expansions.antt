@@ -30,10 +30,8 @@ use Rattle.polynomials.specs.declared.expansion.Block.{Block}
 use Rattle.polynomials.specs.declared.expansion.Block.the-variants.{Zero, One}
 use Rattle.polynomials.specs.Summands.{Summand}
 use Rattle.polynomials.specs.Memory.{summand, none}
-use Rattle.polynomials.specs.Expansion.{pieceAt, countOf, pieces, blockOf, partBlock, timesPiece, timesPieces, timesBlock, timesFactors, expandTerm}
-use Rattle.polynomials.specs.Expansion.{PieceSmall, Modest, SmallBlock, Multiplying, Multiplied, LettersBelow, top, Layer, Factorable, Factored}
-use Rattle.polynomials.specs.Expansion.{Expandable}
-use Rattle.polynomials.specs.Expansion.{Expanded}
+use Rattle.polynomials.specs.Expansion.{pieceAt, countOf, pieces, blockOf, partBlock, timesPiece, timesPieces, timesBlock, timesFactors, expandTerm, PieceSmall}
+use Rattle.polynomials.specs.Expansion.{Modest, SmallBlock, Multiplying, Multiplied, LettersBelow, top, Layer, Factorable, Factored, Expandable, Expanded}
 use Rattle.polynomials.proofs.Layers.{piece-small}
 
 -- ════ so many summands

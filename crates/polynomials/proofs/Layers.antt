@@ -21,8 +21,8 @@ use Rattle.polynomials.specs.declared.expansion.Block.{Block}
 use Rattle.polynomials.specs.declared.expansion.Block.the-variants.{Zero, One, Single, Dot, Triple, Cross}
 use Rattle.polynomials.specs.Summands.{Summand}
 use Rattle.polynomials.specs.Memory.{none, summands}
-use Rattle.polynomials.specs.Expansion.{digitOf, signOf, crossPiece, pieceAt, countOf, pieces, timesPiece, timesPieces, timesBlock, PieceSmall}
-use Rattle.polynomials.specs.Expansion.{PieceFit, Modest, SmallBlock, Spreading, Spread, Multiplying, Multiplied}
+use Rattle.polynomials.specs.Expansion.{digitOf, pieceSign, crossPiece, pieceAt, countOf, pieces, timesPiece, timesPieces, timesBlock, PieceSmall, PieceFit, Modest}
+use Rattle.polynomials.specs.Expansion.{SmallBlock, Spreading, Spread, Multiplying, Multiplied}
 use Rattle.polynomials.proofs.Bytes.{length-summands}
 
 -- ════ summands times a product
@@ -94,8 +94,8 @@ module _ where
   digit-small : (l i : ℕ) → l < 24 → i < 3 → digitOf l i < 256
   digit-small l i h k = omega arith
 
-  sign-unit : (o : ℕ) → natAbs (signOf o) ≤ 1
-  unfolding signOf
+  sign-unit : (o : ℕ) → natAbs (pieceSign o) ≤ 1
+  unfolding pieceSign
   sign-unit zero = N.le-refl 1
   sign-unit (suc o) = rw (ne-eqb (suc o) 0 (λ e. omega arith)) (N.le-refl 1)
 

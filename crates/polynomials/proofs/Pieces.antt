@@ -1,7 +1,7 @@
 -- Polynomials as the functions make them: products, counts, the polynomials of factors and vector parts. Assumes nothing.
 use mathlib.Core.Path.{_≡_, sym, _∙_, ap, ap₂, subst}
 use mathlib.Core.List.{List}
-use Prim.Native.Nat.{ℕ, _+_, _-_, _*_, _/_, _%_, _≤_, _<_, _^_}
+use Prim.Native.Nat.{ℕ, _+_, _-_, _*_, _/_, _%_, _<_, _^_}
 use native.Mathlib.Nat as N
 use native.Mathlib.Omega.{arith}
 use borrow.Author.Tests.{eq-eqb, ne-eqb}
@@ -10,16 +10,17 @@ use lib.ListN.{set}
 use Rattle.terms.specs.declared.types.Part.{Part}
 use Rattle.terms.specs.declared.types.Part.the-variants.{Nothing, Letter, Wedge}
 use Rattle.terms.specs.Numbers.{lettersOf}
-use Rattle.terms.specs.Abstraction.{partOf}
-use Rattle.terms.proofs.Numbers.{one-is}
-use Rattle.records.proofs.Letters.{two-bytes, three-bytes, nothing-is, letter-is, wedge-is}
+use Rattle.terms.specs.declared.factors.Factor.{Factor}
+use Rattle.terms.specs.declared.factors.Factor.the-variants as F
+use Rattle.terms.specs.Abstraction.{factorOf, partOf}
+use Rattle.terms.proofs.Letters.{scalar-is, dot-is, triple-is, nothing-is, letter-is, wedge-is}
 use Rattle.polynomials.specs.declared.expansion.Piece.{Piece}
 use Rattle.polynomials.specs.declared.expansion.Block.{Block}
 use Rattle.polynomials.specs.declared.expansion.Block.the-variants.{Zero, One, Single, Dot, Triple, Cross}
 use Rattle.polynomials.specs.Keys.{timesDigit}
 use Rattle.polynomials.specs.Summands.{Summand}
 use Rattle.polynomials.specs.Memory.{summand}
-use Rattle.polynomials.specs.Expansion.{digitOf, signOf, crossPiece, pieceAt, countOf, blockOf, partBlock, timesPiece, PieceFit, SmallBlock}
+use Rattle.polynomials.specs.Expansion.{digitOf, pieceSign, crossPiece, pieceAt, countOf, blockOf, partBlock, timesPiece, PieceFit, SmallBlock}
 
 -- ════ products
 
@@ -27,16 +28,16 @@ abbrev make : (a b c : ℕ) (sign : ℤ) → Piece
 make a b c sign = record { a = a; b = b; c = c; sign = sign }
 
 -- the sign of a product of a wedge
-pub sign-plus : (o : ℕ) → o ≡ 0 → pos 1 ≡ signOf o
-unfolding signOf
+pub sign-plus : (o : ℕ) → o ≡ 0 → pos 1 ≡ pieceSign o
+unfolding pieceSign
 sign-plus o e = rw (eq-eqb o 0 e)
 
-pub sign-minus : (o : ℕ) → ¬ (o ≡ 0) → negsuc 0 ≡ signOf o
-unfolding signOf
+pub sign-minus : (o : ℕ) → ¬ (o ≡ 0) → negsuc 0 ≡ pieceSign o
+unfolding pieceSign
 sign-minus o h = rw (ne-eqb o 0 h)
 
 -- one of the two products of a component of a wedge
-pub cross-is : (l m i o c a b : ℕ) (z : ℤ) → a ≡ digitOf l ((i + 1 + o) % 3) → b ≡ digitOf m ((i + 2 + 2 * o) % 3) → z ≡ signOf o → make a b c z ≡ crossPiece l m i o c
+pub cross-is : (l m i o c a b : ℕ) (z : ℤ) → a ≡ digitOf l ((i + 1 + o) % 3) → b ≡ digitOf m ((i + 2 + 2 * o) % 3) → z ≡ pieceSign o → make a b c z ≡ crossPiece l m i o c
 unfolding crossPiece
 cross-is l m i o c a b z p q r = λ t. make (p t) (q t) c (r t)
 
@@ -89,21 +90,21 @@ module _ (f : Block) (j : ℕ) where
 
 -- ════ polynomials
 
-module _ (k : ℕ) where
+module _ (k : ℕ) (f : Factor) (e : factorOf f ≡ lettersOf k) where
   -- the polynomial of a scalar letter
-  pub block-one : (a : ℕ) → k < 256 → a ≡ k % 256 → Single a 0 ≡ blockOf (lettersOf k)
+  pub block-one : (x : ℕ) → f ≡ F.Scalar x → Single x 0 ≡ blockOf (lettersOf k)
   unfolding blockOf
-  block-one a h e = let q : a ≡ k = omega arith in ap (λ (x : ℕ). Single x 0) q ∙ ap blockOf (sym (one-is k h))
+  block-one x h = ap blockOf (sym (scalar-is k f e x h))
 
   -- of a dot
-  pub block-two : (a b : ℕ) → 256 ≤ k → k < 65792 → a ≡ (k - 256) / 256 % 256 → b ≡ (k - 256) % 256 → Dot a b ≡ blockOf (lettersOf k)
+  pub block-two : (x y : ℕ) → f ≡ F.Dot x y → Dot x y ≡ blockOf (lettersOf k)
   unfolding blockOf
-  block-two a b h g p q = ap blockOf (sym (two-bytes k a b h g p q))
+  block-two x y h = ap blockOf (sym (dot-is k f e x y h))
 
   -- of a triple
-  pub block-three : (a b c : ℕ) → 65792 ≤ k → k < 16843008 → a ≡ (k - 65792) / 65536 % 256 → b ≡ (k - 65792) / 256 % 256 → c ≡ (k - 65792) % 256 → Triple a b c ≡ blockOf (lettersOf k)
+  pub block-three : (x y z : ℕ) → f ≡ F.Triple x y z → Triple x y z ≡ blockOf (lettersOf k)
   unfolding blockOf
-  block-three a b c h g p q r = ap blockOf (sym (three-bytes k a b c h g p q r))
+  block-three x y z h = ap blockOf (sym (triple-is k f e x y z h))
 
 module _ (p : Part) (i : ℕ) where
   -- no vector part: 1 in the first component

@@ -18,7 +18,7 @@ use Rattle.specification.specs.Results.{if_then_else_}
 use Rattle.specification.specs.Terms.{isZero}
 use Rattle.theory.specs.Elements.{All, all-map}
 use Rattle.polynomials.specs.Keys.{digitValue, keyValue, rest, exponent, Ordered}
-use Rattle.polynomials.specs.Summands.{Summand, weigh, total, size, mass, kept, onto, likeAdded, reduced, substituted, Weakly, Rising}
+use Rattle.polynomials.specs.Summands.{Summand, weigh, total, size, mass, kept, onto, likeAdded, putFor, substituted, Weakly, Rising}
 use Rattle.polynomials.proofs.Keys.{rest-value, rest-summand, rest-ordered}
 
 -- ════ a summand in front, unless its coefficient is 0
@@ -97,8 +97,8 @@ module _ (w : ℕ → ℤ) where
   like-weigh (m ∷ ms) = onto-weigh m ms
 
   -- a number put for a variable changes the weights
-  pub reduced-weigh : (d v : ℕ) (ms : List Summand) → weigh w (map (reduced d v) ms) ≡ weigh (λ k. pos (v ^ exponent 8 d k) *ℤ w (rest 8 d k)) ms
-  unfolding weigh reduced
+  pub reduced-weigh : (d v : ℕ) (ms : List Summand) → weigh w (map (putFor d v) ms) ≡ weigh (λ k. pos (v ^ exponent 8 d k) *ℤ w (rest 8 d k)) ms
+  unfolding weigh putFor
   reduced-weigh d v [] = refl
   reduced-weigh d v (m ∷ ms) =
       λ i. R.*ℤ-assoc (m .coef) (pos (v ^ exponent 8 d (m .key))) (w (rest 8 d (m .key))) i +ℤ reduced-weigh d v ms i
@@ -106,7 +106,7 @@ module _ (w : ℕ → ℤ) where
   -- also with like neighbours added
   pub substituted-weigh : (d v : ℕ) (ms : List Summand) → weigh w (substituted d v ms) ≡ weigh (λ k. pos (v ^ exponent 8 d k) *ℤ w (rest 8 d k)) ms
   unfolding substituted
-  substituted-weigh d v ms = like-weigh (map (reduced d v) ms) ∙ reduced-weigh d v ms
+  substituted-weigh d v ms = like-weigh (map (putFor d v) ms) ∙ reduced-weigh d v ms
 
 -- weights that agree
 pub weigh-agree : (w u : ℕ → ℤ) → ((k : ℕ) → w k ≡ u k) → (ms : List Summand) → weigh w ms ≡ weigh u ms
@@ -159,8 +159,8 @@ module _ (w : ℕ → ℕ) where
   like-size (m ∷ ms) = onto-size m ms
 
   -- nor does a number for a variable where the weight of the variable is not below the number
-  pub reduced-size : (d v : ℕ) → ((k : ℕ) → v ^ exponent 8 d k * w (rest 8 d k) ≤ w k) → (ms : List Summand) → size w (map (reduced d v) ms) ≤ size w ms
-  unfolding size reduced
+  pub reduced-size : (d v : ℕ) → ((k : ℕ) → v ^ exponent 8 d k * w (rest 8 d k) ≤ w k) → (ms : List Summand) → size w (map (putFor d v) ms) ≤ size w ms
+  unfolding size putFor
   reduced-size d v h [] = N.le-refl 0
   reduced-size d v h (m ∷ ms) =
       omega (
@@ -214,17 +214,17 @@ like-rising (m ∷ ms) s = onto-rising 0 m ms (s .0) (s .1)
 abbrev pub AllOrdered : (d : ℕ) (ms : List Summand) → Type 0
 AllOrdered d ms = All (λ (m : Summand). Ordered d 8 (m .key)) ms
 
-reduced-weakly : (d v : ℕ) → 1 ≤ d → (low : ℕ) (ms : List Summand) → Ordered d 8 low → AllOrdered d ms → Rising (suc low) ms → Weakly (rest 8 d low) (map (reduced d v) ms)
-unfolding reduced
+reduced-weakly : (d v : ℕ) → 1 ≤ d → (low : ℕ) (ms : List Summand) → Ordered d 8 low → AllOrdered d ms → Rising (suc low) ms → Weakly (rest 8 d low) (map (putFor d v) ms)
+unfolding putFor
 reduced-weakly d v o low [] r a s = tt
 reduced-weakly d v o low (m ∷ ms) r a s =
     (rest-summand d o 8 low (m .key) r (a .0) (omega (arith, s .0)), reduced-weakly d v o (m .key) ms (a .0) (a .1) (s .2))
 
 -- putting a number for the lowest variable keeps the order
 pub substituted-rising : (d v : ℕ) → 1 ≤ d → (ms : List Summand) → AllOrdered d ms → Rising 0 ms → Rising 0 (substituted d v ms)
-unfolding substituted reduced
+unfolding substituted putFor
 substituted-rising d v o [] a s = like-rising [] tt
-substituted-rising d v o (m ∷ ms) a s = like-rising (map (reduced d v) (m ∷ ms)) (omega arith, reduced-weakly d v o (m .key) ms (a .0) (a .1) (s .2))
+substituted-rising d v o (m ∷ ms) a s = like-rising (map (putFor d v) (m ∷ ms)) (omega arith, reduced-weakly d v o (m .key) ms (a .0) (a .1) (s .2))
 
 -- ════ what holds of keys
 
@@ -258,9 +258,9 @@ module _ (P : ℕ → Type 0) where
 
 -- what holds of the rest of each key holds afterwards
 pub substituted-keys : (P Q : ℕ → Type 0) (d v : ℕ) → ((k : ℕ) → P k → Q (rest 8 d k)) → (ms : List Summand) → Keys P ms → Keys Q (substituted d v ms)
-unfolding substituted reduced
+unfolding substituted putFor
 substituted-keys P Q d v h ms a =
-    like-keys Q (map (reduced d v) ms) (all-map (λ (m : Summand). P (m .key)) (λ (m : Summand). Q (m .key)) (reduced d v) (λ m p. h (m .key) p) ms a)
+    like-keys Q (map (putFor d v) ms) (all-map (λ (m : Summand). P (m .key)) (λ (m : Summand). Q (m .key)) (putFor d v) (λ m p. h (m .key) p) ms a)
 
 -- the keys are then in order from the next digit on
 pub substituted-ordered : (d v : ℕ) → 1 ≤ d → (ms : List Summand) → AllOrdered d ms → AllOrdered (suc d) (substituted d v ms)

@@ -16,27 +16,27 @@ use Rattle.specification.specs.Terms.{isZero}
 use Rattle.terms.proofs.Arrays.{rest-at, nothing-left}
 use Rattle.polynomials.specs.declared.passes.Loaded.{Loaded}
 use Rattle.polynomials.specs.Keys.{rest, exponent, lowest}
-use Rattle.polynomials.specs.Summands.{Summand, size, mass, kept, onto, likeAdded, reduced, substituted, isSome}
+use Rattle.polynomials.specs.Summands.{Summand, size, mass, kept, onto, likeAdded, putFor, substituted, isSome}
 use Rattle.polynomials.specs.Memory.{summand, none}
 use Rattle.polynomials.specs.Passes.{loadedOf, Substitutable, Kept, Substituted, lesserOf, leastFrom}
 use Rattle.polynomials.proofs.Summands.{kept-null, kept-not, onto-like, onto-apart}
 use Rattle.polynomials.proofs.Digits.{exponent-few}
 
--- ════ a summand reduced
+-- ════ a summand putFor
 
 -- as the function makes it: y is read, p is the power, and e the exponent
 module _ (d v key : ℕ) (y p : ℤ) (e : ℕ) (x : Summand) (k : key ≡ x .key) (c : y ≡ x .coef) (g : e ≡ exponent 8 d key) (q : p ≡ pos (v ^ e)) where
-  product-is : y *ℤ p ≡ reduced d v x .coef
-  unfolding reduced
+  product-is : y *ℤ p ≡ putFor d v x .coef
+  unfolding putFor
   product-is = ap₂ (λ (a b : ℤ). a *ℤ b) c (q ∙ ap (λ (z : ℕ). pos (v ^ z)) (g ∙ ap (exponent 8 d) k))
 
   -- the product fits 64 bits
-  pub reduced-asks : natAbs (reduced d v x .coef) < 2 ^ 62 → natAbs y * natAbs p < 2 ^ 63
+  pub reduced-asks : natAbs (putFor d v x .coef) < 2 ^ 62 → natAbs y * natAbs p < 2 ^ 63
   reduced-asks h = omega (arith, natAbs-*ℤ y p, ap natAbs product-is)
 
-  -- and is the summand reduced
-  pub reduced-made : (r : Loaded) → r .key ≡ rest 8 d key → r .coef ≡ y *ℤ p → loadedOf r ≡ reduced d v x
-  unfolding loadedOf reduced
+  -- and is the summand putFor
+  pub reduced-made : (r : Loaded) → r .key ≡ rest 8 d key → r .coef ≡ y *ℤ p → loadedOf r ≡ putFor d v x
+  unfolding loadedOf putFor
   reduced-made r a b = ap₂ summand (a ∙ ap (rest 8 d) k) (b ∙ product-is)
 
 -- ════ the summands not read yet
@@ -51,8 +51,8 @@ kept-front m ms = go (isZero (m .coef)) refl
 
 -- what is known in a pass: key and c are added up so far, and the summands from i on are not read yet
 pub record Passing (d v : ℕ) (ms : List Summand) (front : List Summand) (i key : ℕ) (c : ℤ) : Type 0 where
-  pub is : front ++ onto (summand key c) (map (reduced d v) (drop i ms)) ≡ substituted d v ms
-  pub small : natAbs c + mass (map (reduced d v) (drop i ms)) < 2 ^ 62
+  pub is : front ++ onto (summand key c) (map (putFor d v) (drop i ms)) ≡ substituted d v ms
+  pub small : natAbs c + mass (map (putFor d v) (drop i ms)) < 2 ^ 62
 
 module _ (d v : ℕ) (ms : List Summand) (n : ℕ) (h : n ≤ length ms) where
   -- the first is read
@@ -61,17 +61,17 @@ module _ (d v : ℕ) (ms : List Summand) (n : ℕ) (h : n ≤ length ms) where
     first-split = rest-at ms n 0 none h (omega arith)
 
     -- its coefficient is small
-    pub first-small : natAbs (reduced d v (getD ms 0 none) .coef) < 2 ^ 62
+    pub first-small : natAbs (putFor d v (getD ms 0 none) .coef) < 2 ^ 62
     unfolding size
     first-small = let z = rw first-split at (f .small) in omega arith
 
     -- nothing is added yet
-    pub pass-starts : (s : Loaded) (c : ℤ) → loadedOf s ≡ reduced d v (getD ms 0 none) → c ≡ s .coef → Passing d v (take n ms) [] 1 (s .key) c
+    pub pass-starts : (s : Loaded) (c : ℤ) → loadedOf s ≡ putFor d v (getD ms 0 none) → c ≡ s .coef → Passing d v (take n ms) [] 1 (s .key) c
     unfolding size substituted likeAdded loadedOf
     pass-starts s c e q =
-        let g : summand (s .key) c ≡ reduced d v (getD ms 0 none) = ap (summand (s .key)) q ∙ e in
+        let g : summand (s .key) c ≡ putFor d v (getD ms 0 none) = ap (summand (s .key)) q ∙ e in
         record {
-          is = ap (λ (m : Summand). onto m (map (reduced d v) (drop 1 (take n ms)))) g ∙ sym (ap (λ (l : List Summand). likeAdded (map (reduced d v) l)) first-split);
+          is = ap (λ (m : Summand). onto m (map (putFor d v) (drop 1 (take n ms)))) g ∙ sym (ap (λ (l : List Summand). likeAdded (map (putFor d v) l)) first-split);
           small = let z = rw first-split at (f .small) in omega (arith, ap (λ (m : Summand). natAbs (m .coef)) g);
         }
 
@@ -80,26 +80,26 @@ module _ (d v : ℕ) (ms : List Summand) (n : ℕ) (h : n ≤ length ms) where
     turn-split : drop i (take n ms) ≡ getD ms i none ∷ drop (i + 1) (take n ms)
     turn-split = rest-at ms n i none h l
 
-    sizes : natAbs c + (natAbs (reduced d v (getD ms i none) .coef) * 1 + mass (map (reduced d v) (drop (i + 1) (take n ms)))) < 2 ^ 62
+    sizes : natAbs c + (natAbs (putFor d v (getD ms i none) .coef) * 1 + mass (map (putFor d v) (drop (i + 1) (take n ms)))) < 2 ^ 62
     unfolding size
     sizes = rw turn-split at (w .small)
 
     -- its coefficient is small
-    pub turn-small : natAbs (reduced d v (getD ms i none) .coef) < 2 ^ 62
+    pub turn-small : natAbs (putFor d v (getD ms i none) .coef) < 2 ^ 62
     turn-small = omega (arith, sizes)
 
-    module _ (s : Loaded) (e : loadedOf s ≡ reduced d v (getD ms i none)) (u : ℤ) (q : u ≡ s .coef) where
-      g : summand (s .key) u ≡ reduced d v (getD ms i none)
+    module _ (s : Loaded) (e : loadedOf s ≡ putFor d v (getD ms i none)) (u : ℤ) (q : u ≡ s .coef) where
+      g : summand (s .key) u ≡ putFor d v (getD ms i none)
       unfolding loadedOf
       g = ap (summand (s .key)) q ∙ e
 
-      g-size : natAbs u ≡ natAbs (reduced d v (getD ms i none) .coef)
+      g-size : natAbs u ≡ natAbs (putFor d v (getD ms i none) .coef)
       g-size = ap (λ (m : Summand). natAbs (m .coef)) g
 
-      unread : front ++ onto (summand key c) (summand (s .key) u ∷ map (reduced d v) (drop (i + 1) (take n ms))) ≡ substituted d v (take n ms)
+      unread : front ++ onto (summand key c) (summand (s .key) u ∷ map (putFor d v) (drop (i + 1) (take n ms))) ≡ substituted d v (take n ms)
       unread =
-          ap (λ (m : Summand). front ++ onto (summand key c) (m ∷ map (reduced d v) (drop (i + 1) (take n ms)))) g
-          ∙ ap (λ (y : List Summand). front ++ onto (summand key c) (map (reduced d v) y)) (sym turn-split) ∙ w .is
+          ap (λ (m : Summand). front ++ onto (summand key c) (m ∷ map (putFor d v) (drop (i + 1) (take n ms)))) g
+          ∙ ap (λ (y : List Summand). front ++ onto (summand key c) (map (putFor d v) y)) (sym turn-split) ∙ w .is
 
       -- a sum fits 64 bits
       pub sum-asks : natAbs c + natAbs u < 2 ^ 63
@@ -109,19 +109,19 @@ module _ (d v : ℕ) (ms : List Summand) (n : ℕ) (h : n ≤ length ms) where
       pub turn-like : (c′ : ℤ) → s .key ≡ key → c′ ≡ c +ℤ u → Passing d v (take n ms) front (i + 1) key c′
       turn-like c′ p r =
           record {
-            is = ap (λ (y : ℤ). front ++ onto (summand key y) (map (reduced d v) (drop (i + 1) (take n ms)))) r
-                ∙ ap (λ (y : List Summand). front ++ y) (sym (onto-like (summand key c) (summand (s .key) u) (map (reduced d v) (drop (i + 1) (take n ms))) (sym p))) ∙ unread;
+            is = ap (λ (y : ℤ). front ++ onto (summand key y) (map (putFor d v) (drop (i + 1) (take n ms)))) r
+                ∙ ap (λ (y : List Summand). front ++ y) (sym (onto-like (summand key c) (summand (s .key) u) (map (putFor d v) (drop (i + 1) (take n ms))) (sym p))) ∙ unread;
             small = omega (arith, sizes, g-size, natAbs-+ℤ c u, ap natAbs r);
           }
 
       -- another key: what was added up is kept
       pub turn-apart : (front′ : List Summand) → ¬ (s .key ≡ key) → front′ ≡ front ++ kept (summand key c) [] → Passing d v (take n ms) front′ (i + 1) (s .key) u
       turn-apart front′ p r =
-          let more = onto (summand (s .key) u) (map (reduced d v) (drop (i + 1) (take n ms))) in
+          let more = onto (summand (s .key) u) (map (putFor d v) (drop (i + 1) (take n ms))) in
           record {
             is = ap (λ (y : List Summand). y ++ more) r ∙ append-assoc front (kept (summand key c) []) more
                 ∙ ap (λ (y : List Summand). front ++ y) (sym (kept-front (summand key c) more))
-                ∙ ap (λ (y : List Summand). front ++ y) (sym (onto-apart (summand key c) (summand (s .key) u) (map (reduced d v) (drop (i + 1) (take n ms))) (λ z. p (sym z)))) ∙ unread;
+                ∙ ap (λ (y : List Summand). front ++ y) (sym (onto-apart (summand key c) (summand (s .key) u) (map (putFor d v) (drop (i + 1) (take n ms))) (λ z. p (sym z)))) ∙ unread;
             small = omega (arith, sizes, g-size);
           }
 
@@ -133,17 +133,17 @@ module _ (d v : ℕ) (ms : List Summand) (n : ℕ) (h : n ≤ length ms) where
       pub turn-some : ¬ (s .key ≡ key) → isZero c ≡ false → front ≡ [] → true ≡ isSome (substituted d v (take n ms))
       unfolding isSome
       turn-some p z r =
-          let a = onto-apart (summand key c) (summand (s .key) u) (map (reduced d v) (drop (i + 1) (take n ms))) (λ y. p (sym y)) in
+          let a = onto-apart (summand key c) (summand (s .key) u) (map (putFor d v) (drop (i + 1) (take n ms))) (λ y. p (sym y)) in
           ap isSome
           (sym (kept-not (summand key c) _ z) ∙ sym a
-          ∙ ap (λ (y : List Summand). y ++ onto (summand key c) (summand (s .key) u ∷ map (reduced d v) (drop (i + 1) (take n ms)))) (sym r) ∙ unread)
+          ∙ ap (λ (y : List Summand). y ++ onto (summand key c) (summand (s .key) u ∷ map (putFor d v) (drop (i + 1) (take n ms)))) (sym r) ∙ unread)
 
   -- all are read
   module _ (i : ℕ) (l : n ≤ i) (front : List Summand) (key : ℕ) (c : ℤ) (w : Passing d v (take n ms) front i key c) where
     -- the last one is kept
     pub pass-ends : front ++ kept (summand key c) [] ≡ substituted d v (take n ms)
     unfolding onto
-    pass-ends = ap (λ (y : List Summand). front ++ onto (summand key c) (map (reduced d v) y)) (sym (nothing-left ms n i h l)) ∙ w .is
+    pass-ends = ap (λ (y : List Summand). front ++ onto (summand key c) (map (putFor d v) y)) (sym (nothing-left ms n i h l)) ∙ w .is
 
     -- a summand is left if it is not 0
     pub ends-some : front ≡ [] → not (isZero c) ≡ isSome (substituted d v (take n ms))
@@ -246,12 +246,12 @@ module _ (d v n : ℕ) (ms ns : List Summand) (h : n ≤ length ms) (i j key : �
     pub read-there : i < length ns
     read-there = omega (arith, w .count)
 
-    pub read-small : natAbs (reduced d v (getD ns i none) .coef) < 2 ^ 62
+    pub read-small : natAbs (putFor d v (getD ns i none) .coef) < 2 ^ 62
     read-small = rw same-read (turn-small d v ms n h i l (take j ns) key c (w .passing))
 
-    module _ (s : Loaded) (e : loadedOf s ≡ reduced d v (getD ns i none)) (u : ℤ) (q : u ≡ s .coef) where
-      e′ : loadedOf s ≡ reduced d v (getD ms i none)
-      e′ = e ∙ ap (reduced d v) same-read
+    module _ (s : Loaded) (e : loadedOf s ≡ putFor d v (getD ns i none)) (u : ℤ) (q : u ≡ s .coef) where
+      e′ : loadedOf s ≡ putFor d v (getD ms i none)
+      e′ = e ∙ ap (putFor d v) same-read
 
       -- a sum fits 64 bits
       pub write-asks : natAbs c + natAbs u < 2 ^ 63

@@ -29,8 +29,8 @@ abbrev pub digitOf : (letter i : ℕ) → ℕ
 digitOf letter i = 3 * letter + i + 1
 
 -- plus for the first product of a wedge's component, minus for the second
-unfoldable pub signOf : (o : ℕ) → ℤ
-signOf o = if eqb o 0 then pos 1 else negsuc 0
+unfoldable pub pieceSign : (o : ℕ) → ℤ
+pieceSign o = if eqb o 0 then pos 1 else negsuc 0
 
 -- a product with the sign plus
 abbrev pub plus : (a b : ℕ) → Piece
@@ -38,7 +38,7 @@ plus a b = record { a = a; b = b; c = 0; sign = pos 1 }
 
 -- the first or the second product of the component i of a wedge, times a third variable
 unfoldable pub crossPiece : (l m i o c : ℕ) → Piece
-crossPiece l m i o c = record { a = digitOf l ((i + 1 + o) % 3); b = digitOf m ((i + 2 + 2 * o) % 3); c = c; sign = signOf o }
+crossPiece l m i o c = record { a = digitOf l ((i + 1 + o) % 3); b = digitOf m ((i + 2 + 2 * o) % 3); c = c; sign = pieceSign o }
 
 -- the product number j
 unfoldable pub pieceAt : (f : Block) (j : ℕ) → Piece

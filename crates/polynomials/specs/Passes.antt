@@ -8,7 +8,7 @@ use lib.ListN.{length, take, drop}
 use Rattle.specification.specs.Results.{if_then_else_}
 use Rattle.polynomials.specs.declared.passes.Loaded.{Loaded}
 use Rattle.polynomials.specs.Keys.{lowest}
-use Rattle.polynomials.specs.Summands.{Summand, mass, kept, reduced, substituted}
+use Rattle.polynomials.specs.Summands.{Summand, mass, kept, putFor, substituted}
 use Rattle.polynomials.specs.Memory.{summand}
 
 -- a summand out of memory
@@ -19,7 +19,7 @@ loadedOf s = summand (s .key) (s .coef)
 pub record Substitutable (d v : ℕ) (ms : List Summand) : Type 0 where
   pub digit : 1 ≤ d
   pub number : v ≤ 6
-  pub small : mass (map (reduced d v) ms) < 2 ^ 62
+  pub small : mass (map (putFor d v) ms) < 2 ^ 62
 
 -- a summand written behind the first j of ms, unless its coefficient is 0: ns are they afterwards, and r are in front
 pub record Kept (j key : ℕ) (coef : ℤ) (r : ℕ) (ms ns : List Summand) : Type 0 where

@@ -50,12 +50,12 @@ likeAdded [] = []
 likeAdded (m ∷ ms) = onto m ms
 
 -- v put for the variable of the digit d where it stands at the end of the key
-unfoldable pub reduced : (d v : ℕ) (m : Summand) → Summand
-reduced d v m = record { key = rest 8 d (m .key); coef = m .coef *ℤ pos (v ^ exponent 8 d (m .key)) }
+unfoldable pub putFor : (d v : ℕ) (m : Summand) → Summand
+putFor d v m = record { key = rest 8 d (m .key); coef = m .coef *ℤ pos (v ^ exponent 8 d (m .key)) }
 
 -- v put for the variable of the digit d, like neighbours added
 unfoldable pub substituted : (d v : ℕ) (ms : List Summand) → List Summand
-substituted d v ms = likeAdded (map (reduced d v) ms)
+substituted d v ms = likeAdded (map (putFor d v) ms)
 
 -- there is a summand
 unfoldable pub isSome : (ms : List Summand) → Bool

@@ -5,14 +5,14 @@ ghost use lib.ListN.{length, getD, set};
 ghost use Rattle.terms.specs.Numbers.{lettersOf};
 ghost use Rattle.terms.specs.Abstraction.{partOf, termOf};
 ghost use Rattle.polynomials.specs.Memory.{none, summands};
-ghost use Rattle.polynomials.specs.Expansion.{digitOf, signOf, crossPiece, pieceAt, countOf, blockOf, partBlock, timesPiece, PieceFit, Spreading};
-ghost use Rattle.polynomials.specs.Expansion.{Spread, SmallBlock, Multiplying, Multiplied, Factorable, Factored, Expandable, Expanded, expandTerm};
+ghost use Rattle.polynomials.specs.Expansion.{digitOf, pieceSign, crossPiece, pieceAt, countOf, blockOf, partBlock, timesPiece, PieceFit, Spreading, Spread, SmallBlock, Multiplying, Multiplied, Factorable, Factored, Expandable, Expanded, expandTerm};
 use crate::memory::coef_at;
 use crate::memory::key_at;
 use crate::memory::put;
 use crate::variables::times;
 use integers::mul;
-use records::write::low;
+use terms::factors::Factor;
+use terms::factors::letters_of;
 use terms::types::Part;
 use terms::types::Term;
 
@@ -43,8 +43,8 @@ fn digit(letter: u8, i: usize) -> u64
 }
 
 // The sign of the first or the second product of a wedge's component.
-fn sign_of(o: usize) -> i64
-    ensures { λ r. ⌜ r ≡ signOf o ⌝ }
+fn piece_sign(o: usize) -> i64
+    ensures { λ r. ⌜ r ≡ pieceSign o ⌝ }
 {
     if o == 0 { 1 } else { -1 }
 }
@@ -56,7 +56,7 @@ fn cross_piece(l: u8, m: u8, i: usize, o: usize, c: u64) -> Piece
 {
     let a = digit(l, (i + 1 + o) % 3);
     let b = digit(m, (i + 2 + 2 * o) % 3);
-    let sign = sign_of(o);
+    let sign = piece_sign(o);
     Piece {
         a: a,
         b: b,
@@ -129,17 +129,12 @@ fn block_of(k: u32) -> Block
     requires { ⌜ k < 16843008 ⌝ }
     ensures { λ r. ⌜ r ≡ blockOf (lettersOf k) ⌝ }
 {
-    if k < 256 {
-        return Block::Single(low(k), 0);
+    let f = letters_of(k);
+    match f {
+        Factor::Scalar(x) => Block::Single(x, 0),
+        Factor::Dot(x, y) => Block::Dot(x, y),
+        Factor::Triple(x, y, z) => Block::Triple(x, y, z),
     }
-    if k < 65792 {
-        return Block::Dot(low((k - 256) / 256), low(k - 256));
-    }
-    Block::Triple(
-        low((k - 65792) / 65536),
-        low((k - 65792) / 256),
-        low(k - 65792),
-    )
 }
 
 // The polynomial of a component of a vector part.

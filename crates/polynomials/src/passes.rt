@@ -4,7 +4,7 @@ ghost use Prim.Native.Nat.{_^_, _≤_, _<_};
 ghost use lib.IntN.{natAbs};
 ghost use lib.ListN.{length, getD, take};
 ghost use Rattle.polynomials.specs.Keys.{exponent};
-ghost use Rattle.polynomials.specs.Summands.{reduced, substituted, isSome};
+ghost use Rattle.polynomials.specs.Summands.{putFor, substituted, isSome};
 ghost use Rattle.polynomials.specs.Memory.{none, summands};
 ghost use Rattle.polynomials.specs.Passes.{loadedOf, Substitutable, Kept, Substituted, lesserOf, leastFrom};
 use crate::memory::coef_at;
@@ -24,9 +24,9 @@ struct Loaded {
 }
 
 // The summand number i with v put for the variable of a digit.
-fn reduced_at(work: &[u8], i: usize, d: u64, v: u64) -> Loaded
-    requires { ⌜ (i < length (summands (now work))) × (1 ≤ d) × (v ≤ 6) × (natAbs (reduced d v (getD (summands (now work)) i none) .coef) < 2 ^ 62) ⌝ }
-    ensures { λ r. ⌜ loadedOf r ≡ reduced d v (getD (summands (now (work .entry))) i none) ⌝ }
+fn substituted_at(work: &[u8], i: usize, d: u64, v: u64) -> Loaded
+    requires { ⌜ (i < length (summands (now work))) × (1 ≤ d) × (v ≤ 6) × (natAbs (putFor d v (getD (summands (now work)) i none) .coef) < 2 ^ 62) ⌝ }
+    ensures { λ r. ⌜ loadedOf r ≡ putFor d v (getD (summands (now (work .entry))) i none) ⌝ }
 {
     let c = cut_off(key_at(work, i), d);
     let coef = mul(coef_at(work, i), power(v, c.exponent));
@@ -45,12 +45,12 @@ pub fn leaves(work: &[u8], n: usize, d: u64, v: u64) -> bool
     if n == 0 {
         return false;
     }
-    let first = reduced_at(work, 0, d, v);
+    let first = substituted_at(work, 0, d, v);
     let mut key = first.key;
     let mut coef = first.coef;
     let mut i: usize = 1;
     while i < n {
-        let m = reduced_at(work, i, d, v);
+        let m = substituted_at(work, i, d, v);
         let c = m.coef;
         i += 1;
         if m.key == key {
@@ -86,13 +86,13 @@ pub fn substitute(work: &mut [u8], n: usize, d: u64, v: u64) -> usize
     if n == 0 {
         return 0;
     }
-    let first = reduced_at(work, 0, d, v);
+    let first = substituted_at(work, 0, d, v);
     let mut key = first.key;
     let mut coef = first.coef;
     let mut j: usize = 0;
     let mut i: usize = 1;
     while i < n {
-        let m = reduced_at(work, i, d, v);
+        let m = substituted_at(work, i, d, v);
         let c = m.coef;
         i += 1;
         if m.key == key {

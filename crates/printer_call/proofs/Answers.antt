@@ -1,27 +1,33 @@
 -- The line that is printed, case by case. Assumes nothing.
 use mathlib.Core.Path.{_≡_, ap, sym, subst, _∙_}
+use mathlib.Core.Bool.{Bool, true, false}
 use mathlib.Core.List.{List}
 use Prim.Native.Nat.{ℕ, _+_, _-_, _≤_, _<_}
 use native.Mathlib.Omega.{arith}
 use borrow.Author.Tests.{le-leb, lt-leb}
-use lib.Dec.{T}
+use lib.Dec.{T, leb}
 use lib.ListN.{length, getD, take, drop, length-drop}
 use lib.Seq.{take-all}
-use Rattle.specification.specs.Results.{Test, refused, given, _>>_}
+use Rattle.specification.specs.Results.{Result, Test, refused, given, _>>_, if_then_else_}
 use Rattle.specification.specs.Letters.{goodTable, testTable}
+use Rattle.specification.specs.Records.{writeInto}
 use Rattle.specification.specs.Reduction.{reduced}
-use Rattle.specification.specs.Printing.{printTested, printResult, printCall}
+use Rattle.specification.specs.Printing.{printTested, printResult, printCall, TextWritten, printAnswer, lineBytes}
+use Rattle.theory.specs.Tests.{given-same, refused≢given}
 use Rattle.theory.specs.Shape.Letters.{table-good}
 use Rattle.theory.specs.Reduction.Work.{reduction-keeps-value}
 use Rattle.terms.specs.Abstraction.{formOf}
-use Rattle.gathering.specs.declared.Closed.{Closed}
-use Rattle.records.specs.Tested.{testOf}
-use Rattle.gathering.specs.Closing.{WorkedAs}
+use Rattle.terms.specs.declared.types.Outcome.{Outcome}
+use Rattle.letters.specs.Tested.{testOf}
+use Rattle.terms.specs.Valid.{Gives}
 use Rattle.gathering.proofs.Closing.{worked-given, worked-refused}
-use Rattle.records.proofs.LetterTests.{test-passed, test-refused}
-use Rattle.printing.specs.Printable.{Printable}
-use Rattle.printing.specs.Text.{TextWritten}
+use Rattle.letters.proofs.LetterTests.{test-passed, test-refused}
+use Rattle.symbols.specs.Printable.{Printable}
 use Rattle.printing.proofs.Named.{printable}
+use Rattle.records.proofs.Inside.{written-inside}
+use Rattle.printer_call.specs.declared.Printing.{Printing}
+use Rattle.printer_call.specs.declared.Printing.the-variants.{Printed}
+use Rattle.printer_call.specs.Answers.{printingOf}
 use Rattle.printer_call.specs.Lines.{tableReduced, printReduced}
 
 -- the same text in other words
@@ -31,7 +37,7 @@ written-as before after n x y e w = subst (TextWritten before after n) e w
 -- ════ a table and an expression
 
 -- the form of an expression can be printed
-pub form-printable : (table expr : List ℕ) (c : ℕ) (r : Closed) → testOf c ≡ testTable table → c ≡ 0 → WorkedAs (reduced table expr) r → r .refusal ≡ 0 → Printable (r .form)
+pub form-printable : (table expr : List ℕ) (c : ℕ) (r : Outcome) → testOf c ≡ testTable table → c ≡ 0 → Gives (reduced table expr) r → r .refusal ≡ 0 → Printable (r .form)
 form-printable table expr c r h z worked e =
     let t : T (goodTable table) = table-good table (sym h ∙ test-passed c z) in
     printable table t (r .form) (worked .valid e) (reduction-keeps-value table expr (formOf (r .form)) t (worked-given (reduced table expr) r worked e) .lettersTested)
@@ -42,7 +48,7 @@ module _ (table expr : List ℕ) (c : ℕ) (h : testOf c ≡ testTable table) wh
   unfolding tableReduced
   bad-table n = ap (λ (t : Test). t >> reduced table expr) (sym h ∙ test-refused c n)
 
-  module _ (z : c ≡ 0) (r : Closed) (worked : WorkedAs (reduced table expr) r) where
+  module _ (z : c ≡ 0) (r : Outcome) (worked : Gives (reduced table expr) r) where
     past-table : tableReduced table expr ≡ reduced table expr
     unfolding tableReduced
     past-table = ap (λ (t : Test). t >> reduced table expr) (sym h ∙ test-passed c z)
@@ -61,7 +67,7 @@ module _ (table expr : List ℕ) (c : ℕ) (h : testOf c ≡ testTable table) wh
     unfolding printReduced
     table-refused n w = written-as before after m _ _ (ap printResult (sym (bad-table n))) w
 
-    module _ (z : c ≡ 0) (r : Closed) (worked : WorkedAs (reduced table expr) r) where
+    module _ (z : c ≡ 0) (r : Outcome) (worked : Gives (reduced table expr) r) where
       -- of a refused expression
       pub expression-refused : (r .refusal ≡ 0 → ⊥) → TextWritten before after m (printResult (refused (r .refusal))) → TextWritten before after m (printReduced table expr)
       unfolding printReduced
@@ -116,3 +122,25 @@ module _ (s : List ℕ) where
         → TextWritten before after m (printReduced (take (getD s 0 0 + 1 - 1) (drop 1 s)) (take (length s - (getD s 0 0 + 1)) (drop (getD s 0 0 + 1) s))) → TextWritten before after m (printCall s)
     unfolding printCall printReduced
     parts-printed l w = written-as before after m _ _ (ap printResult (sym (parts-tested l))) w
+
+-- ════ the answer
+
+-- memory that is too short
+pub answer-refused : (s memory : List ℕ) → length memory < lineBytes → _≡_ {A = Result ℕ × List ℕ} (refused 2, memory) (printAnswer s memory)
+unfolding printAnswer
+answer-refused s memory h = sym (rw (lt-leb lineBytes (length memory) h))
+
+-- the text
+pub answer-printed : (s memory memory′ : List ℕ) (n : ℕ) → lineBytes ≤ length memory → TextWritten memory memory′ n (printCall s)
+    → _≡_ {A = Result ℕ × List ℕ} (given n, memory′) (printAnswer s memory)
+unfolding printAnswer
+answer-printed s memory memory′ n h w = rw (le-leb lineBytes (length memory) h) (λ i. (given (w .ends i), w .bytes i))
+
+-- a text that was printed lies inside the memory lent
+pub printed-inside : (s before after : List ℕ) (r : Printing) (m : ℕ) → _≡_ {A = Result ℕ × List ℕ} (printingOf r, after) (printAnswer s before) → r ≡ Printed m → m ≤ length after
+unfolding printingOf printAnswer
+printed-inside s before after r m e h = go (leb lineBytes (length before)) ((λ i. (printingOf (sym h i), after)) ∙ e)
+  where
+    go : (b : Bool) → _≡_ {A = Result ℕ × List ℕ} (given m, after) (if b then (given (length (printCall s)), writeInto (printCall s) before) else (refused 2, before)) → m ≤ length after
+    go true q = written-inside (printCall s) before after m (given-same (ap (λ (p : Result ℕ × List ℕ). p .0) q)) (ap (λ (p : Result ℕ × List ℕ). p .1) q)
+    go false q = absurd (refused≢given (sym (ap (λ (p : Result ℕ × List ℕ). p .0) q)))

@@ -1,13 +1,17 @@
 // Runs the printer over cases from standard input. A case is the length of an input (two bytes) and the input. For each it writes what the printer prints.
-ghost use Prim.Native.Nat.{_+_, _<_, _≤_};
+ghost use Prim.Native.Nat.{_+_, _<_};
 ghost use lib.ListN.{length};
-use case_lines::byte_at;
+use case_lines::two_bytes_at;
+use printer_call::Printing;
 use printer_call::print;
+use printing::LINE_BYTES;
 
 // The line of a case.
 fn print_case(s: &[u8]) {
-    let mut out = [0u8; 1393];
-    let m = print(s, &mut out);
+    let mut out = [0u8; LINE_BYTES];
+    let Printing::Printed(m) = print(s, &mut out) else {
+        return;
+    };
     io::write_all(1, &out[..m]);
 }
 
@@ -20,7 +24,7 @@ fn case_at(s: &[u8], at: usize) -> usize
     if len - at < 2 {
         return len;
     }
-    let m = byte_at(s, at) * 256 + byte_at(s, at + 1);
+    let m = two_bytes_at(s, at);
     let b = at + 2;
     if len - b < m {
         return len;

@@ -14,9 +14,9 @@ use Rattle.specification.specs.Printing.{decimal, printFactor, printPart, isNot
 use Rattle.theory.specs.Elements.{All, all-T}
 use Rattle.theory.specs.Shape.Terms.{OneToThree, term-opens}
 use Rattle.theory.specs.Shape.Forms.{FormInShape}
-use Rattle.printing.specs.Text.{printFactors, printOthers}
-use Rattle.printing.proofs.Decimals.{decimal-short}
-use Rattle.printing.proofs.Pieces.{first-short, later-short}
+use Rattle.symbols.specs.Text.{printFactors, printOthers}
+use Rattle.symbols.proofs.Decimals.{decimal-short}
+use Rattle.symbols.proofs.Pieces.{first-short, later-short}
 
 -- ════ the pieces of a term
 

@@ -15,7 +15,7 @@ use Rattle.terms.specs.declared.types.Term.{Term}
 use Rattle.terms.specs.declared.types.Form.{Form}
 use Rattle.terms.specs.Abstraction.{termOf, formOf}
 use Rattle.terms.specs.Valid.{FormValid}
-use Rattle.printing.specs.Printable.{Printed, TermPrinted, Printable}
+use Rattle.symbols.specs.Printable.{Printed, TermPrinted, Printable}
 
 module _ (table : List ℕ) (good : T (goodTable table)) where
   letter-named : (kind n : ℕ) → Known table kind n → n < 24

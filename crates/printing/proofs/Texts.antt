@@ -10,7 +10,7 @@ use Rattle.specification.specs.Lists.{joined}
 use Rattle.specification.specs.Terms.{termInShape}
 use Rattle.specification.specs.Terms as S
 use Rattle.specification.specs.Records.{writeInto}
-use Rattle.specification.specs.Printing.{decimal, printFactor, printPart, printTerm, printFirstSign, printSign, printTerms, printForm, printResult}
+use Rattle.specification.specs.Printing.{lineBytes, decimal, printFactor, printPart, printTerm, printFirstSign, printSign, printTerms, printForm, printResult, TextWritten}
 use Rattle.theory.specs.Elements.{All}
 use Rattle.integers.specs.Over.{over}
 use Rattle.terms.specs.declared.types.Term.{Term}
@@ -21,13 +21,13 @@ use Rattle.terms.specs.Valid.{TermValid}
 use Rattle.terms.proofs.Arrays.{all-at, rest-at, nothing-left}
 use Rattle.records.specs.Written.{Written}
 use Rattle.records.proofs.Writes.{written-store, written-then, written-length}
-use Rattle.records.proofs.Forms.{term-at}
-use Rattle.printing.specs.Printable.{Printed, TermPrinted, TermPrintable, Printable}
-use Rattle.printing.specs.Text.{printFactors, StarWritten, TextWritten}
-use Rattle.printing.proofs.Decimals.{decimal-short}
-use Rattle.printing.proofs.Pieces.{first-short, later-short}
+use Rattle.forms.proofs.Forms.{term-at}
+use Rattle.symbols.specs.Printable.{Printed, TermPrinted, TermPrintable, Printable}
+use Rattle.symbols.specs.Text.{printFactors, StarWritten}
+use Rattle.symbols.proofs.Decimals.{decimal-short}
+use Rattle.symbols.proofs.Pieces.{first-short, later-short}
 use Rattle.printing.proofs.Lengths.{sizeText, starText, term-is, term-text-short, pieces-short, star-short, text-short}
-use Rattle.printing.proofs.Progress.{written-as}
+use Rattle.symbols.proofs.Progress.{written-as}
 
 -- ════ factors
 
@@ -159,7 +159,7 @@ module _ (f : Form) (l : List ℕ) where
 -- ════ lines
 
 -- a newline behind the text of a form
-pub line-written : (f : Form) (l m : List ℕ) (next : ℕ) → Printable f → 1393 ≤ length l → TextWritten l m next (printForm (formOf f .terms))
+pub line-written : (f : Form) (l m : List ℕ) (next : ℕ) → Printable f → lineBytes ≤ length l → TextWritten l m next (printForm (formOf f .terms))
     → (next < length m) × TextWritten l (set m next 10) (next + 1) (printResult (given (formOf f)))
 unfolding printResult
 line-written f l m next p h w =

@@ -6,16 +6,17 @@ ghost use Rattle.terms.specs.Valid.{FormValid};
 use case_lines::byte_at;
 use case_lines::print_bytes;
 use case_lines::print_character;
-use records::table::check_table;
-use records::take::read_form;
-use records::write::write_form;
+use forms::FORM_BYTES;
+use forms::read_form;
+use forms::write_form;
+use letters::check_table;
 use terms::types::Form;
 
 // A record written back.
 fn print_form(f: Form)
     requires { ⌜ FormValid f ⌝ }
 {
-    let mut out = [0u8; 770];
+    let mut out = [0u8; FORM_BYTES];
     let n = write_form(&mut out, f);
     print_character(b' ');
     print_bytes(&out[..n]);

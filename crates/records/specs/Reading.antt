@@ -1,28 +1,19 @@
 -- What the readers' structs say, and a term record as steps from one to the next. Assumes nothing.
-use mathlib.Core.Bool.{Bool, true, _&&_}
+use mathlib.Core.Bool.{Bool}
 use mathlib.Core.Path.{_≡_}
 use mathlib.Core.List.{List, [], map}
 use Prim.Native.Nat.{ℕ, _+_, _≤_}
-use lib.Dec.{eqb}
 use lib.IntN.{pos}
-use lib.ListN.{take}
-use Rattle.specification.specs.Results.{Result, refused, given, _>>=_, _>>_, require, if_then_else_}
-use Rattle.specification.specs.Terms.{withCoef, plus, termBefore}
+use Rattle.specification.specs.Results.{Result, refused, given, _>>=_, _>>_, if_then_else_}
+use Rattle.specification.specs.Terms.{withCoef, plus}
 use Rattle.specification.specs.Terms as S
-use Rattle.specification.specs.Records.{readCoef, readFactors, readLetters, testShape, readTermAt, stands, partLetters, partFits}
-use Rattle.theory.specs.Elements.{All}
+use Rattle.specification.specs.Records.{readCoef, readFactors, readLetters, testShape, stands, partLetters}
 use Rattle.terms.specs.declared.types.Part.the-variants.{Nothing}
 use Rattle.terms.specs.declared.types.Term.{Term}
-use Rattle.terms.specs.declared.types.Form.{Form}
-use Rattle.terms.specs.Abstraction.{termOf, formOf, Counted}
+use Rattle.terms.specs.Abstraction.{termOf, Counted}
 use Rattle.terms.specs.Build.{behind}
-use Rattle.terms.specs.Valid.{FormValid}
 use Rattle.records.specs.declared.read.Fields.{Fields}
 use Rattle.records.specs.declared.read.TermReading.{TermReading}
-use Rattle.records.specs.declared.take.FormReading.{FormReading}
-use Rattle.records.specs.declared.take.Taken.{Taken}
-
--- ════ a term
 
 -- what was read of a term, and the position behind it; the only refusal here is 11
 unfoldable pub readOf : TermReading → Result (S.Term × ℕ)
@@ -96,53 +87,3 @@ pub record Stepped (step : S.Term × ℕ → Result (S.Term × ℕ)) (more : ℕ
 pub record TermRead (read : Result (S.Term × ℕ)) (q : TermReading) : Type 0 where
   pub is : readOf q ≡ read
   pub counted : Counted (q .term)
-
--- ════ a form
-
--- the terms of a form
-unfoldable pub termsOf : Form → List S.Term
-termsOf f = map termOf (take (f .count) (f .terms))
-
--- the terms read so far
-unfoldable pub termsReadOf : FormReading → Result (List S.Term × ℕ)
-termsReadOf r = if r .ok then given (termsOf (r .form), r .next) else refused 11
-
--- a term comes behind the last of so many
-unfoldable pub behindLast : ℕ → S.Term → S.Term → Bool
-behindLast n last t = if eqb n 0 then true else termBefore last t
-
--- the term at a position, of a form's kind and behind the last of so many
-unfoldable pub readBehind : (kind n : ℕ) (last : S.Term) (s : List ℕ) (at : ℕ) → Result (S.Term × ℕ)
-readBehind kind n last s at = do
-  (t, next) ← readTermAt s at
-  require (partFits kind t && behindLast n last t) 11
-  given (t, next)
-
--- a form that a reader can go on with
-pub record Readable (n : ℕ) (f : Form) : Type 0 where
-  pub few : f .count ≤ n
-  pub counted : All Counted (take (f .count) (f .terms))
-
--- so many terms of a kind read
-pub record TermsTaken (read : Result (List S.Term × ℕ)) (k n : ℕ) (q : FormReading) : Type 0 where
-  pub is : termsReadOf q ≡ read
-  pub readable : Readable n (q .form)
-  pub kind : q .form .kind ≡ k
-
--- what was read of a form, and the position behind it
-unfoldable pub formReadOf : FormReading → Result (S.Form × ℕ)
-formReadOf r = if r .ok then given (formOf (r .form), r .next) else refused 11
-
--- a form read
-pub record FormRead (read : Result (S.Form × ℕ)) (q : FormReading) : Type 0 where
-  pub is : formReadOf q ≡ read
-  pub readable : Readable 48 (q .form)
-
--- a form taken from its sender, or the number: 0 stands for no refusal
-unfoldable pub takenOf : Taken → Result S.Form
-takenOf r = if eqb (r .refusal) 0 then given (formOf (r .form)) else refused (r .refusal)
-
--- the answer, and the named invariant of a form that was taken
-pub record FormTaken (answer : Result S.Form) (r : Taken) : Type 0 where
-  pub is : takenOf r ≡ answer
-  pub valid : r .refusal ≡ 0 → FormValid (r .form)

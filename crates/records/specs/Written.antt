@@ -3,8 +3,7 @@ use mathlib.Core.Path.{_≡_}
 use mathlib.Core.List.{List}
 use Prim.Native.Nat.{ℕ, _+_, _≤_}
 use lib.ListN.{length}
-use Rattle.specification.specs.Terms.{Form}
-use Rattle.specification.specs.Records.{bitOf, writeForm, writeInto}
+use Rattle.specification.specs.Records.{bitOf}
 use Rattle.integers.specs.Over.{over}
 
 -- the bytes xs written over those before, from a position on, and the position behind them
@@ -16,8 +15,3 @@ pub record Written (before after : List ℕ) (at next : ℕ) (xs : List ℕ) : T
 pub record FieldBit (from to value r : ℕ) : Type 0 where
   pub small : r ≤ value
   pub is : (xs : List ℕ) → to ≡ from + length xs → r ≡ bitOf xs value
-
--- the record of a form in front of the bytes lent, and its length
-pub record FormWritten (before after : List ℕ) (count : ℕ) (f : Form) : Type 0 where
-  pub ends : count ≡ length (writeForm f)
-  pub bytes : after ≡ writeInto (writeForm f) before

@@ -1,5 +1,3 @@
-// Records: tables and letters tested, terms and forms read and written.
+// Term records: read at a position of any bytes, and written into lent bytes.
 pub mod read;
-pub mod table;
-pub mod take;
 pub mod write;

@@ -1,57 +1,44 @@
-// Term and form records written into lent bytes.
+// Term records written into lent bytes.
 ghost use mathlib.Core.Path.{_≡_};
-ghost use Prim.Native.Nat.{_+_, _*_, _≤_, _<_, _%_};
+ghost use Prim.Native.Nat.{_+_, _≤_, _<_};
 ghost use lib.ListN.{length};
 ghost use Rattle.specification.specs.Lists.{joined};
 ghost use Rattle.specification.specs.Records.{factorsOf, coefField, countField, partBit, writeTerm};
 ghost use Rattle.terms.specs.Numbers.{lettersOf};
-ghost use Rattle.terms.specs.Abstraction.{partOf, termOf, formOf, Counted};
-ghost use Rattle.terms.specs.Valid.{TermValid, FormValid};
-ghost use Rattle.records.specs.Written.{Written, FieldBit, FormWritten};
+ghost use Rattle.terms.specs.Abstraction.{partOf, termOf, Counted};
+ghost use Rattle.terms.specs.Valid.{TermValid};
+ghost use Rattle.records.specs.Written.{Written, FieldBit};
 use integers::is_one;
 use integers::write_four_bytes;
-use terms::types::Form;
+use terms::factors::Factor;
+use terms::factors::letter_count;
+use terms::factors::letters_of;
 use terms::types::Part;
 use terms::types::Term;
-
-// The lowest byte.
-pub fn low(x: u32) -> u8
-    ensures { λ r. ⌜ r ≡ x % 256 ⌝ }
-{
-    (x % 256) as u8
-}
-
-// How many letters a factor has.
-pub fn letter_count(k: u32) -> usize
-    ensures { λ r. ⌜ r ≡ length (lettersOf k) ⌝ }
-{
-    if k < 256 {
-        return 1;
-    }
-    if k < 65792 {
-        return 2;
-    }
-    3
-}
 
 // The letters of a factor.
 fn write_letters(out: &mut [u8], at: usize, k: u32) -> usize
     requires { ⌜ (k < 16843008) × (at + length (lettersOf k) ≤ length (now out)) ⌝ }
     ensures { λ r. ⌜ Written (now (out .entry)) (now (out .exit)) at r (lettersOf k) ⌝ }
 {
-    if k < 256 {
-        out[at] = low(k);
-        return at + 1;
+    let f = letters_of(k);
+    match f {
+        Factor::Scalar(x) => {
+            out[at] = x;
+            at + 1
+        }
+        Factor::Dot(x, y) => {
+            out[at] = x;
+            out[at + 1] = y;
+            at + 2
+        }
+        Factor::Triple(x, y, z) => {
+            out[at] = x;
+            out[at + 1] = y;
+            out[at + 2] = z;
+            at + 3
+        }
     }
-    if k < 65792 {
-        out[at] = low((k - 256) / 256);
-        out[at + 1] = low(k - 256);
-        return at + 2;
-    }
-    out[at] = low((k - 65792) / 65536);
-    out[at + 1] = low((k - 65792) / 256);
-    out[at + 2] = low(k - 65792);
-    at + 3
 }
 
 // How many factors of one number of letters a term has.
@@ -169,22 +156,4 @@ pub fn write_term(out: &mut [u8], at: usize, t: Term) -> usize
         + field_bit(triples, part, 8)
         + part_bit(p);
     end
-}
-
-// The record of a form, at the start of the bytes lent.
-pub fn write_form(out: &mut [u8], f: Form) -> usize
-    requires { ⌜ FormValid f × (2 + 16 * f .count ≤ length (now out)) ⌝ }
-    ensures { λ r. ⌜ FormWritten (now (out .entry)) (now (out .exit)) r (formOf f) ⌝ }
-{
-    let n = f.count;
-    out[0] = f.kind;
-    out[1] = n as u8;
-    let mut at: usize = 2;
-    let mut i: usize = 0;
-    while i < n {
-        let t = f.terms[i];
-        at = write_term(out, at, t);
-        i += 1;
-    }
-    at
 }

@@ -9,28 +9,28 @@ use lib.ListN.{length}
 use Rattle.specification.specs.Results.{Result, Test, refused, given, _>>_, require}
 use Rattle.specification.specs.Letters.{testTable}
 use Rattle.specification.specs.Terms as S
-use Rattle.specification.specs.Records.{answerForm}
+use Rattle.specification.specs.Records.{formBytes, answerForm}
 use Rattle.specification.specs.Expressions.{Expr, readTree, readExpr}
 use Rattle.specification.specs.Reduction.{work, reduced, reduceTested, reduceCall}
 use Rattle.terms.specs.Abstraction.{formOf}
 use Rattle.terms.specs.declared.types.Form.{Form}
-use Rattle.gathering.specs.declared.Closed.{Closed}
-use Rattle.records.specs.Tested.{testOf}
-use Rattle.records.proofs.LetterTests.{test-passed, test-refused}
-use Rattle.records.specs.Written.{FormWritten}
-use Rattle.gathering.specs.Closing.{WorkedAs}
+use Rattle.terms.specs.declared.types.Outcome.{Outcome}
+use Rattle.letters.specs.Tested.{testOf}
+use Rattle.letters.proofs.LetterTests.{test-passed, test-refused}
+use Rattle.forms.specs.Written.{FormWritten}
+use Rattle.terms.specs.Valid.{Gives}
 use Rattle.gathering.proofs.Closing.{refuses, works-as, worked-given, worked-refused}
 use Rattle.reduction.specs.declared.trees.Tree.{Tree}
 use Rattle.reduction.specs.declared.Reduced.the-variants.{Written, Refused}
 use Rattle.reduction.specs.Answers.{reducedOf}
 use Rattle.reduction.specs.Trees.{ReadAs}
-use Rattle.reduction.proofs.Levels.{Found, read-refused, read-given}
+use Rattle.reduction.proofs.Levels.{TreeFound, read-refused, read-given}
 
 -- ════ an expression whole
 
 module _ (table s : List ℕ) where
   -- over 512 bytes
-  pub too-long : (r : Closed) → 512 < length s → r .refusal ≡ 3 → WorkedAs (reduced table s) r
+  pub too-long : (r : Outcome) → 512 < length s → r .refusal ≡ 3 → Gives (reduced table s) r
   unfolding reduced readExpr
   too-long r h e = refuses (reduced table s) r 3 e (λ z. omega arith) (rw (lt-leb (length s) 512 h))
 
@@ -40,21 +40,21 @@ module _ (table s : List ℕ) where
 
   module _ (t : Tree) (h : length s ≤ 512) (rt : ReadAs (readTree 16 table s 0) t) where
     -- reading refused
-    pub not-read : (r : Closed) → (t .unread ≡ 0 → ⊥) → r .refusal ≡ t .unread → WorkedAs (reduced table s) r
+    pub not-read : (r : Outcome) → (t .unread ≡ 0 → ⊥) → r .refusal ≡ t .unread → Gives (reduced table s) r
     unfolding reduced readExpr
     not-read r n e = refuses (reduced table s) r (t .unread) e n (rw (le-leb (length s) 512 h, read-refused (readTree 16 table s 0) t rt n))
 
     -- bytes are left over
-    pub left-over : (r : Closed) → t .unread ≡ 0 → (t .next ≡ length s → ⊥) → r .refusal ≡ 4 → WorkedAs (reduced table s) r
+    pub left-over : (r : Outcome) → t .unread ≡ 0 → (t .next ≡ length s → ⊥) → r .refusal ≡ 4 → Gives (reduced table s) r
     unfolding reduced readExpr
     left-over r u n e =
         refuses (reduced table s) r 4 e (λ z. omega arith)
         (rw (le-leb (length s) 512 h, read-given (readTree 16 table s 0) t rt u .is, ne-eqb (t .next) (length s) n))
 
     -- read whole
-    pub read-whole : t .unread ≡ 0 → t .next ≡ length s → WorkedAs (reduced table s) (t .work)
+    pub read-whole : t .unread ≡ 0 → t .next ≡ length s → Gives (reduced table s) (t .work)
     read-whole u n =
-        let f : Found (readTree 16 table s 0) t = read-given (readTree 16 table s 0) t rt u in
+        let f : TreeFound (readTree 16 table s 0) t = read-given (readTree 16 table s 0) t rt u in
         works-as (work (f .tree)) (reduced table s) (t .work)
         (sym (whole-is (f .tree) (t .next) h (f .is) n)) (f .worked)
 
@@ -74,20 +74,20 @@ module _ (table s out : List ℕ) where
     -- 1
     pub table-refused : (c ≡ 0 → ⊥) → _≡_ {A = Result ℕ × List ℕ} (reducedOf (Refused c), out) (reduceCall table s out)
     unfolding reduceTested
-    table-refused n = refused-call c (ap (λ (t : Test). t >> (require (leb 770 (length out)) 2 >> reduced table s)) (sym h ∙ test-refused c n))
+    table-refused n = refused-call c (ap (λ (t : Test). t >> (require (leb formBytes (length out)) 2 >> reduced table s)) (sym h ∙ test-refused c n))
 
     module _ (z : c ≡ 0) where
-      past-table : reduceTested table s out ≡ (require (leb 770 (length out)) 2 >> reduced table s)
+      past-table : reduceTested table s out ≡ (require (leb formBytes (length out)) 2 >> reduced table s)
       unfolding reduceTested
-      past-table = ap (λ (t : Test). t >> (require (leb 770 (length out)) 2 >> reduced table s)) (sym h ∙ test-passed c z)
+      past-table = ap (λ (t : Test). t >> (require (leb formBytes (length out)) 2 >> reduced table s)) (sym h ∙ test-passed c z)
 
       -- 2
-      pub short-refused : length out < 770 → _≡_ {A = Result ℕ × List ℕ} (reducedOf (Refused 2), out) (reduceCall table s out)
-      short-refused l = refused-call 2 (past-table ∙ rw (lt-leb 770 (length out) l))
+      pub short-refused : length out < formBytes → _≡_ {A = Result ℕ × List ℕ} (reducedOf (Refused 2), out) (reduceCall table s out)
+      short-refused l = refused-call 2 (past-table ∙ rw (lt-leb formBytes (length out) l))
 
-      module _ (l : 770 ≤ length out) (w : Closed) (worked : WorkedAs (reduced table s) w) where
+      module _ (l : formBytes ≤ length out) (w : Outcome) (worked : Gives (reduced table s) w) where
         past-length : reduceTested table s out ≡ reduced table s
-        past-length = past-table ∙ rw (le-leb 770 (length out) l)
+        past-length = past-table ∙ rw (le-leb formBytes (length out) l)
 
         -- what the expression is refused with
         pub content-refused : (w .refusal ≡ 0 → ⊥) → _≡_ {A = Result ℕ × List ℕ} (reducedOf (Refused (w .refusal)), out) (reduceCall table s out)

@@ -12,8 +12,8 @@ use Rattle.specification.specs.Letters.{kindOf}
 use Rattle.specification.specs.Records.{fourBytesAt}
 use Rattle.specification.specs.Expressions.{Expr, Letter, Constant, Sum, Difference, Negation, Times, Dot, Wedge, Triple, Token, leaf, one, two, three, tokenBytes, testBytes, readLetter, readToken}
 use Rattle.theory.specs.Tests.{and-false, required, passed}
-use Rattle.records.specs.Tested.{testOf}
-use Rattle.records.proofs.LetterTests.{test-passed, test-refused}
+use Rattle.letters.specs.Tested.{testOf}
+use Rattle.letters.proofs.LetterTests.{test-passed, test-refused}
 use Rattle.reduction.specs.Trees.{operandCount, testToken, testHead}
 
 -- ════ a token by its number

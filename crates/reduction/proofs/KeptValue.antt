@@ -8,10 +8,12 @@ use lib.Seq.{take-at}
 use Rattle.specification.specs.Results.{Result, refused, given, _>>_, require}
 use Rattle.specification.specs.Letters.{goodTable, testTable}
 use Rattle.specification.specs.Terms.{Form}
-use Rattle.specification.specs.Records.{writeForm, writeInto, answerForm, takeForm}
+use Rattle.specification.specs.Records.{formBytes, writeForm, writeInto, answerForm, takeForm}
 use Rattle.specification.specs.Reduction.{reduced, reduceTested, reduceCall}
+use Rattle.specification.specs.Promises.{KeepsValue}
 use Rattle.theory.specs.Tests.{refused≢given, given-same, required}
-use Rattle.theory.specs.Records.Forms.{form-read-back, form-short}
+use Rattle.theory.specs.Records.Lengths.{form-short}
+use Rattle.theory.specs.Records.Forms.{form-read-back}
 use Rattle.theory.specs.Reduction.Work.{ReducedTo, reduction-keeps-value}
 use Rattle.reduction.specs.declared.Reduced.{Reduced}
 use Rattle.reduction.specs.Answers.{reducedOf}
@@ -19,15 +21,15 @@ use Rattle.reduction.specs.Answers.{reducedOf}
 -- a length was written: the form that is read back from so many bytes has, under every assignment, the value of the expression (`ReducedTo`)
 pub record WrittenForm (table expr after : List ℕ) (n : ℕ) : Type 0 where
   pub form : Form
-  pub short : n ≤ 770
+  pub short : n ≤ formBytes
   pub readBack : takeForm table (take n after) ≡ given form
   pub reducedTo : ReducedTo table expr form
 
 tests-passed : (table expr out : List ℕ) (f : Form) → reduceTested table expr out ≡ given f → T (goodTable table) × (reduced table expr ≡ given f)
 unfolding reduceTested testTable
 tests-passed table expr out f e =
-    let a = required (goodTable table) 1 (require (leb 770 (length out)) 2 >> reduced table expr) f e in
-    let b = required (leb 770 (length out)) 2 (reduced table expr) f (a .1) in
+    let a = required (goodTable table) 1 (require (leb formBytes (length out)) 2 >> reduced table expr) f e in
+    let b = required (leb formBytes (length out)) 2 (reduced table expr) f (a .1) in
     (a .0, b .1)
 
 read-back : (table expr out : List ℕ) (f : Form) → ReducedTo table expr f → takeForm table (take (length (writeForm f)) (writeInto (writeForm f) out)) ≡ given f
@@ -45,7 +47,7 @@ written table expr out after n (given f) e h =
     let b : after ≡ writeInto (writeForm f) out = ap (λ (p : Result ℕ × List ℕ). p .1) h in
     record {
       form = f;
-      short = subst (λ (k : ℕ). k ≤ 770) (sym m) (form-short f (r .inShape));
+      short = subst (λ (k : ℕ). k ≤ formBytes) (sym m) (form-short f (r .inShape));
       readBack = (λ i. takeForm table (take (m i) (b i))) ∙ read-back table expr out f r;
       reducedTo = r;
     }
@@ -55,3 +57,10 @@ pub reduce-keeps-value : (table expr out after : List ℕ) (r : Reduced) (n : �
     → WrittenForm table expr after n
 unfolding reduceCall
 reduce-keeps-value table expr out after r n h e = written table expr out after n (reduceTested table expr out) refl ((λ i. (sym e i, after)) ∙ h)
+
+-- what is promised of the bytes written
+pub keeps-value : (table expr out after : List ℕ) (r : Reduced) → _≡_ {A = Result ℕ × List ℕ} (reducedOf r, after) (reduceCall table expr out)
+    → (n : ℕ) → reducedOf r ≡ given n → KeepsValue table expr (take n after)
+keeps-value table expr out after r h n e =
+    let w = reduce-keeps-value table expr out after r n h e in
+    record { tree = w .reducedTo .tree; form = w .form; isRead = w .reducedTo .read; isForm = w .readBack; sameValue = w .reducedTo .sameValue }

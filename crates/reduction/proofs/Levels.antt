@@ -20,11 +20,11 @@ use Rattle.theory.specs.Tests.{refused≢given, given-same}
 use Rattle.algebra.specs.Integers.{sfits-natAbs}
 use Rattle.integers.proofs.Machine.{back, back-is}
 use Rattle.terms.specs.declared.types.Form.{Form}
-use Rattle.terms.specs.Abstraction.{formOf}
-use Rattle.gathering.specs.declared.Closed.{Closed}
-use Rattle.gathering.specs.Closing.{closedOf, WorkedAs}
-use Rattle.records.specs.Tested.{testOf}
-use Rattle.records.proofs.LetterTests.{test-passed, test-refused}
+use Rattle.terms.specs.Abstraction.{formOf, outcomeOf}
+use Rattle.terms.specs.declared.types.Outcome.{Outcome}
+use Rattle.terms.specs.Valid.{Gives}
+use Rattle.letters.specs.Tested.{testOf}
+use Rattle.letters.proofs.LetterTests.{test-passed, test-refused}
 use Rattle.operators.specs.Sums.{Negated}
 use Rattle.gathering.proofs.Closing.{refuses, works-as}
 use Rattle.reduction.specs.declared.trees.Tree.{Tree}
@@ -38,84 +38,84 @@ either-way (inr b) f g = g b
 
 -- ════ the operator of a token with two operands
 
-module _ (token : ℕ) (f g : Form) (r : Closed) where
-  pub operates-sum : token ≡ 3 → WorkedAs (sumForms (formOf f) (formOf g)) r → WorkedAs (binary token (formOf f) (formOf g)) r
+module _ (token : ℕ) (f g : Form) (r : Outcome) where
+  pub operates-sum : token ≡ 3 → Gives (sumForms (formOf f) (formOf g)) r → Gives (binary token (formOf f) (formOf g)) r
   unfolding binary
   operates-sum e w = works-as _ _ r (ap (λ (t : ℕ). binary t (formOf f) (formOf g)) (sym e)) w
 
-  pub operates-difference : token ≡ 4 → WorkedAs (sumForms (formOf f) (negateForm (formOf g))) r → WorkedAs (binary token (formOf f) (formOf g)) r
+  pub operates-difference : token ≡ 4 → Gives (sumForms (formOf f) (negateForm (formOf g))) r → Gives (binary token (formOf f) (formOf g)) r
   unfolding binary
   operates-difference e w = works-as _ _ r (ap (λ (t : ℕ). binary t (formOf f) (formOf g)) (sym e)) w
 
-  pub operates-times : token ≡ 6 → WorkedAs (timesForms (formOf f) (formOf g)) r → WorkedAs (binary token (formOf f) (formOf g)) r
+  pub operates-times : token ≡ 6 → Gives (timesForms (formOf f) (formOf g)) r → Gives (binary token (formOf f) (formOf g)) r
   unfolding binary
   operates-times e w = works-as _ _ r (ap (λ (t : ℕ). binary t (formOf f) (formOf g)) (sym e)) w
 
-  pub operates-dot : token ≡ 7 → WorkedAs (dotForms (formOf f) (formOf g)) r → WorkedAs (binary token (formOf f) (formOf g)) r
+  pub operates-dot : token ≡ 7 → Gives (dotForms (formOf f) (formOf g)) r → Gives (binary token (formOf f) (formOf g)) r
   unfolding binary
   operates-dot e w = works-as _ _ r (ap (λ (t : ℕ). binary t (formOf f) (formOf g)) (sym e)) w
 
-  pub operates-wedge : token ≡ 8 → WorkedAs (wedgeForms (formOf f) (formOf g)) r → WorkedAs (binary token (formOf f) (formOf g)) r
+  pub operates-wedge : token ≡ 8 → Gives (wedgeForms (formOf f) (formOf g)) r → Gives (binary token (formOf f) (formOf g)) r
   unfolding binary
   operates-wedge e w = works-as _ _ r (ap (λ (t : ℕ). binary t (formOf f) (formOf g)) (sym e)) w
 
   -- no such token
-  pub operates-none : (token ≡ 3 → ⊥) → (token ≡ 4 → ⊥) → (token ≡ 6 → ⊥) → (token ≡ 7 → ⊥) → (token ≡ 8 → ⊥) → r .refusal ≡ 4 → WorkedAs (binary token (formOf f) (formOf g)) r
+  pub operates-none : (token ≡ 3 → ⊥) → (token ≡ 4 → ⊥) → (token ≡ 6 → ⊥) → (token ≡ 7 → ⊥) → (token ≡ 8 → ⊥) → r .refusal ≡ 4 → Gives (binary token (formOf f) (formOf g)) r
   unfolding binary
   operates-none a b c d e h =
       refuses (binary token (formOf f) (formOf g)) r 4 h (λ z. omega arith) (rw (ne-eqb token 3 a, ne-eqb token 4 b, ne-eqb token 6 c, ne-eqb token 7 d, ne-eqb token 8 e))
 
 -- ════ results of operands
 
-closed-refused : (x : Closed) → (x .refusal ≡ 0 → ⊥) → closedOf x ≡ refused (x .refusal)
-unfolding closedOf
+closed-refused : (x : Outcome) → (x .refusal ≡ 0 → ⊥) → outcomeOf x ≡ refused (x .refusal)
+unfolding outcomeOf
 closed-refused x h = rw (ne-eqb (x .refusal) 0 h)
 
-closed-given : (x : Closed) → x .refusal ≡ 0 → closedOf x ≡ given (formOf (x .form))
-unfolding closedOf
+closed-given : (x : Outcome) → x .refusal ≡ 0 → outcomeOf x ≡ given (formOf (x .form))
+unfolding outcomeOf
 closed-given x e = rw (eq-eqb (x .refusal) 0 e)
 
 -- a refusal handed on
-handed-on : (y : Result S.Form) (x : Closed) → (x .refusal ≡ 0 → ⊥) → y ≡ refused (x .refusal) → WorkedAs y x
+handed-on : (y : Result S.Form) (x : Outcome) → (x .refusal ≡ 0 → ⊥) → y ≡ refused (x .refusal) → Gives y x
 handed-on y x h e = refuses y x (x .refusal) refl h e
 
-module _ (x : Closed) where
-  pub one-refused : (x .refusal ≡ 0 → ⊥) → WorkedAs (onOne (closedOf x)) x
+module _ (x : Outcome) where
+  pub one-refused : (x .refusal ≡ 0 → ⊥) → Gives (onOne (outcomeOf x)) x
   unfolding onOne
-  one-refused h = handed-on (onOne (closedOf x)) x h (ap onOne (closed-refused x h))
+  one-refused h = handed-on (onOne (outcomeOf x)) x h (ap onOne (closed-refused x h))
 
-  pub one-negated : (g : Form) → x .refusal ≡ 0 → Negated (x .form) g → WorkedAs (onOne (closedOf x)) (record { refusal = 0; form = g })
-  unfolding onOne closedOf
+  pub one-negated : (g : Form) → x .refusal ≡ 0 → Negated (x .form) g → Gives (onOne (outcomeOf x)) (record { refusal = 0; form = g })
+  unfolding onOne outcomeOf
   one-negated g e n = record { is = ap given (n .is) ∙ sym (ap onOne (closed-given x e)); valid = λ z. n .valid }
 
-module _ (token : ℕ) (x y : Closed) where
-  pub left-refused : (x .refusal ≡ 0 → ⊥) → WorkedAs (onTwo token (closedOf x) (closedOf y)) x
+module _ (token : ℕ) (x y : Outcome) where
+  pub left-refused : (x .refusal ≡ 0 → ⊥) → Gives (onTwo token (outcomeOf x) (outcomeOf y)) x
   unfolding onTwo
-  left-refused h = handed-on (onTwo token (closedOf x) (closedOf y)) x h (ap (λ (r : Result S.Form). onTwo token r (closedOf y)) (closed-refused x h))
+  left-refused h = handed-on (onTwo token (outcomeOf x) (outcomeOf y)) x h (ap (λ (r : Result S.Form). onTwo token r (outcomeOf y)) (closed-refused x h))
 
-  pub right-refused : x .refusal ≡ 0 → (y .refusal ≡ 0 → ⊥) → WorkedAs (onTwo token (closedOf x) (closedOf y)) y
+  pub right-refused : x .refusal ≡ 0 → (y .refusal ≡ 0 → ⊥) → Gives (onTwo token (outcomeOf x) (outcomeOf y)) y
   unfolding onTwo
-  right-refused e h = handed-on (onTwo token (closedOf x) (closedOf y)) y h (λ i. onTwo token (closed-given x e i) (closed-refused y h i))
+  right-refused e h = handed-on (onTwo token (outcomeOf x) (outcomeOf y)) y h (λ i. onTwo token (closed-given x e i) (closed-refused y h i))
 
-  pub both-worked : (r : Closed) → x .refusal ≡ 0 → y .refusal ≡ 0 → WorkedAs (binary token (formOf (x .form)) (formOf (y .form))) r → WorkedAs (onTwo token (closedOf x) (closedOf y)) r
+  pub both-worked : (r : Outcome) → x .refusal ≡ 0 → y .refusal ≡ 0 → Gives (binary token (formOf (x .form)) (formOf (y .form))) r → Gives (onTwo token (outcomeOf x) (outcomeOf y)) r
   unfolding onTwo
   both-worked r e h w = works-as _ _ r (sym (λ i. onTwo token (closed-given x e i) (closed-given y h i))) w
 
-module _ (x y z : Closed) where
-  pub first-refused : (x .refusal ≡ 0 → ⊥) → WorkedAs (onThree (closedOf x) (closedOf y) (closedOf z)) x
+module _ (x y z : Outcome) where
+  pub first-refused : (x .refusal ≡ 0 → ⊥) → Gives (onThree (outcomeOf x) (outcomeOf y) (outcomeOf z)) x
   unfolding onThree
-  first-refused h = handed-on _ x h (ap (λ (r : Result S.Form). onThree r (closedOf y) (closedOf z)) (closed-refused x h))
+  first-refused h = handed-on _ x h (ap (λ (r : Result S.Form). onThree r (outcomeOf y) (outcomeOf z)) (closed-refused x h))
 
-  pub second-refused : x .refusal ≡ 0 → (y .refusal ≡ 0 → ⊥) → WorkedAs (onThree (closedOf x) (closedOf y) (closedOf z)) y
+  pub second-refused : x .refusal ≡ 0 → (y .refusal ≡ 0 → ⊥) → Gives (onThree (outcomeOf x) (outcomeOf y) (outcomeOf z)) y
   unfolding onThree
-  second-refused e h = handed-on _ y h (λ i. onThree (closed-given x e i) (closed-refused y h i) (closedOf z))
+  second-refused e h = handed-on _ y h (λ i. onThree (closed-given x e i) (closed-refused y h i) (outcomeOf z))
 
-  pub third-refused : x .refusal ≡ 0 → y .refusal ≡ 0 → (z .refusal ≡ 0 → ⊥) → WorkedAs (onThree (closedOf x) (closedOf y) (closedOf z)) z
+  pub third-refused : x .refusal ≡ 0 → y .refusal ≡ 0 → (z .refusal ≡ 0 → ⊥) → Gives (onThree (outcomeOf x) (outcomeOf y) (outcomeOf z)) z
   unfolding onThree
   third-refused e f h = handed-on _ z h (λ i. onThree (closed-given x e i) (closed-given y f i) (closed-refused z h i))
 
-  pub triple-worked : (r : Closed) → x .refusal ≡ 0 → y .refusal ≡ 0 → z .refusal ≡ 0 → WorkedAs (tripleForms (formOf (x .form)) (formOf (y .form)) (formOf (z .form))) r
-      → WorkedAs (onThree (closedOf x) (closedOf y) (closedOf z)) r
+  pub triple-worked : (r : Outcome) → x .refusal ≡ 0 → y .refusal ≡ 0 → z .refusal ≡ 0 → Gives (tripleForms (formOf (x .form)) (formOf (y .form)) (formOf (z .form))) r
+      → Gives (onThree (outcomeOf x) (outcomeOf y) (outcomeOf z)) r
   unfolding onThree
   triple-worked r e f g w = works-as _ _ r (sym (λ i. onThree (closed-given x e i) (closed-given y f i) (closed-given z g i))) w
 
@@ -199,7 +199,7 @@ module _ (table s : List ℕ) (at : ℕ) (h : LeafAt table s at) where
       go true e k = ltb-true (getD s (at + 1) 0) (length table) e
       go false e k = absurd (refused≢given k)
 
-  letter-read : getD s at 0 ≡ 1 → readToken table s at ≡ given (leaf (Letter (getD s (at + 1) 0) (getD table (getD s (at + 1) 0) 0)))
+  letter-read : getD s at 0 ≡ 1 → readToken table s at ≡ given (leaf (Letter (getD s (at + 1) 0) (kindOf table (getD s (at + 1) 0))))
   unfolding chain readLetter
   letter-read e = by-chain 1 e ∙ rw (lt-ltb (getD s (at + 1) 0) (length table) (letter-in e))
 
@@ -220,28 +220,30 @@ module _ (table s : List ℕ) (at : ℕ) (h : LeafAt table s at) where
   constant-read e = by-chain 2 e
 
   -- the leaf that was read and worked
-  leaf-read : (r : Tree) (w : Closed) (e : Expr) (t : ℕ) → getD s at 0 ≡ t → readToken table s at ≡ given (leaf e) → WorkedAs (work e) w
+  leaf-read : (r : Tree) (w : Outcome) (e : Expr) (t : ℕ) → getD s at 0 ≡ t → readToken table s at ≡ given (leaf e) → Gives (work e) w
       → (r .unread ≡ 0) × (r .next ≡ at + tokenBytes t) × (r .work ≡ w) → ReadAs (readLeaf table s at) r
   unfolding ReadAs readLeaf readOperands
   leaf-read r w e t k p worked q =
       let is : readLeaf table s at ≡ given (e, at + tokenBytes t) = (λ i. p i >>= readOperands (λ next. refused 4) (at + tokenBytes (k i))) in
-      subst (λ (x : Result (Expr × ℕ)). ReadAs x r) (sym is) (record { read = q .0; nextIs = q .1; worked = subst (WorkedAs (work e)) (sym (q .2)) worked })
+      subst (λ (x : Result (Expr × ℕ)). ReadAs x r) (sym is) (record { read = q .0; nextIs = q .1; worked = subst (Gives (work e)) (sym (q .2)) worked })
 
   -- a letter
-  pub leaf-letter : (r : Tree) (w : Closed) → getD s at 0 ≡ 1 → WorkedAs (given (letterForm (getD s (at + 1) 0) (getD table (getD s (at + 1) 0) 0))) w
+  pub leaf-letter : (r : Tree) (w : Outcome) (kind : ℕ) → getD s at 0 ≡ 1 → kind ≡ kindOf table (getD s (at + 1) 0) → Gives (given (letterForm (getD s (at + 1) 0) kind)) w
       → (r .unread ≡ 0) × (r .next ≡ at + 2) × (r .work ≡ w) → ReadAs (readLeaf table s at) r
   unfolding work tokenBytes
-  leaf-letter r w e k p = leaf-read r w (Letter (getD s (at + 1) 0) (getD table (getD s (at + 1) 0) 0)) 1 e (letter-read e) k p
+  leaf-letter r w kind e q k p =
+      leaf-read r w (Letter (getD s (at + 1) 0) (kindOf table (getD s (at + 1) 0))) 1 e (letter-read e)
+      (subst (λ (x : ℕ). Gives (given (letterForm (getD s (at + 1) 0) x)) w) q k) p
 
   -- a constant
-  pub leaf-constant : (r : Tree) (w : Closed) → (getD s at 0 ≡ 1 → ⊥) → WorkedAs (constantForm (fourBytesAt s (at + 1))) w
+  pub leaf-constant : (r : Tree) (w : Outcome) → (getD s at 0 ≡ 1 → ⊥) → Gives (constantForm (fourBytesAt s (at + 1))) w
       → (r .unread ≡ 0) × (r .next ≡ at + 5) × (r .work ≡ w) → ReadAs (readLeaf table s at) r
   unfolding work tokenBytes
   leaf-constant r w n k p = leaf-read r w (Constant (fourBytesAt s (at + 1))) 2 (constant-token n) (constant-read (constant-token n)) k p
 
 -- a constant as its bytes spell it
-pub constant-read-back : (k z : ℤ) (w : Closed) → (z ≡ k) × (natAbs z ≤ 2147483648) → WorkedAs (constantForm (back z)) w → WorkedAs (constantForm k) w
-constant-read-back k z w e h = subst (λ (y : ℤ). WorkedAs (constantForm y) w) (back-is (sfits-natAbs z (omega (arith, e .1))) ∙ e .0) h
+pub constant-read-back : (k z : ℤ) (w : Outcome) → (z ≡ k) × (natAbs z ≤ 2147483648) → Gives (constantForm (back z)) w → Gives (constantForm k) w
+constant-read-back k z w e h = subst (λ (y : ℤ). Gives (constantForm y) w) (back-is (sfits-natAbs z (omega (arith, e .1))) ∙ e .0) h
 
 -- ════ the tests at a level
 
@@ -321,13 +323,13 @@ read-refused (refused n) a r h = ap refused (sym (r .is))
 read-refused (given x) a r h = absurd (h (r .read))
 
 -- a tree that was read
-pub record Found (X : Result (Expr × ℕ)) (a : Tree) : Type 0 where
+pub record TreeFound (X : Result (Expr × ℕ)) (a : Tree) : Type 0 where
   pub tree : Expr
   pub is : X ≡ given (tree, a .next)
-  pub worked : WorkedAs (work tree) (a .work)
+  pub worked : Gives (work tree) (a .work)
 
 -- what reading gave
-pub read-given : (X : Result (Expr × ℕ)) (a : Tree) → ReadAs X a → a .unread ≡ 0 → Found X a
+pub read-given : (X : Result (Expr × ℕ)) (a : Tree) → ReadAs X a → a .unread ≡ 0 → TreeFound X a
 unfolding ReadAs
 read-given (refused n) a r e = absurd (r .some (sym (r .is) ∙ e))
 read-given (given x) a r e = record { tree = x .0; is = (λ i. given (x .0, sym (r .nextIs) i)); worked = r .worked }
@@ -355,7 +357,7 @@ module _ (T : ℕ → Result (Expr × ℕ)) (first t : ℕ) where
   first-unread (two op) n h o p = rw p
   first-unread (three op) n h o p = rw p
 
-  one-operand : (token : Token) (a r : Tree) → Shape t token → operandCount t ≡ 1 → Found (T first) a → r .unread ≡ 0 → r .next ≡ a .next → WorkedAs (onOne (closedOf (a .work))) (r .work)
+  one-operand : (token : Token) (a r : Tree) → Shape t token → operandCount t ≡ 1 → TreeFound (T first) a → r .unread ≡ 0 → r .next ≡ a .next → Gives (onOne (outcomeOf (a .work))) (r .work)
       → ReadAs (readOperands T first token) r
   unfolding ReadAs readOperands
   one-operand (leaf e) a r h o f u n w = absurd (nonsense (sym o ∙ h))
@@ -366,15 +368,16 @@ module _ (T : ℕ → Result (Expr × ℕ)) (first t : ℕ) where
   one-operand (three op) a r h o f u n w = absurd (unlike o (h .0) (λ e. omega arith))
 
   -- the second operand is refused
-  second-unread : (token : Token) (n : ℕ) (a : Tree) → Shape t token → (operandCount t ≡ 0 → ⊥) → (operandCount t ≡ 1 → ⊥) → Found (T first) a → T (a .next) ≡ refused n → readOperands T first token ≡ refused n
+  second-unread : (token : Token) (n : ℕ) (a : Tree) → Shape t token → (operandCount t ≡ 0 → ⊥) → (operandCount t ≡ 1 → ⊥) → TreeFound (T first) a
+      → T (a .next) ≡ refused n → readOperands T first token ≡ refused n
   unfolding readOperands
   second-unread (leaf e) n a h o o′ f p = absurd (o h)
   second-unread (one op) n a h o o′ f p = absurd (o′ (h .0))
   second-unread (two op) n a h o o′ f p = rw (f .is, p)
   second-unread (three op) n a h o o′ f p = rw (f .is, p)
 
-  two-operands : (token : Token) (a b r : Tree) → Shape t token → operandCount t ≡ 2 → Found (T first) a → Found (T (a .next)) b → r .unread ≡ 0 → r .next ≡ b .next
-      → WorkedAs (onTwo t (closedOf (a .work)) (closedOf (b .work))) (r .work) → ReadAs (readOperands T first token) r
+  two-operands : (token : Token) (a b r : Tree) → Shape t token → operandCount t ≡ 2 → TreeFound (T first) a → TreeFound (T (a .next)) b → r .unread ≡ 0 → r .next ≡ b .next
+      → Gives (onTwo t (outcomeOf (a .work)) (outcomeOf (b .work))) (r .work) → ReadAs (readOperands T first token) r
   unfolding ReadAs readOperands
   two-operands (leaf e) a b r h o f g u n w = absurd (nonsense (sym o ∙ h))
   two-operands (one op) a b r h o f g u n w = absurd (unlike o (h .0) (λ e. omega arith))
@@ -385,7 +388,7 @@ module _ (T : ℕ → Result (Expr × ℕ)) (first t : ℕ) where
   two-operands (three op) a b r h o f g u n w = absurd (unlike o (h .0) (λ e. omega arith))
 
   third-unread : (token : Token) (n : ℕ) (a b : Tree) → Shape t token → (operandCount t ≡ 0 → ⊥) → (operandCount t ≡ 1 → ⊥) → (operandCount t ≡ 2 → ⊥)
-      → Found (T first) a → Found (T (a .next)) b → T (b .next) ≡ refused n → readOperands T first token ≡ refused n
+      → TreeFound (T first) a → TreeFound (T (a .next)) b → T (b .next) ≡ refused n → readOperands T first token ≡ refused n
   unfolding readOperands
   third-unread (leaf e) n a b h o o′ o″ f g p = absurd (o h)
   third-unread (one op) n a b h o o′ o″ f g p = absurd (o′ (h .0))
@@ -393,8 +396,8 @@ module _ (T : ℕ → Result (Expr × ℕ)) (first t : ℕ) where
   third-unread (three op) n a b h o o′ o″ f g p = rw (f .is, g .is, p)
 
   three-operands : (token : Token) (a b d r : Tree) → Shape t token → (operandCount t ≡ 0 → ⊥) → (operandCount t ≡ 1 → ⊥) → (operandCount t ≡ 2 → ⊥)
-      → Found (T first) a → Found (T (a .next)) b → Found (T (b .next)) d → r .unread ≡ 0 → r .next ≡ d .next
-      → WorkedAs (onThree (closedOf (a .work)) (closedOf (b .work)) (closedOf (d .work))) (r .work) → ReadAs (readOperands T first token) r
+      → TreeFound (T first) a → TreeFound (T (a .next)) b → TreeFound (T (b .next)) d → r .unread ≡ 0 → r .next ≡ d .next
+      → Gives (onThree (outcomeOf (a .work)) (outcomeOf (b .work)) (outcomeOf (d .work))) (r .work) → ReadAs (readOperands T first token) r
   unfolding ReadAs readOperands
   three-operands (leaf e) a b d r h o o′ o″ f g k u n w = absurd (o h)
   three-operands (one op) a b d r h o o′ o″ f g k u n w = absurd (o′ (h .0))
@@ -402,12 +405,17 @@ module _ (T : ℕ → Result (Expr × ℕ)) (first t : ℕ) where
   three-operands (three op) a b d r h o o′ o″ f g k u n w =
       let is : readOperands T first (three op) ≡ given (op (f .tree) (g .tree) (k .tree), d .next) = rw (f .is, g .is, k .is) in
       subst (λ (x : Result (Expr × ℕ)). ReadAs x r) (sym is)
-      (record { read = u; nextIs = n; worked = works-as _ _ (r .work) (sym (h .1 (f .tree) (g .tree) (k .tree) ∙ (λ i. onThree (sym (f .worked .is) i) (sym (g .worked .is) i) (sym (k .worked .is) i)))) w })
+      (record {
+        read = u;
+        nextIs = n;
+        worked = works-as _ _ (r .work)
+            (sym (h .1 (f .tree) (g .tree) (k .tree) ∙ (λ i. onThree (sym (f .worked .is) i) (sym (g .worked .is) i) (sym (k .worked .is) i)))) w;
+      })
 
 -- ════ as the code goes
 
 -- a tree made from the position behind it and what working gave
-abbrev Made : Tree → ℕ → Closed → Type 0
+abbrev Made : Tree → ℕ → Outcome → Type 0
 Made r next w = (r .unread ≡ 0) × (r .next ≡ next) × (r .work ≡ w)
 
 module _ (depth : ℕ) (table s : List ℕ) (at : ℕ) (v : Level depth table s at) where
@@ -444,13 +452,13 @@ module _ (depth : ℕ) (table s : List ℕ) (at : ℕ) (v : Level depth table s 
         (read-refused (readTree (depth - 1) table s (at + 1)) a ra h))
 
     module _ (ea : a .unread ≡ 0) where
-      fa : Found (readTree (depth - 1) table s (at + 1)) a
+      fa : TreeFound (readTree (depth - 1) table s (at + 1)) a
       fa = read-given (readTree (depth - 1) table s (at + 1)) a ra ea
 
-      pub level-one : (r : Tree) (w : Closed) → k ≡ 1 → WorkedAs (onOne (closedOf (a .work))) w → Made r (a .next) w → ReadAs (readTree depth table s at) r
+      pub level-one : (r : Tree) (w : Outcome) → k ≡ 1 → Gives (onOne (outcomeOf (a .work))) w → Made r (a .next) w → ReadAs (readTree depth table s at) r
       level-one r w e h m =
           subst (λ (x : Result (Expr × ℕ)). ReadAs x r) (sym (behind operand))
-          (one-operand (readTree (depth - 1) table s) (at + 1) (getD s at 0) (v .token) a r shape (sym count ∙ e) fa (m .0) (m .1) (subst (WorkedAs (onOne (closedOf (a .work)))) (sym (m .2)) h))
+          (one-operand (readTree (depth - 1) table s) (at + 1) (getD s at 0) (v .token) a r shape (sym count ∙ e) fa (m .0) (m .1) (subst (Gives (onOne (outcomeOf (a .work)))) (sym (m .2)) h))
 
       module _ (b : Tree) (rb : ReadAs (readTree (depth - 1) table s (a .next)) b) (more : k ≡ 1 → ⊥) where
         operands : operandCount (getD s at 0) ≡ 1 → ⊥
@@ -462,14 +470,14 @@ module _ (depth : ℕ) (table s : List ℕ) (at : ℕ) (v : Level depth table s 
             (read-refused (readTree (depth - 1) table s (a .next)) b rb h))
 
         module _ (eb : b .unread ≡ 0) where
-          fb : Found (readTree (depth - 1) table s (a .next)) b
+          fb : TreeFound (readTree (depth - 1) table s (a .next)) b
           fb = read-given (readTree (depth - 1) table s (a .next)) b rb eb
 
-          pub level-two : (r : Tree) (w : Closed) → k ≡ 2 → WorkedAs (onTwo (getD s at 0) (closedOf (a .work)) (closedOf (b .work))) w → Made r (b .next) w → ReadAs (readTree depth table s at) r
+          pub level-two : (r : Tree) (w : Outcome) → k ≡ 2 → Gives (onTwo (getD s at 0) (outcomeOf (a .work)) (outcomeOf (b .work))) w → Made r (b .next) w → ReadAs (readTree depth table s at) r
           level-two r w e h m =
               subst (λ (x : Result (Expr × ℕ)). ReadAs x r) (sym (behind operand))
               (two-operands (readTree (depth - 1) table s) (at + 1) (getD s at 0) (v .token) a b r shape (sym count ∙ e) fa fb (m .0) (m .1)
-              (subst (WorkedAs (onTwo (getD s at 0) (closedOf (a .work)) (closedOf (b .work)))) (sym (m .2)) h))
+              (subst (Gives (onTwo (getD s at 0) (outcomeOf (a .work)) (outcomeOf (b .work)))) (sym (m .2)) h))
 
           module _ (d : Tree) (rd : ReadAs (readTree (depth - 1) table s (b .next)) d) (most : k ≡ 2 → ⊥) where
             three-of : operandCount (getD s at 0) ≡ 2 → ⊥
@@ -480,9 +488,10 @@ module _ (depth : ℕ) (table s : List ℕ) (at : ℕ) (v : Level depth table s 
                 handed d h (behind operand ∙ third-unread (readTree (depth - 1) table s) (at + 1) (getD s at 0) (v .token) (d .unread) a b shape operand operands three-of fa fb
                 (read-refused (readTree (depth - 1) table s (b .next)) d rd h))
 
-            pub level-three : (r : Tree) (w : Closed) → d .unread ≡ 0 → WorkedAs (onThree (closedOf (a .work)) (closedOf (b .work)) (closedOf (d .work))) w → Made r (d .next) w → ReadAs (readTree depth table s at) r
+            pub level-three : (r : Tree) (w : Outcome) → d .unread ≡ 0 → Gives (onThree (outcomeOf (a .work)) (outcomeOf (b .work)) (outcomeOf (d .work))) w
+                → Made r (d .next) w → ReadAs (readTree depth table s at) r
             level-three r w e h m =
                 subst (λ (x : Result (Expr × ℕ)). ReadAs x r) (sym (behind operand))
                 (three-operands (readTree (depth - 1) table s) (at + 1) (getD s at 0) (v .token) a b d r shape operand operands three-of fa fb
                 (read-given (readTree (depth - 1) table s (b .next)) d rd e) (m .0) (m .1)
-                (subst (WorkedAs (onThree (closedOf (a .work)) (closedOf (b .work)) (closedOf (d .work)))) (sym (m .2)) h))
+                (subst (Gives (onThree (outcomeOf (a .work)) (outcomeOf (b .work)) (outcomeOf (d .work)))) (sym (m .2)) h))

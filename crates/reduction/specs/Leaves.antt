@@ -5,10 +5,10 @@ use Prim.Native.Nat.{ℕ}
 use Rattle.specification.specs.Terms as S
 use Rattle.terms.specs.declared.types.Term.{Term}
 use Rattle.terms.specs.Abstraction.{termOf, Counted}
-use Rattle.gathering.specs.declared.Closed.{Closed}
+use Rattle.terms.specs.declared.types.Outcome.{Outcome}
 
 -- a form of so many terms, each the same, that is given
-pub record Alone (kind count : ℕ) (t : Term) (r : Closed) : Type 0 where
+pub record Alone (kind count : ℕ) (t : Term) (r : Outcome) : Type 0 where
   pub givenIs : r .refusal ≡ 0
   pub kindIs : r .form .kind ≡ kind
   pub countIs : r .form .count ≡ count

@@ -9,9 +9,8 @@ use Rattle.specification.specs.Results.{Result, Test, refused, given, _>>=_, _>
 use Rattle.specification.specs.Terms.{Form}
 use Rattle.specification.specs.Expressions.{Expr, tokenBytes, testBytes, readToken, readOperands}
 use Rattle.specification.specs.Reduction.{negateForm, sumForms, timesForms, dotForms, wedgeForms, tripleForms, work}
-use Rattle.terms.specs.Valid.{FormValid}
-use Rattle.gathering.specs.declared.Closed.{Closed}
-use Rattle.gathering.specs.Closing.{WorkedAs}
+use Rattle.terms.specs.Valid.{FormValid, Gives}
+use Rattle.terms.specs.declared.types.Outcome.{Outcome}
 use Rattle.reduction.specs.declared.trees.Tree.{Tree}
 
 -- ════ tokens
@@ -35,7 +34,7 @@ testHead depth table s at = do
 -- ════ working
 
 -- a result whose form is valid, if it is one
-unfoldable pub Sound : Closed → Type 0
+unfoldable pub Sound : Outcome → Type 0
 Sound x = x .refusal ≡ 0 → FormValid (x .form)
 
 -- the operator of a token with two operands
@@ -80,7 +79,7 @@ pub record Unread (n : ℕ) (r : Tree) : Type 0 where
 pub record TreeAs (e : Expr) (next : ℕ) (r : Tree) : Type 0 where
   pub read : r .unread ≡ 0
   pub nextIs : r .next ≡ next
-  pub worked : WorkedAs (work e) (r .work)
+  pub worked : Gives (work e) (r .work)
 
 -- what reading gave
 unfoldable pub ReadAs : Result (Expr × ℕ) → Tree → Type 0

@@ -4,19 +4,19 @@ ghost use Rattle.specification.specs.Results.{given};
 ghost use Rattle.specification.specs.Terms.{plus};
 ghost use Rattle.specification.specs.Reduction.{letterForm, constantForm};
 ghost use Rattle.terms.specs.Abstraction.{partOf};
-ghost use Rattle.gathering.specs.Closing.{WorkedAs};
+ghost use Rattle.terms.specs.Valid.{Gives};
 ghost use Rattle.reduction.specs.Leaves.{Alone, TermAs};
-use gathering::Closed;
 use integers::is_zero;
 use integers::within;
 use operators::answers::refuse;
 use terms::factors::scalar_number;
 use terms::types::Form;
+use terms::types::Outcome;
 use terms::types::Part;
 use terms::types::Term;
 
 // A form of so many terms, at most one.
-fn alone(kind: u8, count: usize, t: Term) -> Closed
+fn alone(kind: u8, count: usize, t: Term) -> Outcome
     ensures { λ r. ⌜ Alone kind count t r ⌝ }
 {
     let ts = [t; 48];
@@ -25,7 +25,7 @@ fn alone(kind: u8, count: usize, t: Term) -> Closed
         count: count,
         terms: ts,
     };
-    Closed {
+    Outcome {
         refusal: 0,
         form: f,
     }
@@ -60,8 +60,8 @@ fn bare(k: i64, p: Part) -> Term
 }
 
 // A letter of a kind.
-pub fn letter(n: u8, kind: u8) -> Closed
-    ensures { λ r. ⌜ WorkedAs (given (letterForm n kind)) r ⌝ }
+pub fn letter(n: u8, kind: u8) -> Outcome
+    ensures { λ r. ⌜ Gives (given (letterForm n kind)) r ⌝ }
 {
     if kind == 0 {
         return alone(0, 1, scalar_letter(n));
@@ -71,8 +71,8 @@ pub fn letter(n: u8, kind: u8) -> Closed
 }
 
 // A constant: 9 where it is beyond ±2147483647, the empty form where it is 0.
-pub fn constant(k: i64) -> Closed
-    ensures { λ r. ⌜ WorkedAs (constantForm k) r ⌝ }
+pub fn constant(k: i64) -> Outcome
+    ensures { λ r. ⌜ Gives (constantForm k) r ⌝ }
 {
     if !within(k) {
         return refuse(9);

@@ -1,12 +1,13 @@
 // Reduction: an expression read as a tree and worked into a form, and the call that writes its record.
 ghost use mathlib.Core.Path.{_≡_};
 ghost use Rattle.specification.specs.Reduction.{reduced, reduceCall};
-ghost use Rattle.gathering.specs.Closing.{WorkedAs};
+ghost use Rattle.terms.specs.Valid.{Gives};
 ghost use Rattle.reduction.specs.Answers.{reducedOf};
-use gathering::Closed;
+use forms::FORM_BYTES;
+use forms::write_form;
+use letters::check_table;
 use operators::answers::refuse;
-use records::table::check_table;
-use records::write::write_form;
+use terms::types::Outcome;
 
 pub mod leaves;
 pub mod tokens;
@@ -21,8 +22,8 @@ pub enum Reduced {
 }
 
 // The form of an expression: over 512 bytes is 3, bytes left over are 4; reading precedes working.
-pub fn form_of(table: &[u8], s: &[u8]) -> Closed
-    ensures { λ r. ⌜ WorkedAs (reduced (now (table .entry)) (now (s .entry))) r ⌝ }
+pub fn form_of(table: &[u8], s: &[u8]) -> Outcome
+    ensures { λ r. ⌜ Gives (reduced (now (table .entry)) (now (s .entry))) r ⌝ }
 {
     if s.len() > 512 {
         return refuse(3);
@@ -46,7 +47,7 @@ pub fn reduce(table: &[u8], s: &[u8], out: &mut [u8]) -> Reduced
     if c != 0 {
         return Reduced::Refused(c);
     }
-    if out.len() < 770 {
+    if out.len() < FORM_BYTES {
         return Reduced::Refused(2);
     }
     let w = form_of(table, s);

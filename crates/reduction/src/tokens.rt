@@ -5,7 +5,7 @@ ghost use lib.Dec.{ltb};
 ghost use lib.ListN.{length, getD};
 ghost use Rattle.specification.specs.Results.{require};
 ghost use Rattle.specification.specs.Expressions.{tokenBytes, testBytes};
-ghost use Rattle.records.specs.Tested.{testOf};
+ghost use Rattle.letters.specs.Tested.{testOf};
 ghost use Rattle.reduction.specs.Trees.{operandCount, testToken, testHead};
 
 // How many bytes a token has of its own.

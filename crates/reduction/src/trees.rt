@@ -1,16 +1,15 @@
 // Trees: read in prefix order, operands left to right, and worked on the way. What reading refuses comes before what working refuses.
 ghost use mathlib.Core.Path.{_≡_};
 ghost use Rattle.specification.specs.Expressions.{readTree};
-ghost use Rattle.terms.specs.Abstraction.{formOf};
-ghost use Rattle.terms.specs.Valid.{FormValid};
-ghost use Rattle.gathering.specs.Closing.{closedOf, WorkedAs};
+ghost use Rattle.terms.specs.Abstraction.{formOf, outcomeOf};
+ghost use Rattle.terms.specs.Valid.{FormValid, Gives};
 ghost use Rattle.reduction.specs.Trees.{binary, onOne, onTwo, onThree, Sound, LeafAt, readLeaf, ReadAs};
 use crate::leaves::constant;
 use crate::leaves::letter;
 use crate::tokens::operands;
 use crate::tokens::test_head;
-use gathering::Closed;
 use integers::four_bytes_at;
+use letters::kind_of;
 use operators::answers::refuse;
 use operators::products::dot;
 use operators::products::times;
@@ -20,12 +19,13 @@ use operators::sums::difference;
 use operators::sums::negate;
 use operators::sums::sum;
 use terms::types::Form;
+use terms::types::Outcome;
 
 // A tree: what reading refused, the position behind it, and what working gave.
 pub struct Tree {
     pub unread: u8,
     pub next: usize,
-    pub work: Closed,
+    pub work: Outcome,
 }
 
 // A tree that reading refused.
@@ -41,9 +41,9 @@ fn unread(n: u8) -> Tree
 }
 
 // The operator of a token with two operands, on two forms.
-fn operate(token: u8, f: Form, g: Form) -> Closed
+fn operate(token: u8, f: Form, g: Form) -> Outcome
     requires { ⌜ FormValid f × FormValid g ⌝ }
-    ensures { λ r. ⌜ WorkedAs (binary token (formOf f) (formOf g)) r ⌝ }
+    ensures { λ r. ⌜ Gives (binary token (formOf f) (formOf g)) r ⌝ }
 {
     match token {
         3 => sum(f, g),
@@ -56,25 +56,25 @@ fn operate(token: u8, f: Form, g: Form) -> Closed
 }
 
 // One operand: its refusal, or its form with the signs turned.
-fn apply_one(x: Closed) -> Closed
+fn apply_one(x: Outcome) -> Outcome
     requires { ⌜ Sound x ⌝ }
-    ensures { λ r. ⌜ WorkedAs (onOne (closedOf x)) r ⌝ }
+    ensures { λ r. ⌜ Gives (onOne (outcomeOf x)) r ⌝ }
 {
     if x.refusal != 0 {
         return x;
     }
     let f = x.form;
     let g = negate(f);
-    Closed {
+    Outcome {
         refusal: 0,
         form: g,
     }
 }
 
 // Two operands: the left refusal, the right one, or the operator.
-fn apply_two(token: u8, x: Closed, y: Closed) -> Closed
+fn apply_two(token: u8, x: Outcome, y: Outcome) -> Outcome
     requires { ⌜ Sound x × Sound y ⌝ }
-    ensures { λ r. ⌜ WorkedAs (onTwo token (closedOf x) (closedOf y)) r ⌝ }
+    ensures { λ r. ⌜ Gives (onTwo token (outcomeOf x) (outcomeOf y)) r ⌝ }
 {
     if x.refusal != 0 {
         return x;
@@ -88,9 +88,9 @@ fn apply_two(token: u8, x: Closed, y: Closed) -> Closed
 }
 
 // Three operands: the first refusal, or their triple.
-fn apply_three(x: Closed, y: Closed, z: Closed) -> Closed
+fn apply_three(x: Outcome, y: Outcome, z: Outcome) -> Outcome
     requires { ⌜ Sound x × Sound y × Sound z ⌝ }
-    ensures { λ r. ⌜ WorkedAs (onThree (closedOf x) (closedOf y) (closedOf z)) r ⌝ }
+    ensures { λ r. ⌜ Gives (onThree (outcomeOf x) (outcomeOf y) (outcomeOf z)) r ⌝ }
 {
     if x.refusal != 0 {
         return x;
@@ -115,7 +115,7 @@ fn leaf(table: &[u8], s: &[u8], at: usize) -> Tree
     let token = s[at];
     if token == 1 {
         let n = s[at + 1];
-        let k = table[n as usize];
+        let k = kind_of(table, n as usize);
         let w = letter(n, k);
         return Tree {
             unread: 0,

@@ -8,6 +8,7 @@ use case_lines::print_bytes;
 use case_lines::print_character;
 use case_lines::print_refusal;
 use case_lines::print_values;
+use forms::FORM_BYTES;
 use reduction::Reduced;
 use reduction::reduce;
 
@@ -20,7 +21,7 @@ fn print_form(table: &[u8], form: &[u8], assignment: &[u8]) {
 
 // The line of a case.
 fn print_case(table: &[u8], expression: &[u8], assignment: &[u8]) {
-    let mut out = [0u8; 770];
+    let mut out = [0u8; FORM_BYTES];
     let r = reduce(table, expression, &mut out);
     match r {
         Reduced::Written(n) => print_form(table, &out[..n], assignment),

@@ -4,26 +4,25 @@ use mathlib.Core.Bool.{Bool, true, false, _&&_}
 use mathlib.Core.List.{List}
 use Prim.Native.Nat.{ℕ, _+_, _<_, _≤_}
 use native.Mathlib.Omega.{arith}
-use borrow.Author.Tests.{eq-eqb, eqb-true, eqb-false}
+use borrow.Author.Tests.{eq-eqb}
 use lib.Dec.{T, eqb}
 use lib.ListN.{length, getD, take, drop}
 use lib.Seq.{length-take-le}
-use Rattle.specification.specs.Results.{Result, refused, given}
+use Rattle.specification.specs.Results.{refused, given}
 use Rattle.specification.specs.Letters.{vector, testLetter, testLetters}
 use Rattle.specification.specs.Terms.{termInShape}
-use Rattle.specification.specs.Terms as S
 use Rattle.specification.specs.Records.{testTerm}
 use Rattle.specification.specs.Rules.{isRule, ruleLetters, stepInShape, testStepLetters, takeStep, stepAt}
 use Rattle.terms.specs.declared.types.Form.{Form}
 use Rattle.terms.specs.Abstraction.{termOf, formOf, Counted}
 use Rattle.terms.proofs.Arrays.{rest-at, nothing-left}
-use Rattle.gathering.specs.declared.Closed.{Closed}
-use Rattle.gathering.specs.Closing.{WorkedAs}
-use Rattle.gathering.proofs.Closing.{refuses, works-as, worked-given, worked-refused}
-use Rattle.records.specs.Tested.{testOf}
-use Rattle.records.proofs.LetterTests.{stops, goes-on, test-passed, test-refused}
+use Rattle.terms.specs.declared.types.Outcome.{Outcome}
+use Rattle.terms.specs.Valid.{Gives}
+use Rattle.gathering.proofs.Closing.{refuses, works-as}
+use Rattle.letters.specs.Tested.{testOf}
+use Rattle.letters.proofs.LetterTests.{stops, goes-on, test-passed, test-refused}
 use Rattle.rules.specs.declared.steps.Step.{Step}
-use Rattle.rules.specs.Steps.{stepOf, StepValid, isGiven, admissible}
+use Rattle.rules.specs.Steps.{stepOf, StepValid}
 use Rattle.rules.proofs.Taking.{few-letters}
 
 -- ════ the rule's letters
@@ -50,12 +49,16 @@ module _ (table ls : List ℕ) (n i : ℕ) (h : n ≤ length ls) where
 module _ (table : List ℕ) (s : Step) (r n : ℕ) (e : n ≡ ruleLetters (s .rule)) (t : testOf r ≡ testLetters table vector (take n (s .letters))) where
   pub rule-letters-stop : (r ≡ 0 → ⊥) → testOf r ≡ testStepLetters table (stepOf s)
   unfolding testStepLetters stepOf
-  rule-letters-stop h = stops r (testLetters table vector (take (ruleLetters (s .rule)) (s .letters))) (testTerm table (termOf (s .m))) (t ∙ ap (λ (m : ℕ). testLetters table vector (take m (s .letters))) e) h
+  rule-letters-stop h =
+      stops r (testLetters table vector (take (ruleLetters (s .rule)) (s .letters))) (testTerm table (termOf (s .m)))
+      (t ∙ ap (λ (m : ℕ). testLetters table vector (take m (s .letters))) e) h
 
   pub rule-letters-pass : (q : ℕ) → r ≡ 0 → testOf q ≡ testTerm table (termOf (s .m)) → testOf q ≡ testStepLetters table (stepOf s)
   unfolding testStepLetters stepOf
   rule-letters-pass q h u =
-      u ∙ sym (goes-on r (testLetters table vector (take (ruleLetters (s .rule)) (s .letters))) (testTerm table (termOf (s .m))) (t ∙ ap (λ (m : ℕ). testLetters table vector (take m (s .letters))) e) h)
+      u ∙ sym
+      (goes-on r (testLetters table vector (take (ruleLetters (s .rule)) (s .letters))) (testTerm table (termOf (s .m)))
+      (t ∙ ap (λ (m : ℕ). testLetters table vector (take m (s .letters))) e) h)
 
 -- ════ the step
 
@@ -73,18 +76,18 @@ module _ (table : List ℕ) (f : Form) (s : Step) (six : length (s .letters) ≡
       go true = refl
       go false = refl
 
-  out-of-shape : (r : Closed) → stepInShape (stepOf s) ≡ false → r .refusal ≡ 11 → WorkedAs (stepAt table (formOf f) (stepOf s)) r
+  out-of-shape : (r : Outcome) → stepInShape (stepOf s) ≡ false → r .refusal ≡ 11 → Gives (stepAt table (formOf f) (stepOf s)) r
   unfolding stepAt
   out-of-shape r h e = refuses (stepAt table (formOf f) (stepOf s)) r 11 e (λ z. omega arith) (rw h)
 
   module _ (b : Bool) (eb : b ≡ isRule (s .rule)) where
     -- no rule
-    pub no-rule : (r : Closed) → b ≡ false → r .refusal ≡ 11 → WorkedAs (stepAt table (formOf f) (stepOf s)) r
+    pub no-rule : (r : Outcome) → b ≡ false → r .refusal ≡ 11 → Gives (stepAt table (formOf f) (stepOf s)) r
     no-rule r h = out-of-shape r (shape-is ∙ ap (λ (x : Bool). x && termInShape (termOf (s .m))) (sym eb ∙ h))
 
     module _ (hb : b ≡ true) (m : Bool) (em : m ≡ termInShape (termOf (s .m))) where
       -- M is not in shape
-      pub no-shape : (r : Closed) → m ≡ false → r .refusal ≡ 11 → WorkedAs (stepAt table (formOf f) (stepOf s)) r
+      pub no-shape : (r : Outcome) → m ≡ false → r .refusal ≡ 11 → Gives (stepAt table (formOf f) (stepOf s)) r
       no-shape r h = out-of-shape r (shape-is ∙ (λ i. (sym eb ∙ hb) i && (sym em ∙ h) i))
 
       module _ (hm : m ≡ true) where
@@ -96,20 +99,11 @@ module _ (table : List ℕ) (f : Form) (s : Step) (six : length (s .letters) ≡
 
         module _ (n : ℕ) (t : testOf n ≡ testStepLetters table (stepOf s)) where
           -- the letters are refused
-          pub letters-refused : (r : Closed) → (n ≡ 0 → ⊥) → r .refusal ≡ n → WorkedAs (stepAt table (formOf f) (stepOf s)) r
+          pub letters-refused : (r : Outcome) → (n ≡ 0 → ⊥) → r .refusal ≡ n → Gives (stepAt table (formOf f) (stepOf s)) r
           unfolding stepAt
           letters-refused r h e = refuses (stepAt table (formOf f) (stepOf s)) r n e h (rw (in-shape-is, ← t, test-refused n h))
 
           -- the step decides
-          pub step-decides : (r : Closed) → n ≡ 0 → WorkedAs (takeStep (formOf f) (stepOf s)) r → WorkedAs (stepAt table (formOf f) (stepOf s)) r
+          pub step-decides : (r : Outcome) → n ≡ 0 → Gives (takeStep (formOf f) (stepOf s)) r → Gives (stepAt table (formOf f) (stepOf s)) r
           unfolding stepAt
           step-decides r h = works-as (takeStep (formOf f) (stepOf s)) (stepAt table (formOf f) (stepOf s)) r (rw (in-shape-is, ← t, test-passed n h))
-
--- admissible where nothing was refused
-pub admissible-is : (x : Result S.Form) (r : Closed) → WorkedAs x r → eqb (r .refusal) 0 ≡ isGiven x
-unfolding isGiven
-admissible-is x r w = go (eqb (r .refusal) 0) refl
-  where
-    go : (b : Bool) → eqb (r .refusal) 0 ≡ b → b ≡ isGiven x
-    go true e = sym (ap isGiven (worked-given x r w (eqb-true _ _ e)))
-    go false e = sym (ap isGiven (worked-refused x r w (eqb-false _ _ e)))

@@ -29,12 +29,13 @@ use Rattle.terms.specs.declared.shape.Used.{Used}
 use Rattle.terms.specs.Used.{UsedBy}
 use Rattle.terms.proofs.InShape.{factors-count}
 use Rattle.gathering.specs.declared.Sum.{Sum}
-use Rattle.gathering.specs.declared.Closed.{Closed}
+use Rattle.terms.specs.declared.types.Outcome.{Outcome}
 use Rattle.gathering.specs.Sums.{sumOf, Bringable, AllBrought}
-use Rattle.gathering.specs.Closing.{limitedOf, LimitsTested, ClosedAs, WorkedAs}
+use Rattle.terms.specs.Valid.{Gives}
+use Rattle.gathering.specs.Closing.{limitedOf, LimitsTested, ClosedAs}
 use Rattle.gathering.proofs.Closing.{works-as, closes}
-use Rattle.records.specs.Tested.{testOf}
-use Rattle.records.proofs.LetterTests.{test-passed, test-refused}
+use Rattle.letters.specs.Tested.{testOf}
+use Rattle.letters.proofs.LetterTests.{test-passed, test-refused}
 use Rattle.rules.specs.declared.steps.Step.{Step}
 use Rattle.rules.specs.Table.{ruleRows, partAt, rowTerm, rowTerms, firstRow, rowCount, TimesRow}
 use Rattle.rules.specs.declared.steps.StepTerms.{StepTerms}
@@ -202,7 +203,9 @@ module _ (f : S.Form) (s : Step) where
   unfolding takeStep stepTests stepKindsFit
   step-tested = go (stepKindsFit f (stepOf s)) (leb (vectorLetters (stepOf s .m) + ruleLetters (stepOf s .rule)) 6)
     where
-      go : (a b : Bool) → (require a 6 >> (require b 8 >> within (f .kind) (gather (f .terms ++ stepTerms (stepOf s))))) ≡ ((require a 6 >> require b 8) >> within (f .kind) (gather (f .terms ++ stepTerms (stepOf s))))
+      go : (a b : Bool)
+          → (require a 6 >> (require b 8 >> within (f .kind) (gather (f .terms ++ stepTerms (stepOf s)))))
+          ≡ ((require a 6 >> require b 8) >> within (f .kind) (gather (f .terms ++ stepTerms (stepOf s))))
       go true true = refl
       go true false = refl
       go false b = refl
@@ -229,7 +232,7 @@ module _ (f : S.Form) (s : Step) where
         gathered = ab .is ∙ (λ j. gatherInto (is j) (wa .is j)) ∙ gather-onto (f .terms) (stepTerms (stepOf s)) (form-gathered f shape)
 
         -- closed
-        pub step-closed : (r : Closed) → ClosedAs b (f .kind) r → WorkedAs (takeStep f (stepOf s)) r
+        pub step-closed : (r : Outcome) → ClosedAs b (f .kind) r → Gives (takeStep f (stepOf s)) r
         step-closed r c =
             works-as (within (f .kind) (gather (f .terms ++ stepTerms (stepOf s)))) (takeStep f (stepOf s)) r (sym gathers)
             (closes b (f .kind) (f .terms ++ stepTerms (stepOf s)) r (shape .kind) gathered fits c)

@@ -12,7 +12,7 @@ use Rattle.specification.specs.Rules.{rule1, rule2, rule3, rule4, bracket, rule
 use Rattle.specification.specs.Terms as S
 use Rattle.theory.specs.Elements.{All}
 use Rattle.theory.specs.Rules.Table.{by-rule, ruleTerms}
-use Rattle.rules.specs.Table.{ruleRows, letter, letterAt, factorAt, partAt, signOf, rowTerm, rowTerms, firstRow, rowCount, RowsOf}
+use Rattle.rules.specs.Table.{ruleRows, letter, letterAt, factorAt, partAt, rowSign, rowTerm, rowTerms, firstRow, rowCount, RowsOf}
 
 -- six letters
 by-letters : (P : List ℕ → Type 0) → ((a b c d e f : ℕ) → P (a ∷ b ∷ c ∷ d ∷ e ∷ f ∷ [])) → (l : List ℕ) → length l ≡ 6 → P l
@@ -28,7 +28,7 @@ by-letters P h (a ∷ b ∷ c ∷ d ∷ e ∷ f ∷ g ∷ l) n = absurd (omega a
 -- the test
 rows-are : (r : ℕ) → T (isRule r) → (a b c d e f : ℕ)
     → rowTerms (a ∷ b ∷ c ∷ d ∷ e ∷ f ∷ []) (firstRow r) (rowCount r) ≡ ruleTerms r (take (ruleLetters r) (a ∷ b ∷ c ∷ d ∷ e ∷ f ∷ []))
-unfolding ruleRows letter letterAt factorAt partAt signOf rowTerm rowTerms firstRow rowCount ruleTerms sides rule1 rule2 rule3 rule4 bracket rule5 ruleLetters
+unfolding ruleRows letter letterAt factorAt partAt rowSign rowTerm rowTerms firstRow rowCount ruleTerms sides rule1 rule2 rule3 rule4 bracket rule5 ruleLetters
 rows-are =
     by-rule (λ (r : ℕ). (a b c d e f : ℕ) → rowTerms (a ∷ b ∷ c ∷ d ∷ e ∷ f ∷ []) (firstRow r) (rowCount r) ≡ ruleTerms r (take (ruleLetters r) (a ∷ b ∷ c ∷ d ∷ e ∷ f ∷ [])))
     (λ a b c d e f. refl) (λ a b c d e f. refl) (λ a b c d e f. refl) (λ a b c d e f. refl) (λ a b c d e f. refl)
@@ -40,7 +40,9 @@ tied r h = by-letters (λ (l : List ℕ). rowTerms l (firstRow r) (rowCount r) �
 -- a rule's rows are in the table, and at most seven
 pub rows-inside : (r : ℕ) → T (isRule r) → (firstRow r + rowCount r ≤ 23) × (rowCount r ≤ 7)
 unfolding firstRow rowCount
-rows-inside = by-rule (λ (r : ℕ). (firstRow r + rowCount r ≤ 23) × (rowCount r ≤ 7)) (omega arith, omega arith) (omega arith, omega arith) (omega arith, omega arith) (omega arith, omega arith) (omega arith, omega arith)
+rows-inside =
+    by-rule (λ (r : ℕ). (firstRow r + rowCount r ≤ 23) × (rowCount r ≤ 7)) (omega arith, omega arith) (omega arith, omega arith) (omega arith, omega arith)
+    (omega arith, omega arith) (omega arith, omega arith)
 
 -- in numbers
 pub rows-few : (r n : ℕ) → T (isRule r) → n ≡ rowCount r → n ≤ 7

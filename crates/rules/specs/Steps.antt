@@ -1,14 +1,12 @@
 -- Steps as data. Assumes nothing.
-use mathlib.Core.Bool.{Bool, true, false}
 use mathlib.Core.Path.{_≡_}
-use mathlib.Core.List.{List, [], map}
+use mathlib.Core.List.{[], map}
 use Prim.Native.Nat.{ℕ, _+_, _≤_}
 use lib.Dec.{T, leb}
 use lib.ListN.{length, take}
-use Rattle.specification.specs.Results.{Result, Test, refused, given, _>>_, require}
-use Rattle.specification.specs.Terms as S
+use Rattle.specification.specs.Results.{Test, given, _>>_, require}
 use Rattle.specification.specs.Terms.{vectorLetters}
-use Rattle.specification.specs.Rules.{ruleLetters, isRule, stepKindsFit, stepTerms, stepAt}
+use Rattle.specification.specs.Rules.{ruleLetters, isRule, stepKindsFit, stepTerms}
 use Rattle.specification.specs.Rules as R
 use Rattle.terms.specs.Abstraction.{termOf}
 use Rattle.terms.specs.Valid.{TermValid}
@@ -43,12 +41,3 @@ pub record StepAdds (s : Step) (r : StepTerms) : Type 0 where
   pub few : r .count ≤ 7
   pub six : length (s .letters) ≡ 6
   pub bringable : All Bringable (take (r .count) (r .terms))
-
--- no refusal
-unfoldable pub isGiven : {A : Type 0} → Result A → Bool
-isGiven (refused n) = false
-isGiven (given a) = true
-
--- "Admissible at a form means that, with that form as the current one, no refusal below applies to the step"
-unfoldable pub admissible : (table : List ℕ) (f : S.Form) (s : R.Step) → Bool
-admissible table f s = isGiven (stepAt table f s)

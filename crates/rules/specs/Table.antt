@@ -62,13 +62,13 @@ unfoldable pub partAt : (letters : List ℕ) (places : ℕ) → List ℕ
 partAt ls c = if eqb (c / 8) 0 then [] else letter ls (c / 8) ∷ letterAt ls (c % 8)
 
 -- the sign of a row
-unfoldable pub signOf : (row : ℕ) → ℤ
-signOf n = if eqb (n / 8589934592) 1 then pos 1 else negsuc 0
+unfoldable pub rowSign : (row : ℕ) → ℤ
+rowSign n = if eqb (n / 8589934592) 1 then pos 1 else negsuc 0
 
 -- a row at letters
 unfoldable pub rowTerm : (letters : List ℕ) (row : ℕ) → S.Term
 rowTerm ls n = record {
-  coef = signOf n;
+  coef = rowSign n;
   factors = factorAt ls (n / 16777216 % 512) ++ factorAt ls (n / 32768 % 512) ++ factorAt ls (n / 64 % 512);
   part = partAt ls (n % 64);
 }

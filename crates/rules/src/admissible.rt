@@ -5,18 +5,17 @@ ghost use lib.ListN.{take};
 ghost use Rattle.specification.specs.Letters.{vector, testLetters};
 ghost use Rattle.specification.specs.Rules.{isRule, testStepLetters, stepAt};
 ghost use Rattle.terms.specs.Abstraction.{formOf, Counted};
-ghost use Rattle.terms.specs.Valid.{FormValid};
-ghost use Rattle.records.specs.Tested.{testOf};
-ghost use Rattle.gathering.specs.Closing.{WorkedAs};
-ghost use Rattle.rules.specs.Steps.{stepOf, admissible};
+ghost use Rattle.terms.specs.Valid.{FormValid, Gives};
+ghost use Rattle.letters.specs.Tested.{testOf};
+ghost use Rattle.rules.specs.Steps.{stepOf};
 use crate::steps::Step;
 use crate::steps::rule_letters;
 use crate::steps::take_step;
-use gathering::Closed;
-use records::table::test_letter;
-use records::table::test_term;
+use letters::test_letter;
+use letters::test_term;
 use terms::shape::in_shape;
 use terms::types::Form;
+use terms::types::Outcome;
 
 // Whether a number is that of a rule.
 pub fn is_rule(rule: u8) -> bool
@@ -60,13 +59,13 @@ pub fn test_step_letters(table: &[u8], s: Step) -> u8
 }
 
 // A step alone, with a form as the current one.
-pub fn step_at(table: &[u8], f: Form, s: Step) -> Closed
+pub fn step_at(table: &[u8], f: Form, s: Step) -> Outcome
     requires { ⌜ FormValid f × Counted (s .m) ⌝ }
-    ensures { λ r. ⌜ WorkedAs (stepAt (now (table .entry)) (formOf f) (stepOf s)) r ⌝ }
+    ensures { λ r. ⌜ Gives (stepAt (now (table .entry)) (formOf f) (stepOf s)) r ⌝ }
 {
     let m = s.m;
     if !is_rule(s.rule) {
-        return Closed {
+        return Outcome {
             refusal: 11,
             form: f,
         };
@@ -75,26 +74,17 @@ pub fn step_at(table: &[u8], f: Form, s: Step) -> Closed
     let n = m.factor_count;
     let p = m.part;
     if !in_shape(c, &m.factors, n, p) {
-        return Closed {
+        return Outcome {
             refusal: 11,
             form: f,
         };
     }
     let r = test_step_letters(table, s);
     if r != 0 {
-        return Closed {
+        return Outcome {
             refusal: r,
             form: f,
         };
     }
     take_step(f, s)
-}
-
-// Whether a step is admissible at a form.
-pub fn is_admissible(table: &[u8], f: Form, s: Step) -> bool
-    requires { ⌜ FormValid f × Counted (s .m) ⌝ }
-    ensures { λ r. ⌜ r ≡ admissible (now (table .entry)) (formOf f) (stepOf s) ⌝ }
-{
-    let r = step_at(table, f, s);
-    r.refusal == 0
 }

@@ -6,21 +6,20 @@ ghost use lib.Dec.{leb};
 ghost use Rattle.specification.specs.Terms.{vectorLetters};
 ghost use Rattle.specification.specs.Rules.{ruleLetters, ruleKind, stepKindsFit, takeStep};
 ghost use Rattle.terms.specs.Abstraction.{partOf, formOf};
-ghost use Rattle.terms.specs.Valid.{FormValid};
-ghost use Rattle.gathering.specs.Closing.{WorkedAs};
+ghost use Rattle.terms.specs.Valid.{FormValid, Gives};
 ghost use Rattle.rules.specs.Table.{rowCount};
 ghost use Rattle.theory.specs.Shape.Terms.{kindOfPart};
-ghost use Rattle.records.specs.Tested.{testOf};
+ghost use Rattle.letters.specs.Tested.{testOf};
 ghost use Rattle.rules.specs.Steps.{stepOf, StepValid, stepTests, StepFits, StepAdds};
 use crate::table::rule_rows;
 use crate::table::times_row;
-use gathering::Closed;
 use gathering::bring_all;
 use gathering::close;
 use gathering::holding;
 use terms::shape::letters_used;
 use terms::shape::part_letters;
 use terms::types::Form;
+use terms::types::Outcome;
 use terms::types::Part;
 use terms::types::Term;
 
@@ -144,14 +143,14 @@ pub fn step_terms(s: Step) -> StepTerms
 }
 
 // The form reached by a step; 6, 8, then 9 and 10 of the gathered form.
-pub fn take_step(f: Form, s: Step) -> Closed
+pub fn take_step(f: Form, s: Step) -> Outcome
     requires { ⌜ FormValid f × StepValid s ⌝ }
-    ensures { λ r. ⌜ WorkedAs (takeStep (formOf f) (stepOf s)) r ⌝ }
+    ensures { λ r. ⌜ Gives (takeStep (formOf f) (stepOf s)) r ⌝ }
 {
     let kind = f.kind;
     let n = test_step(kind, s);
     if n != 0 {
-        return Closed {
+        return Outcome {
             refusal: n,
             form: f,
         };

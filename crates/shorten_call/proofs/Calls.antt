@@ -7,40 +7,44 @@ use native.Mathlib.Omega.{arith}
 use borrow.Author.Tests.{le-leb, lt-leb}
 use lib.Dec.{T, leb}
 use lib.ListN.{length, getD, take, drop}
-use Rattle.specification.specs.Results.{Result, refused, given, if_then_else_}
+use Rattle.specification.specs.Results.{Result, refused, given}
 use Rattle.specification.specs.Letters.{vector, goodTable, testTable, testLetters}
 use Rattle.specification.specs.Terms as S
 use Rattle.specification.specs.Records.{testTerm}
 use Rattle.specification.specs.Rules.{testStepLetters}
 use Rattle.specification.specs.Reduction.{reduced}
-use Rattle.specification.specs.Printing.{printTested, printResult}
+use Rattle.specification.specs.Printing.{inputTable, printTested, printResult, printSteps, printLog, linesBytes, TextWritten, PrintedBy, LinesPrintedBy, LinesPrinted}
+use Rattle.specification.specs.Logs.{writeLog}
 use Rattle.theory.specs.Tests.{tested}
 use Rattle.theory.specs.Elements.{All}
 use Rattle.theory.specs.Shape.Letters.{table-good, letters-known, term-known}
 use Rattle.theory.specs.Reduction.Work.{reduction-keeps-value}
-use Rattle.theory.specs.Records.Logs.{writeLog, logOf, log-read-back}
-use Rattle.theory.specs.Replay.Accepted.{testSteps, Derives, derivation-accepted}
+use Rattle.theory.specs.Records.Logs.{logOf, log-read-back}
+use Rattle.theory.specs.Replay.Accepted.{testSteps, Derives}
 use Rattle.terms.specs.Abstraction.{termOf, formOf}
 use Rattle.terms.proofs.Forms.{form-long}
-use Rattle.gathering.specs.declared.Closed.{Closed}
-use Rattle.gathering.specs.Closing.{WorkedAs}
+use Rattle.terms.specs.declared.types.Outcome.{Outcome}
+use Rattle.terms.specs.Valid.{Gives}
 use Rattle.gathering.proofs.Closing.{worked-given}
-use Rattle.records.specs.Tested.{testOf}
+use Rattle.letters.specs.Tested.{testOf}
 use Rattle.records.proofs.Inside.{written-inside}
-use Rattle.records.proofs.LetterTests.{test-passed}
+use Rattle.letters.proofs.LetterTests.{test-passed}
 use Rattle.rules.specs.declared.steps.Step.{Step}
 use Rattle.rules.specs.Steps.{stepOf, StepValid}
-use Rattle.shortening.specs.declared.writing.Derivation.{Derivation}
-use Rattle.shortening.specs.Writing.{stepsOf}
+use Rattle.logs.specs.Steps.{stepsOf}
+use Rattle.logs.proofs.StepRecords.{steps-long}
+use Rattle.checker.specs.Answers.{checkedOf}
+use Rattle.checker.proofs.AcceptedLogs.{answers-derivation}
+use Rattle.shortening.specs.declared.rounds.Derivation.{Derivation}
 use Rattle.shortening.specs.Derived.{Derived}
-use Rattle.shortening.proofs.WrittenLogs.{steps-counted}
-use Rattle.printing.specs.Printable.{Printable}
-use Rattle.printing.specs.Text.{TextWritten}
+use Rattle.symbols.specs.Printable.{Printable}
 use Rattle.printing.proofs.Named.{letters-named, term-named, printable}
+use Rattle.printer_call.specs.declared.Printing.{Printing}
+use Rattle.printer_call.specs.declared.Printing.the-variants.{Printed}
+use Rattle.printer_call.specs.Answers.{printingOf}
 use Rattle.printer_call.specs.Lines.{tableReduced}
 use Rattle.printer_call.proofs.Answers.{bad-table, bad-expression, form-reduced, none-tested, cut-tested, parts-tested}
-use Rattle.shorten_call.specs.Text.{printSteps, printLog}
-use Rattle.shorten_call.specs.Printed.{StepPrintable, StepsPrintable, PrintedBy, inputTable, PrintedFor}
+use Rattle.shorten_call.specs.Printed.{StepPrintable, StepsPrintable}
 
 -- ════ what can be printed
 
@@ -63,19 +67,19 @@ module _ (table : List ℕ) (good : T (goodTable table)) where
 -- ════ a table and an expression
 
 module _ (table expr : List ℕ) (c : ℕ) (h : testOf c ≡ testTable table) where
-  module _ (z : c ≡ 0) (r : Closed) (worked : WorkedAs (reduced table expr) r) (e : r .refusal ≡ 0) (d : Derivation) (wd : Derived table (r .form) d) where
+  module _ (z : c ≡ 0) (r : Outcome) (worked : Gives (reduced table expr) r) (e : r .refusal ≡ 0) (d : Derivation) (wd : Derived table (r .form) d) where
     good : T (goodTable table)
     good = table-good table (sym h ∙ test-passed c z)
 
-    derives : Derives table (formOf (r .form)) (stepsOf d) (formOf (d .last))
+    derives : Derives table (formOf (r .form)) (stepsOf (d .steps)) (formOf (d .last))
     derives = wd .derives good (reduction-keeps-value table expr (formOf (r .form)) good (worked-given (reduced table expr) r worked e) .lettersTested)
 
     -- form, steps and last form can be printed
-    pub log-printable : Printable (r .form) × StepsPrintable d × Printable (d .last)
+    pub log-printable : Printable (r .form) × StepsPrintable (d .steps) × Printable (d .last)
     unfolding stepsOf
     log-printable = (
       printable table good (r .form) (worked .valid e) (derives .firstTested),
-      record { few = wd .valid .few; steps = steps-printable table good (take (d .count) (d .steps)) (wd .valid .steps) (derives .stepsTested) },
+      record { few = wd .valid .few; long = wd .valid .steps .long; steps = steps-printable table good (take (d .steps .count) (d .steps .steps)) (wd .valid .steps .steps) (derives .stepsTested) },
       printable table good (d .last) (wd .valid .last) (derives .lastTested),
     )
 
@@ -89,27 +93,27 @@ module _ (table expr : List ℕ) (c : ℕ) (h : testOf c ≡ testTable table) wh
     unfolding PrintedBy
     table-refused n w = by-result (refused c) (bad-table table expr c h n) w
 
-    module _ (z : c ≡ 0) (r : Closed) (worked : WorkedAs (reduced table expr) r) where
+    module _ (z : c ≡ 0) (r : Outcome) (worked : Gives (reduced table expr) r) where
       -- the expression is refused
       pub expression-refused : (r .refusal ≡ 0 → ⊥) → TextWritten before after m (printResult (refused (r .refusal))) → PrintedBy (tableReduced table expr) table before after m
       unfolding PrintedBy
       expression-refused n w = by-result (refused (r .refusal)) (bad-expression table expr c h z r worked n) w
 
       -- the log is printed
-      pub log-printed : (e : r .refusal ≡ 0) (d : Derivation) → Derived table (r .form) d → length (r .form .terms) ≡ 48 → length (d .last .terms) ≡ 48 → length (d .steps) ≡ 48
-          → TextWritten before after m (printResult (given (formOf (r .form))) ++ printSteps (stepsOf d) ++ printResult (given (formOf (d .last))))
+      pub log-printed : (e : r .refusal ≡ 0) (d : Derivation) → Derived table (r .form) d → length (r .form .terms) ≡ 48 → length (d .last .terms) ≡ 48
+          → TextWritten before after m (printResult (given (formOf (r .form))) ++ printSteps (stepsOf (d .steps)) ++ printResult (given (formOf (d .last))))
           → PrintedBy (tableReduced table expr) table before after m
-      unfolding PrintedBy printLog stepsOf
-      log-printed e d wd places rooms steps w =
-          let counted : d .count ≡ length (stepsOf d) = steps-counted (d .steps) (d .count) (omega (arith, wd .valid .few, steps)) in
+      unfolding PrintedBy printLog checkedOf
+      log-printed e d wd places rooms w =
+          let counted = steps-long (d .steps) (wd .valid .steps) in
           let ds = derives z r worked e d wd in
           by-result (given (formOf (r .form))) (form-reduced table expr c h z r worked e)
           (record {
-            bytes = writeLog (formOf (r .form)) (stepsOf d) (formOf (d .last));
-            log = logOf (formOf (r .form)) (stepsOf d) (formOf (d .last));
-            reads = log-read-back (formOf (r .form)) (stepsOf d) (formOf (d .last)) (ds .inShape);
+            bytes = writeLog (formOf (r .form)) (stepsOf (d .steps)) (formOf (d .last));
+            log = logOf (formOf (r .form)) (stepsOf (d .steps)) (formOf (d .last));
+            reads = log-read-back (formOf (r .form)) (stepsOf (d .steps)) (formOf (d .last)) (ds .inShape);
             begins = refl;
-            isAccepted = derivation-accepted table (formOf (r .form)) (stepsOf d) (formOf (d .last)) ds;
+            isAccepted = sym (answers-derivation table (formOf (r .form)) (stepsOf (d .steps)) (formOf (d .last)) ds);
             saves = omega (arith, counted, wd .saves, form-long (r .form) (worked .valid e) places, form-long (d .last) (wd .valid .last) rooms);
             shortest = wd .shortest (ds .firstTested);
             text = w;
@@ -117,45 +121,55 @@ module _ (table expr : List ℕ) (c : ℕ) (h : testOf c ≡ testTable table) wh
 
 -- ════ all that was read
 
--- too few bytes are lent
-pub short-memory : (s before : List ℕ) → length before < 5426 → PrintedFor s before before 0
-unfolding PrintedFor
-short-memory s before h = rw (lt-leb 5426 (length before) h) (refl, refl)
-
-module _ (s before after : List ℕ) (m : ℕ) (enough : 5426 ≤ length before) where
-  by-tests : (r : Result S.Form) → printTested s ≡ r → PrintedBy r (inputTable s) before after m → PrintedFor s before after m
-  unfolding PrintedFor
-  by-tests r e w = rw (le-leb 5426 (length before) enough, e) w
+module _ (s before after : List ℕ) (m : ℕ) where
+  by-tests : (r : Result S.Form) → printTested s ≡ r → PrintedBy r (inputTable s) before after m → PrintedBy (printTested s) (inputTable s) before after m
+  by-tests r e w = rw e w
 
   -- the length byte is missing
-  pub nothing-there : length s ≡ 0 → TextWritten before after m (printResult (refused 1)) → PrintedFor s before after m
+  pub nothing-there : length s ≡ 0 → TextWritten before after m (printResult (refused 1)) → PrintedBy (printTested s) (inputTable s) before after m
   unfolding PrintedBy
   nothing-there e w = by-tests (refused 1) (none-tested s e) w
 
   -- the table is cut
-  pub table-cut : (length s ≡ 0 → ⊥) → length s < getD s 0 0 + 1 → TextWritten before after m (printResult (refused 1)) → PrintedFor s before after m
+  pub table-cut : (length s ≡ 0 → ⊥) → length s < getD s 0 0 + 1 → TextWritten before after m (printResult (refused 1))
+      → PrintedBy (printTested s) (inputTable s) before after m
   unfolding PrintedBy
   table-cut n l w = by-tests (refused 1) (cut-tested s n l) w
 
   -- the table and the expression as parts of it
   pub parts-printed : getD s 0 0 + 1 ≤ length s
       → PrintedBy (tableReduced (take (getD s 0 0 + 1 - 1) (drop 1 s)) (take (length s - (getD s 0 0 + 1)) (drop (getD s 0 0 + 1) s))) (take (getD s 0 0 + 1 - 1) (drop 1 s)) before after m
-      → PrintedFor s before after m
-  unfolding inputTable
+      → PrintedBy (printTested s) (inputTable s) before after m
   parts-printed l w =
       let e : getD s 0 0 + 1 - 1 ≡ getD s 0 0 = omega arith in
       by-tests _ (parts-tested s l)
       (subst (λ (k : ℕ). PrintedBy (tableReduced (take (getD s 0 0 + 1 - 1) (drop 1 s)) (take (length s - (getD s 0 0 + 1)) (drop (getD s 0 0 + 1) s))) (take k (drop 1 s)) before after m) e w)
 
+-- ════ the answer
+
+-- memory that is too short
+pub answer-refused : (s before : List ℕ) → length before < linesBytes → LinesPrinted s before (refused 2) before
+unfolding LinesPrinted LinesPrintedBy
+answer-refused s before h = rw (lt-leb linesBytes (length before) h) (refl, refl)
+
+-- the text
+pub answer-printed : (s before after : List ℕ) (m : ℕ) → linesBytes ≤ length before → PrintedBy (printTested s) (inputTable s) before after m
+    → LinesPrinted s before (given m) after
+unfolding LinesPrinted LinesPrintedBy
+answer-printed s before after m h w = rw (le-leb linesBytes (length before) h) w
+
 -- ════ what was written
 
-inside-by : (b : Bool) (r : Result S.Form) (table before after : List ℕ) (m : ℕ) → (if b then PrintedBy r table before after m else (m ≡ 0) × (after ≡ before)) → m ≤ length after
+inside-by : (r : Result S.Form) (table before after : List ℕ) (m : ℕ) → PrintedBy r table before after m → m ≤ length after
 unfolding PrintedBy
-inside-by true (refused n) table before after m w = written-inside _ before after m (w .ends) (w .bytes)
-inside-by true (given f) table before after m w = written-inside _ before after m (w .text .ends) (w .text .bytes)
-inside-by false r table before after m w = omega (arith, w .0)
+inside-by (refused n) table before after m w = written-inside _ before after m (w .ends) (w .bytes)
+inside-by (given f) table before after m w = written-inside _ before after m (w .text .ends) (w .text .bytes)
 
 -- it lies inside the bytes lent
-pub printed-inside : (s before after : List ℕ) (m : ℕ) → PrintedFor s before after m → m ≤ length after
-unfolding PrintedFor
-printed-inside s before after m w = inside-by (leb 5426 (length before)) (printTested s) (inputTable s) before after m w
+pub printed-inside : (s before after : List ℕ) (r : Printing) (m : ℕ) → LinesPrinted s before (printingOf r) after → r ≡ Printed m → m ≤ length after
+unfolding LinesPrinted printingOf
+printed-inside s before after r m w h = go (leb linesBytes (length before)) (subst (λ (a : Printing). LinesPrintedBy (leb linesBytes (length before)) s before (printingOf a) after) h w)
+  where
+    go : (b : Bool) → LinesPrintedBy b s before (given m) after → m ≤ length after
+    go true w = unfold LinesPrintedBy in inside-by (printTested s) (inputTable s) before after m w
+    go false w = unfold LinesPrintedBy in absurd w

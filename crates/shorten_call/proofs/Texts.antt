@@ -8,7 +8,7 @@ use lib.ListN.{length, getD, take, drop, set, length-append}
 use Rattle.specification.specs.Lists.{joined}
 use Rattle.specification.specs.Results.{given}
 use Rattle.specification.specs.Rules.{ruleLetters, isRule}
-use Rattle.specification.specs.Printing.{printLetter, printForm, printResult}
+use Rattle.specification.specs.Printing.{lineBytes, printLetter, printForm, printResult, printLetters, printRule, printMultiplier, printStep, printSteps, TextWritten}
 use Rattle.theory.specs.Tests.{and-split}
 use Rattle.theory.specs.Elements.{All}
 use Rattle.terms.specs.declared.types.Term.{Term}
@@ -20,12 +20,11 @@ use Rattle.records.specs.Written.{Written}
 use Rattle.records.proofs.Writes.{written-store, written-then}
 use Rattle.rules.specs.declared.steps.Step.{Step}
 use Rattle.rules.specs.Steps.{stepOf}
-use Rattle.shortening.proofs.WrittenLogs.{taken-few, letters-few, part-written}
-use Rattle.printing.specs.Text.{TextWritten}
-use Rattle.printing.proofs.Decimals.{decimal-one}
+use Rattle.theory.specs.Records.Lengths.{letters-few}
+use Rattle.logs.proofs.WrittenLogs.{taken-few, part-written}
+use Rattle.symbols.proofs.Decimals.{decimal-one}
 use Rattle.printing.proofs.Lengths.{text-short}
 use Rattle.printing.proofs.Texts.{single-short, text-written, written-text}
-use Rattle.shorten_call.specs.Text.{printLetters, printRule, printMultiplier, printStep, printSteps}
 use Rattle.shorten_call.specs.Printed.{StepPrintable}
 
 -- ════ the rule
@@ -135,7 +134,7 @@ steps-short (s ∷ ss) h = simp length-append (omega (arith, step-text-short s (
 -- ════ the log
 
 -- the line of a form has at most 1393 bytes
-pub line-short : (f : Form) → FormValid f → length (printResult (given (formOf f))) ≤ 1393
+pub line-short : (f : Form) → FormValid f → length (printResult (given (formOf f))) ≤ lineBytes
 unfolding printResult
 line-short f v = simp length-append (omega (arith, text-short (formOf f) (v .inShape)))
 

@@ -2,19 +2,24 @@
 ghost use Prim.Native.Nat.{_≤_};
 ghost use lib.ListN.{length};
 ghost use Rattle.printer_call.specs.Lines.{tableReduced};
-ghost use Rattle.shorten_call.specs.Printed.{PrintedBy, PrintedFor};
+ghost use Rattle.specification.specs.Printing.{inputTable, printTested, linesBytes, PrintedBy, LinesPrinted};
+ghost use Rattle.printer_call.specs.Answers.{printingOf};
 
 pub mod lines;
 
 use crate::lines::print_log;
+use letters::check_table;
+use printer_call::Printing;
 use printing::print_refusal;
-use records::table::check_table;
 use reduction::form_of;
 use shortening::rounds::derive;
 
+// Bytes that the text of any shortening fits into.
+pub const LINES_BYTES: usize = 5426;
+
 // The lines of a table and an expression.
 fn print_shortened(table: &[u8], expression: &[u8], out: &mut [u8]) -> usize
-    requires { ⌜ 5426 ≤ length (now out) ⌝ }
+    requires { ⌜ linesBytes ≤ length (now out) ⌝ }
     ensures { λ r. ⌜ PrintedBy (tableReduced (now (table .entry)) (now (expression .entry))) (now (table .entry)) (now (out .entry)) (now (out .exit)) r ⌝ }
 {
     let c = check_table(table);
@@ -28,16 +33,16 @@ fn print_shortened(table: &[u8], expression: &[u8], out: &mut [u8]) -> usize
     }
     let f = w.form;
     let d = derive(table, f);
-    print_log(out, f, d)
+    let steps = d.steps;
+    let last = d.last;
+    print_log(out, f, steps, last)
 }
 
-// The lines of all that stands in the input; nothing where fewer than 5426 bytes are lent.
-pub fn print_shortening(s: &[u8], out: &mut [u8]) -> usize
-    ensures { λ r. ⌜ PrintedFor (now (s .entry)) (now (out .entry)) (now (out .exit)) r ⌝ }
+// The lines of all that stands in the input, in memory that is long enough.
+fn print_input(s: &[u8], out: &mut [u8]) -> usize
+    requires { ⌜ linesBytes ≤ length (now out) ⌝ }
+    ensures { λ r. ⌜ PrintedBy (printTested (now (s .entry))) (inputTable (now (s .entry))) (now (out .entry)) (now (out .exit)) r ⌝ }
 {
-    if out.len() < 5426 {
-        return 0;
-    }
     let n = s.len();
     if n == 0 {
         return print_refusal(out, 1);
@@ -47,4 +52,14 @@ pub fn print_shortening(s: &[u8], out: &mut [u8]) -> usize
         return print_refusal(out, 1);
     }
     print_shortened(&s[1..k], &s[k..n], out)
+}
+
+// The lines of all that stands in the input. Memory that is too short for them is refused with 2, and nothing is written.
+pub fn print_shortening(s: &[u8], out: &mut [u8]) -> Printing
+    ensures { λ r. ⌜ LinesPrinted (now (s .entry)) (now (out .entry)) (printingOf r) (now (out .exit)) ⌝ }
+{
+    if out.len() < LINES_BYTES {
+        return Printing::Refused(2);
+    }
+    Printing::Printed(print_input(s, out))
 }

@@ -3,21 +3,19 @@ ghost use Prim.Native.Nat.{_+_, _*_, _≤_};
 ghost use mathlib.Core.List.{_++_};
 ghost use lib.ListN.{length, take};
 ghost use Rattle.specification.specs.Results.{given};
-ghost use Rattle.specification.specs.Printing.{printResult};
+ghost use Rattle.specification.specs.Printing.{printResult, printLetters, printRule, printMultiplier, printStep, printSteps, linesBytes, TextWritten};
 ghost use Rattle.terms.specs.Abstraction.{termOf, formOf};
 ghost use Rattle.records.specs.Written.{Written};
 ghost use Rattle.rules.specs.Steps.{stepOf};
-ghost use Rattle.shortening.specs.Writing.{stepsOf};
-ghost use Rattle.printing.specs.Printable.{Printed, TermPrintable, Printable};
-ghost use Rattle.printing.specs.Text.{TextWritten};
-ghost use Rattle.shorten_call.specs.Text.{printLetters, printRule, printMultiplier, printStep, printSteps};
+ghost use Rattle.logs.specs.Steps.{stepsOf};
+ghost use Rattle.symbols.specs.Printable.{Printed, TermPrintable, Printable};
 ghost use Rattle.shorten_call.specs.Printed.{StepPrintable, StepsPrintable};
-use printing::letter;
+use logs::steps::Steps;
 use printing::print_line;
 use printing::print_single;
 use rules::steps::Step;
 use rules::steps::rule_letters;
-use shortening::writing::Derivation;
+use symbols::letter;
 use terms::types::Form;
 use terms::types::Term;
 
@@ -82,15 +80,15 @@ fn print_step(out: &mut [u8], at: usize, s: Step) -> usize
 }
 
 // The lines of the steps.
-fn print_steps(out: &mut [u8], at: usize, d: Derivation) -> usize
-    requires { ⌜ StepsPrintable d × (at + 55 * d .count ≤ length (now out)) ⌝ }
-    ensures { λ r. ⌜ Written (now (out .entry)) (now (out .exit)) at r (printSteps (stepsOf d)) ⌝ }
+fn print_steps(out: &mut [u8], at: usize, q: Steps) -> usize
+    requires { ⌜ StepsPrintable q × (at + 55 * q .count ≤ length (now out)) ⌝ }
+    ensures { λ r. ⌜ Written (now (out .entry)) (now (out .exit)) at r (printSteps (stepsOf q)) ⌝ }
 {
-    let n = d.count;
+    let n = q.count;
     let mut next = at;
     let mut i: usize = 0;
     while i < n {
-        let s = d.steps[i];
+        let s = q.steps[i];
         next = print_step(out, next, s);
         i += 1;
     }
@@ -98,12 +96,11 @@ fn print_steps(out: &mut [u8], at: usize, d: Derivation) -> usize
 }
 
 // The line of a form, the lines of the steps, and the line of the last form.
-pub fn print_log(out: &mut [u8], f: Form, d: Derivation) -> usize
-    requires { ⌜ Printable f × StepsPrintable d × Printable (d .last) × (5426 ≤ length (now out)) ⌝ }
-    ensures { λ r. ⌜ TextWritten (now (out .entry)) (now (out .exit)) r (printResult (given (formOf f)) ++ printSteps (stepsOf d) ++ printResult (given (formOf (d .last)))) ⌝ }
+pub fn print_log(out: &mut [u8], f: Form, q: Steps, g: Form) -> usize
+    requires { ⌜ Printable f × StepsPrintable q × Printable g × (linesBytes ≤ length (now out)) ⌝ }
+    ensures { λ r. ⌜ TextWritten (now (out .entry)) (now (out .exit)) r (printResult (given (formOf f)) ++ printSteps (stepsOf q) ++ printResult (given (formOf g))) ⌝ }
 {
-    let last = d.last;
     let a = print_line(out, f);
-    let b = print_steps(out, a, d);
-    b + print_line(&mut out[b..], last)
+    let b = print_steps(out, a, q);
+    b + print_line(&mut out[b..], g)
 }

@@ -2,12 +2,16 @@
 ghost use Prim.Native.Nat.{_+_, _<_};
 ghost use lib.ListN.{length};
 use case_lines::two_bytes_at;
+use printer_call::Printing;
+use shorten_call::LINES_BYTES;
 use shorten_call::print_shortening;
 
 // The lines of a case.
 fn print_case(s: &[u8]) {
-    let mut out = [0u8; 5426];
-    let m = print_shortening(s, &mut out);
+    let mut out = [0u8; LINES_BYTES];
+    let Printing::Printed(m) = print_shortening(s, &mut out) else {
+        return;
+    };
     io::write_all(1, &out[..m]);
 }
 

@@ -12,12 +12,13 @@ use Rattle.specification.specs.Terms as S
 use Rattle.specification.specs.Records.{testTerms}
 use Rattle.specification.specs.Rules.{stepInShape, testStepLetters, takeStep}
 use Rattle.specification.specs.Rules as R
+use Rattle.specification.specs.Logs.{takeSteps}
 use Rattle.theory.specs.Elements.{All, all-append}
 use Rattle.theory.specs.Tests.{given-same, bound, tested}
 use Rattle.theory.specs.Shape.Letters.{AllKnown, terms-known, known-terms}
 use Rattle.theory.specs.Rules.Steps.{step-closes, step-admitted}
 use Rattle.theory.specs.Records.Logs.{StepsInShape}
-use Rattle.theory.specs.Replay.Accepted.{takeSteps, testSteps}
+use Rattle.theory.specs.Replay.Accepted.{testSteps}
 use Rattle.theory.specs.Replay.Ends.{steps-keep}
 use Rattle.theory.specs.Shortening.Completeness.{no-candidate-shortest}
 use Rattle.terms.specs.declared.types.Form.{Form}
@@ -28,7 +29,7 @@ use Rattle.rules.specs.declared.steps.Step.{Step}
 use Rattle.rules.specs.Steps.{stepOf, StepValid}
 use Rattle.shortening.specs.declared.searching.Found.{Found}
 use Rattle.shortening.specs.Searching.{Shorter, SearchedBy}
-use Rattle.shortening.specs.Writing.{stepsOf}
+use Rattle.logs.specs.Steps.{stepsOf}
 use Rattle.shortening.specs.Derived.{Derived}
 
 -- ════ one step more
@@ -50,7 +51,7 @@ tests-more table (t ∷ ss) s e q =
 -- ════ the rounds so far
 
 pub record Rounds (table : List ℕ) (f : Form) (steps : List Step) (n : ℕ) (g : Form) : Type 0 where
-  pub places : length steps ≡ 48
+  pub places : length steps ≡ 64
   pub valid : All StepValid (take n steps)
   pub form : FormValid g
   pub saves : n + g .count ≤ f .count
@@ -58,7 +59,7 @@ pub record Rounds (table : List ℕ) (f : Form) (steps : List Step) (n : ℕ) (g
   pub tests : testSteps table (map stepOf (take n steps)) ≡ given tt
   pub inShape : StepsInShape (map stepOf (take n steps))
 
-pub rounds-none : (table : List ℕ) (f : Form) (steps : List Step) → FormValid f → length steps ≡ 48 → Rounds table f steps 0 f
+pub rounds-none : (table : List ℕ) (f : Form) (steps : List Step) → FormValid f → length steps ≡ 64 → Rounds table f steps 0 f
 unfolding takeSteps testSteps
 rounds-none table f steps v e = record { places = e; valid = tt; form = v; saves = omega arith; reaches = refl; tests = refl; inShape = tt }
 
@@ -95,7 +96,9 @@ module _ (table : List ℕ) (f : Form) (v : FormValid f) (steps : List Step) (n 
           valid = subst (All StepValid) (sym more) (all-append StepValid (take n steps) (r .step ∷ []) (w .valid) (shorter .step, tt));
           form = shorter .form;
           saves = omega (arith, w .saves, shorter .fewer);
-          reaches = subst (λ (l : List R.Step). takeSteps (formOf f) l ≡ given (formOf (r .form))) listed (steps-more (formOf f) (map stepOf (take n steps)) s (formOf g) (formOf (r .form)) (w .reaches) (a .takes));
+          reaches =
+              subst (λ (l : List R.Step). takeSteps (formOf f) l ≡ given (formOf (r .form))) listed
+              (steps-more (formOf f) (map stepOf (take n steps)) s (formOf g) (formOf (r .form)) (w .reaches) (a .takes));
           tests = subst (λ (l : List R.Step). testSteps table l ≡ given tt) listed (tests-more table (map stepOf (take n steps)) s (w .tests) (a .known));
           inShape = subst StepsInShape listed (all-append (λ (st : R.Step). T (stepInShape st)) (map stepOf (take n steps)) (s ∷ []) (w .inShape) (step-closes s (a .shape), tt));
         }
@@ -105,16 +108,22 @@ module _ (table : List ℕ) (f : Form) (v : FormValid f) (steps : List Step) (n 
   last-known known = steps-keep table (formOf f) (map stepOf (take n steps)) (formOf g) (v .inShape) (terms-known table (formOf f .terms) known) (w .inShape) (w .tests) (w .reaches) .known
 
   -- no step shortens the last form
-  pub rounds-end : b ≡ false → Derived table f (record { count = n; steps = steps; last = g })
+  pub rounds-end : b ≡ false → Derived table f (record { steps = record { count = n; steps = steps }; last = g })
   unfolding SearchedBy stepsOf
   rounds-end e =
       let few : n ≤ 48 = omega (arith, w .saves, v .few) in
       record {
-        valid = record { few = few; steps = w .valid; last = w .form };
+        valid = record { few = few; steps = record { few = omega (arith, few); long = w .places; steps = w .valid }; last = w .form };
         saves = w .saves;
         derives = λ good known. record {
           tableGood = good;
-          inShape = record { firstForm = v .inShape; stepCount = omega (arith, length-map (take n steps) stepOf, length-take-le n steps (omega (arith, w .places, few)), few); everyStep = w .inShape; lastForm = w .form .inShape };
+          inShape =
+              record {
+                firstForm = v .inShape;
+                stepCount = omega (arith, length-map (take n steps) stepOf, length-take-le n steps (omega (arith, w .places, few)), few);
+                everyStep = w .inShape;
+                lastForm = w .form .inShape;
+              };
           firstTested = known;
           stepsTested = w .tests;
           lastTested = known-terms table (formOf g .terms) (last-known known);

@@ -7,6 +7,5 @@ pub mod Trials
 pub mod Scalars
 pub mod Searches
 pub mod Derivations
-pub mod WrittenLogs
 pub mod Shortened
 pub mod Calls

@@ -11,7 +11,7 @@ use lib.IntN.{ℤ, pos}
 use lib.ListN.{length, take, length-map}
 use lib.Seq.{length-take-le}
 use Rattle.algebra.specs.Integers.{NonZero, pos-nonzero}
-use Rattle.specification.specs.Results.{Test, refused, given, require, if_then_else_}
+use Rattle.specification.specs.Results.{Test, given, require, if_then_else_}
 use Rattle.specification.specs.Lists.{joined, ascend, order}
 use Rattle.specification.specs.Letters.{vector}
 use Rattle.specification.specs.Terms.{termKind, withCoef, coefWithin, vectorLetters, within, termInShape}
@@ -30,8 +30,8 @@ use Rattle.terms.specs.declared.types.Part.{Part}
 use Rattle.terms.specs.declared.types.Term.{Term}
 use Rattle.terms.specs.Numbers.{lettersOf}
 use Rattle.terms.specs.Abstraction.{partOf, termOf, Counted}
-use Rattle.records.specs.Tested.{testOf}
-use Rattle.records.proofs.LetterTests.{test-passed, test-refused}
+use Rattle.letters.specs.Tested.{testOf}
+use Rattle.letters.proofs.LetterTests.{test-passed, test-refused}
 use Rattle.rules.specs.Steps.{stepTests}
 use Rattle.rules.proofs.Taking.{few-letters}
 use Rattle.shortening.specs.Choosing.{MaskTaken, Pooled, Adds, lettersLeft, MultiplierOf, Shut, Fails, PassesBy, OpenedBy}
@@ -132,14 +132,16 @@ module _ (kind rule : ℕ) (m : Term) (one : m .coef ≡ pos 1) where
   taken-passes f s g e h =
       let a = required (stepKindsFit f s) 6 _ g h in
       let b = required (leb (vectorLetters (s .m) + ruleLetters (s .rule)) 6) 8 _ g (a .1) in
-      passes (stepKindsFit (record { kind = kind; terms = [] }) s) 6 (require (leb (vectorLetters (s .m) + ruleLetters (s .rule)) 6) 8) (subst (λ (n : ℕ). T (stepKindsFit (record { kind = n; terms = [] }) s)) e (a .0))
+      passes (stepKindsFit (record { kind = kind; terms = [] }) s) 6 (require (leb (vectorLetters (s .m) + ruleLetters (s .rule)) 6) 8)
+      (subst (λ (n : ℕ). T (stepKindsFit (record { kind = n; terms = [] }) s)) e (a .0))
       ∙ passed (leb (vectorLetters (s .m) + ruleLetters (s .rule)) 6) (b .0)
     where
       passed : (b : Bool) → T b → _≡_ {A = Test} (require b 8) (given tt)
       passed true h = refl
       passed false h = absurd h
 
-  pub tests-by : (b : Bool) (n : ℕ) (letters : List ℕ) → b ≡ termInShape (withCoef (pos 1) (termOf m)) → b ≡ true → testOf n ≡ stepTests kind (record { rule = rule; letters = letters; m = termOf m }) → PassesBy (eqb n 0) kind rule m
+  pub tests-by : (b : Bool) (n : ℕ) (letters : List ℕ) → b ≡ termInShape (withCoef (pos 1) (termOf m)) → b ≡ true
+      → testOf n ≡ stepTests kind (record { rule = rule; letters = letters; m = termOf m }) → PassesBy (eqb n 0) kind rule m
   unfolding PassesBy Fails stepTests stepKindsFit termKind vectorLetters
   tests-by b n letters e z h = go (eqb n 0) refl
     where
@@ -147,7 +149,8 @@ module _ (kind rule : ℕ) (m : Term) (one : m .coef ≡ pos 1) where
       go true q = record { inShape = in-shape-by b e z; fits = λ ls. sym h ∙ test-passed n (eqb-true n 0 q) }
       go false q = λ table ls f c g k s.
           let a = step-admitted table f (record { rule = rule; letters = ls; m = withCoef c (termOf m) }) g s in
-          let r : stepTests kind (record { rule = rule; letters = ls; m = withCoef c (termOf m) }) ≡ given tt = taken-passes f (record { rule = rule; letters = ls; m = withCoef c (termOf m) }) g k (a .takes) in
+          let r : stepTests kind (record { rule = rule; letters = ls; m = withCoef c (termOf m) }) ≡ given tt = taken-passes f
+          (record { rule = rule; letters = ls; m = withCoef c (termOf m) }) g k (a .takes) in
           refused≢given (sym (sym h ∙ test-refused n (eqb-false n 0 q)) ∙ r)
 
 -- ════ what a candidate has

@@ -7,7 +7,7 @@ use Prim.Native.Nat.{ℕ, suc, _+_, _-_, _/_, _%_, _<_, _≤_}
 use native.Mathlib.Nat as N
 use native.Mathlib.Omega.{arith}
 use borrow.Author.Tests.{eq-eqb, ne-eqb}
-use lib.Dec.{T, eqb, ltb, eqb→eq}
+use lib.Dec.{T, eqb, eqb→eq}
 use lib.ListN.{length, length-append, getD, take, drop}
 use Rattle.specification.specs.Results.{if_then_else_}
 use Rattle.specification.specs.Lists.{joined, all, order}
@@ -38,16 +38,6 @@ use Rattle.shortening.proofs.Openings.{candidate-opens}
 use Rattle.shortening.proofs.Trials.{place-rule}
 
 -- ════ one factor after the other
-
--- a factor has at most three letters
-pub letters-few : (k : ℕ) → length (lettersOf k) ≤ 3
-unfolding lettersOf
-letters-few k = go (ltb k 256) (ltb k 65792)
-  where
-    go : (a b : Bool) → length (if a then k ∷ [] else if b then (k - 256) / 256 ∷ (k - 256) % 256 ∷ [] else (k - 65792) / 65536 ∷ (k - 65792) / 256 % 256 ∷ (k - 65792) % 256 ∷ []) ≤ 3
-    go true b = omega arith
-    go false true = omega arith
-    go false false = omega arith
 
 -- the letters counted so far, before those from a place on
 pub record Counting (fs rest : List (List ℕ)) (mask b c : ℕ) : Type 0 where
@@ -155,7 +145,8 @@ module _ (marks : List ℕ) (t : S.Term) (k : ℕ) (scalars : all isVectors (lef
   scalars-hopeless kind r j rule hk hj table f c g shape cover e known can ex h =
       let l : List ℕ = pool t k r in
       let a = step-admitted table f (candidate t k r j c) g h in
-      let ls : All (Known table vector) (inRuleOrder r (taken j l ++ leftOver j l)) = letters-known table vector (inRuleOrder r (taken j l ++ leftOver j l)) (tested (testLetters table vector (inRuleOrder r (taken j l ++ leftOver j l))) (testTerm table (candidate t k r j c .m)) tt (a .known) .0) in
+      let ls : All (Known table vector) (inRuleOrder r (taken j l ++ leftOver j l)) = letters-known table vector (inRuleOrder r (taken j l ++ leftOver j l))
+      (tested (testLetters table vector (inRuleOrder r (taken j l ++ leftOver j l))) (testTerm table (candidate t k r j c .m)) tt (a .known) .0) in
       let long : length (taken j l ++ leftOver j l) ≡ ruleLetters r = length-append (taken j l) (leftOver j l) ∙ taken-left-long j l ∙ candidate-opens t k r j can .0 in
       let split = all-split (Known table vector) (taken j l) (leftOver j l) (order-all (Known table vector) r rule (taken j l ++ leftOver j l) long ls) in
       let inPool : All (Known table vector) l = both-all (Known table vector) j l (split .0) (split .1) in
@@ -179,7 +170,10 @@ module _ (marks : List ℕ) (t : S.Term) (k : ℕ) where
     where
       go : (b : Bool) → all isVectors (leftOver k (t .factors)) ≡ b → Hopeless marks kind t k r j
       go false e = scalars-hopeless marks t k e kind r j rule
-      go true e = count-hopeless kind r j (λ q. h (ap (λ (m : ℕ). m + length (if eqb (ruleKind r) vector then t .part else [])) (w .is e) ∙ sym (length-append (joined (leftOver k (t .factors))) (if eqb (ruleKind r) vector then t .part else [])) ∙ q))
+      go true e =
+          count-hopeless kind r j
+          (λ q. h (ap (λ (m : ℕ). m + length (if eqb (ruleKind r) vector then t .part else [])) (w .is e) ∙ sym
+          (length-append (joined (leftOver k (t .factors))) (if eqb (ruleKind r) vector then t .part else [])) ∙ q))
 
 -- ════ a rule of vectors at a form of scalars
 

@@ -11,7 +11,7 @@ use lib.Dec.{T, ltb, leb, leb→le}
 use lib.IntN.{ℤ, negℤ, _*ℤ_}
 use lib.ListN.{length, length-map, getD, take, length-take}
 use lib.Pow.{pow-mono}
-use Rattle.specification.specs.Results.{refused, given}
+use Rattle.specification.specs.Results.{given}
 use Rattle.specification.specs.Terms as S
 use Rattle.specification.specs.Rules.{ruleLetters, isRule, stepAt}
 use Rattle.theory.specs.Elements as E
@@ -25,12 +25,11 @@ use Rattle.theory.specs.Shortening.Candidates.{candidate, gain, isCandidate, No
 use Rattle.terms.specs.declared.types.Term.{Term}
 use Rattle.terms.specs.declared.types.Form.{Form}
 use Rattle.terms.specs.Abstraction.{termOf, formOf, Counted}
-use Rattle.terms.specs.Valid.{FormValid}
+use Rattle.terms.specs.Valid.{FormValid, Gives}
 use Rattle.terms.specs.Numbers.{lettersOf}
 use Rattle.terms.proofs.Arrays.{noTerm}
 use Rattle.terms.proofs.Forms.{form-long, term-is, term-valid}
-use Rattle.gathering.specs.declared.Closed.{Closed}
-use Rattle.gathering.specs.Closing.{WorkedAs}
+use Rattle.terms.specs.declared.types.Outcome.{Outcome}
 use Rattle.gathering.proofs.Closing.{worked-given, worked-refused}
 use Rattle.rules.specs.declared.steps.Step.{Step}
 use Rattle.rules.specs.Steps.{stepOf}
@@ -64,7 +63,8 @@ unfolding RowPassed
 row-none table f first x a h = absurd (N.lt-irrefl x (omega arith))
 
 -- up to the next
-pub row-more : (marks table : List ℕ) (f : S.Form) (first at i : ℕ) (r : Next) → FormInShape f → Covering marks (f .terms) → at / 40960 ≡ i → RowPassed table f first at → NextPlace marks (f .kind) (termAt (f .terms) i) (at % 40960) r → Useless table f (r .found) (r .step)
+pub row-more : (marks table : List ℕ) (f : S.Form) (first at i : ℕ) (r : Next) → FormInShape f → Covering marks (f .terms) → at / 40960 ≡ i → RowPassed table f first at
+    → NextPlace marks (f .kind) (termAt (f .terms) i) (at % 40960) r → Useless table f (r .found) (r .step)
     → RowPassed table f first (i * 40960 + r .next)
 unfolding RowPassed NothingAt Settled Hopeless OnlyStep Useless
 row-more marks table f first at i r shape cover e w n u x b h = go (ltb x at) refl
@@ -76,10 +76,12 @@ row-more marks table f first at i r shape cover e w n u x b h = go (ltb x at) re
         let from : at % 40960 ≤ x % 40960 = omega (arith, ltb-false x at q, n .inside) in
         let before : x % 40960 < r .next = omega (arith, ltb-false x at q, n .inside) in
         subst (λ (k : ℕ). NothingAt table f k (x % 40960)) (sym same)
-        (λ c g inside hk hj known can ex s. ⊎-elim (λ hope. hope hk hj table f c g shape cover refl known can ex s) (λ v. u (v .0) g (ap (stepAt table f) (sym (v .1 c can ex)) ∙ s)) (n .all (x % 40960) from before))
+        (λ c g inside hk hj known can ex s. ⊎-elim (λ hope. hope hk hj table f c g shape cover refl known can ex s)
+        (λ v. u (v .0) g (ap (stepAt table f) (sym (v .1 c can ex)) ∙ s)) (n .all (x % 40960) from before))
 
 -- the whole row
-pub row-all : (table : List ℕ) (f : S.Form) (at : ℕ) → ((i : ℕ) → i < length (f .terms) → length (termAt (f .terms) i .factors) ≤ 7) → length (f .terms) * 40960 ≤ at → RowPassed table f 0 at → AllKnown table (f .terms) → NoCandidate table f
+pub row-all : (table : List ℕ) (f : S.Form) (at : ℕ) → ((i : ℕ) → i < length (f .terms) → length (termAt (f .terms) i .factors) ≤ 7) → length (f .terms) * 40960 ≤ at
+    → RowPassed table f 0 at → AllKnown table (f .terms) → NoCandidate table f
 unfolding RowPassed NothingAt NoCandidate maskOf ruleOf pickOf isRule
 row-all table f at few h w known i k r j c g hi hk rule hj can ex s =
     let masks : 2 ^ length (termAt (f .terms) i .factors) ≤ 128 = pow-mono (few i hi) in
@@ -109,15 +111,22 @@ module _ (f : Form) (v : FormValid f) (places : length (f .terms) ≡ 48) where
       let inside : i < f .count = omega (arith, form-long f v places) in
       let c = term-valid f v places i inside .counted in
       subst (λ (t : S.Term). length (t .factors) ≤ 7) (term-is f v places i inside)
-      (omega (arith, length-map (take (getD (f .terms) i noTerm .«factor_count») (getD (f .terms) i noTerm .factors)) lettersOf, c .few, length-take (getD (f .terms) i noTerm .«factor_count») (getD (f .terms) i noTerm .factors)))
+      (omega (
+        arith,
+        length-map (take (getD (f .terms) i noTerm .«factor_count») (getD (f .terms) i noTerm .factors)) lettersOf,
+        c .few,
+        length-take
+            (getD (f .terms) i noTerm .«factor_count») (getD (f .terms) i noTerm .factors),
+      ))
 
   -- the row by the code's numbers
-  pub row-searched : (table : List ℕ) (first at end : ℕ) → end ≡ f .count * 40960 → end ≤ at → RowPassed table (formOf f) first at → first ≡ 0 → AllKnown table (formOf f .terms) → NoCandidate table (formOf f)
+  pub row-searched : (table : List ℕ) (first at end : ℕ) → end ≡ f .count * 40960 → end ≤ at → RowPassed table (formOf f) first at → first ≡ 0
+      → AllKnown table (formOf f .terms) → NoCandidate table (formOf f)
   row-searched table first at end e h w z = row-all table (formOf f) at terms-few (omega (arith, form-long f v places, e, h)) (subst (λ (n : ℕ). RowPassed table (formOf f) n at) z w)
 
 -- ════ trials
 
-module _ (table : List ℕ) (f : Form) (v : FormValid f) (places : length (f .terms) ≡ 48) (s : Step) (r : Closed) (w : WorkedAs (stepAt table (formOf f) (stepOf s)) r) where
+module _ (table : List ℕ) (f : Form) (v : FormValid f) (places : length (f .terms) ≡ 48) (s : Step) (r : Outcome) (w : Gives (stepAt table (formOf f) (stepOf s)) r) where
   pub refused-useless : (b : Bool) → (r .refusal ≡ 0 → ⊥) → Useless table (formOf f) b s
   unfolding Useless
   refused-useless b h e g q = absurd (refused≢given (sym (worked-refused _ r w h) ∙ q))
@@ -129,11 +138,17 @@ module _ (table : List ℕ) (f : Form) (v : FormValid f) (places : length (f .te
         let same : formOf (r .form) ≡ g = given-same (sym (worked-given _ r w h) ∙ q) in
         subst (λ (g : S.Form). length (formOf f .terms) ≤ length (g .terms)) same (omega (arith, form-long f v places, form-long (r .form) (w .valid h) room))
 
-    pub shorter : r .form .count < f .count → Counted (s .m) → (i : ℕ) → i ≤ 48 → Shorter table f (record { found = true; behind = i; step = s; form = r .form })
+    pub shorter : r .form .count < f .count → Counted (s .m) → (i : ℕ) → i ≤ r .form .count → Shorter table f (record { found = true; behind = i; step = s; form = r .form })
     unfolding stepOf
     shorter k c i few =
         let a = step-admitted table (formOf f) (stepOf s) (formOf (r .form)) (worked-given _ r w h) in
-        record { admissible = worked-given _ r w h; fewer = k; form = w .valid h; step = record { rule = a .shape .rule; m = record { counted = c; inShape = a .shape .m } }; behind = few }
+        record {
+          admissible = worked-given _ r w h;
+          fewer = k;
+          form = w .valid h;
+          step = record { rule = a .shape .rule; m = record { counted = c; inShape = a .shape .m } };
+          behind = omega (arith, few, w .valid h .few);
+        }
 
 -- no step found
 pub not-found : (table : List ℕ) (f : S.Form) (s : Step) (b : Bool) → b ≡ false → Useless table f b s

@@ -10,11 +10,14 @@ use Rattle.specification.specs.Terms.{Form}
 use Rattle.specification.specs.Records.{writeForm, writeInto, takeForm}
 use Rattle.specification.specs.Rules.{Step}
 use Rattle.specification.specs.Shortening.{Shortest, ShortenedTo}
+use Rattle.specification.specs.Logs.{writeSteps, writeLog}
 use Rattle.theory.specs.Records.Positions.{Bytes}
 use Rattle.theory.specs.Records.Forms.{form-read-back}
-use Rattle.theory.specs.Records.Logs.{writeSteps, writeLog, lastStartOf}
-use Rattle.theory.specs.Replay.Accepted.{Derives, derivation-accepted}
-use Rattle.records.proofs.RoundTrip.{taken-written}
+use Rattle.theory.specs.Records.Logs.{lastStartOf}
+use Rattle.theory.specs.Replay.Accepted.{Derives}
+use Rattle.forms.proofs.RoundTrip.{taken-written}
+use Rattle.checker.specs.Answers.{checkedOf}
+use Rattle.checker.proofs.AcceptedLogs.{answers-derivation}
 
 module _ (first : Form) (steps : List Step) (last : Form) where
   -- the log begins with the first form
@@ -35,11 +38,11 @@ module _ (first : Form) (steps : List Step) (last : Form) where
       let v = length steps ∷ writeSteps steps in
       drop-at (u ++ v) (writeForm last) (lastStartOf first steps) (omega (arith, length-append u v))
 
--- the log of a derivation, in front of the memory lent, is what shortening owes
+-- the log of a derivation, in front of the memory lent, is what shortening owes; that it is accepted is the checker's promise (`answers-derivation`)
 pub shortened-to : (table form out out′ : List ℕ) (first : Form) (steps : List Step) (last : Form) (size : ℕ) → Bytes form → takeForm table form ≡ given first
     → Derives table first steps last → size ≡ length (writeLog first steps last) → out′ ≡ writeInto (writeLog first steps last) out → size ≤ length out
     → length steps + length (last .terms) ≤ length (first .terms) → Shortest table last → ShortenedTo table form first out size (length steps) out′
-unfolding writeInto
+unfolding writeInto checkedOf
 shortened-to table form out out′ first steps last size bs taken d size-is out-is fits saves shortest =
     let log = writeLog first steps last in
     let rest = drop (length log) out in
@@ -50,7 +53,7 @@ shortened-to table form out out′ first steps last size bs taken d size-is out-
       last = last;
       fits = fits;
       begins = rw (out-is, ← e) (log-begins first steps last rest);
-      isAccepted = rw (whole, ← e) (derivation-accepted table first steps last d);
+      isAccepted = rw (whole, ← e) (sym (answers-derivation table first steps last d));
       ends = rw (whole, log-ends first steps last) (form-read-back last (d .inShape .lastForm));
       saves = saves;
       shortest = shortest;

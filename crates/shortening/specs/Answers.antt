@@ -1,16 +1,10 @@
--- The answers of shortening. Assumes nothing.
-use Prim.Native.Nat.{ℕ}
+-- The answer of shortening: document 01's number and values for each case. Assumes nothing.
 use Rattle.specification.specs.Shortening.{shortened, unshortened}
 use Rattle.specification.specs.Shortening as S
 use Rattle.shortening.specs.declared.Shortening.{Shortening}
 use Rattle.shortening.specs.declared.Shortening.the-variants.{Written, Refused}
 
--- the answer in document 01's words
+-- the length and the steps of the log written, or refused with its number
 unfoldable pub shorteningOf : Shortening → S.Shortening
 shorteningOf (Written size steps) = shortened size steps
 shorteningOf (Refused n) = unshortened n
-
--- the length of the log written
-unfoldable pub logLength : Shortening → ℕ
-logLength (Written size steps) = size
-logLength (Refused n) = 0

@@ -2,6 +2,5 @@
 pub mod Choosing
 pub mod Trying
 pub mod Searching
-pub mod Writing
 pub mod Derived
 pub mod Answers

@@ -13,14 +13,16 @@ ghost use Rattle.theory.specs.Shortening.Candidates.{blockSize};
 ghost use Rattle.terms.specs.Numbers.{lettersOf};
 ghost use Rattle.terms.specs.Abstraction.{partOf, termOf, Counted};
 ghost use Rattle.shortening.specs.Choosing.{MaskTaken, bitDigits, LeftBy, Pooled, Adds, lettersLeft, MultiplierOf, PassesBy, OpenedBy, RuleOrdered, PickedBy};
-use records::write::letter_count;
-use records::write::low;
 use rules::steps::Step;
 use rules::steps::rule_kind;
 use rules::steps::rule_letters;
 use rules::steps::test_step;
 use terms::build::place;
 use terms::build::put_at;
+use terms::factors::Factor;
+use terms::factors::letter_count;
+use terms::factors::letters_of;
+use terms::factors::low;
 use terms::shape::in_shape;
 use terms::types::Part;
 use terms::types::Term;
@@ -124,18 +126,19 @@ fn add_factor(pool: &mut [u32; 7], n: u8, k: u32) -> u8
     requires { ⌜ (n ≤ 7) × (length (now pool) ≡ 7) × (k < 16843008) ⌝ }
     ensures { λ r. ⌜ Adds (lettersOf k) (now (pool .entry)) n (now (pool .exit)) r ⌝ }
 {
-    if k < 256 {
-        return add_letter(pool, n, k);
+    let f = letters_of(k);
+    match f {
+        Factor::Scalar(x) => add_letter(pool, n, x as u32),
+        Factor::Dot(x, y) => {
+            let a = add_letter(pool, n, y as u32);
+            add_letter(pool, a, x as u32)
+        }
+        Factor::Triple(x, y, z) => {
+            let a = add_letter(pool, n, z as u32);
+            let b = add_letter(pool, a, y as u32);
+            add_letter(pool, b, x as u32)
+        }
     }
-    if k < 65792 {
-        let j = k - 256;
-        let a = add_letter(pool, n, j % 256);
-        return add_letter(pool, a, j / 256);
-    }
-    let j = k - 65792;
-    let a = add_letter(pool, n, j % 256);
-    let b = add_letter(pool, a, j / 256 % 256);
-    add_letter(pool, b, j / 65536)
 }
 
 // The letters of a vector part in an empty pool.

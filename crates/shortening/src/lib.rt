@@ -1,18 +1,20 @@
 // Shortening: steps from a form to one that no admissible step shortens, as a log that the checker accepts.
 ghost use Prim.Native.Nat.{_≤_};
-ghost use Rattle.specification.specs.Shortening.{Shortened};
-ghost use Rattle.shortening.specs.Answers.{shorteningOf, logLength};
+ghost use Rattle.specification.specs.Shortening.{shorteningBytes, logLength, Shortened};
+ghost use Rattle.shortening.specs.Answers.{shorteningOf};
 
 mod choosing;
 pub mod rounds;
 mod searching;
 mod trying;
-pub mod writing;
 
 use crate::rounds::derive;
-use crate::writing::write_log;
-use records::table::check_table;
-use records::take::read_form;
+use forms::read_form;
+use letters::check_table;
+use logs::writing::write_log;
+
+// Bytes that the log of any shortening fits into.
+pub const SHORTENING_BYTES: usize = 2309;
 
 // What shortening says: written, with the log's length and its steps, or refused with its number.
 pub enum Shortening {
@@ -24,13 +26,13 @@ pub enum Shortening {
 // Refused with 1 for the table, 2 for short memory, 11 for the form, then 5 or 6 for its letters.
 pub fn shorten(table: &[u8], form: &[u8], out: &mut [u8]) -> Shortening
     ensures answer { λ r. ⌜ Shortened (now (table .entry)) (now (form .entry)) (now (out .entry)) (shorteningOf r) (now (out .exit)) ⌝ }
-    ensures short { λ r. ⌜ logLength r ≤ 2309 ⌝ }
+    ensures short { λ r. ⌜ logLength (shorteningOf r) ≤ shorteningBytes ⌝ }
 {
     let bad = check_table(table);
     if bad != 0 {
         return Shortening::Refused(bad);
     }
-    if out.len() < 2309 {
+    if out.len() < SHORTENING_BYTES {
         return Shortening::Refused(2);
     }
     let a = read_form(table, form);
@@ -40,7 +42,9 @@ pub fn shorten(table: &[u8], form: &[u8], out: &mut [u8]) -> Shortening
     }
     let f = a.form;
     let d = derive(table, f);
-    let n = d.count;
-    let size = write_log(out, f, d);
+    let steps = d.steps;
+    let last = d.last;
+    let n = steps.count;
+    let size = write_log(out, f, steps, last);
     Shortening::Written(size, n)
 }

@@ -3,9 +3,15 @@
 ghost use Rattle.terms.specs.Valid.{FormValid};
 ghost use Rattle.shortening.specs.Derived.{Derived};
 use crate::searching::search;
-use crate::trying::no_step;
-use crate::writing::Derivation;
+use logs::steps::Steps;
+use logs::steps::no_step;
 use terms::types::Form;
+
+// Steps from a form to the last one.
+pub struct Derivation {
+    pub steps: Steps,
+    pub last: Form,
+}
 
 // Steps from a form to one that no step shortens.
 pub fn derive(table: &[u8], f: Form) -> Derivation
@@ -13,7 +19,7 @@ pub fn derive(table: &[u8], f: Form) -> Derivation
     ensures { λ r. ⌜ Derived (now (table .entry)) f r ⌝ }
 {
     let none = no_step();
-    let mut steps = [none; 48];
+    let mut steps = [none; 64];
     let mut n: usize = 0;
     let mut g = f;
     let mut r = search(table, f, 0);
@@ -28,9 +34,12 @@ pub fn derive(table: &[u8], f: Form) -> Derivation
             r = search(table, g, 0);
         }
     }
-    Derivation {
+    let all = Steps {
         count: n,
         steps: steps,
+    };
+    Derivation {
+        steps: all,
         last: g,
     }
 }

@@ -2,10 +2,10 @@
 ghost use Prim.Native.Nat.{_≤_};
 ghost use Rattle.terms.specs.Abstraction.{Counted};
 ghost use Rattle.terms.specs.Valid.{FormValid};
-ghost use Rattle.shortening.specs.Searching.{SearchedBy};
+ghost use Rattle.shortening.specs.Searching.{PlaceIn, SearchedBy};
 use crate::trying::next_candidate;
-use crate::trying::no_step;
 use gathering::comes_behind;
+use logs::steps::no_step;
 use marks::marking::mark_form;
 use rules::admissible::step_at;
 use rules::steps::Step;
@@ -20,10 +20,10 @@ pub struct Found {
     pub form: Form,
 }
 
-// The place in a form at which a term would stand.
+// The place in a form at which a term would stand: the term before it comes before, the one there does not.
 fn place_in(g: Form, t: Term) -> usize
     requires { ⌜ FormValid g × Counted t ⌝ }
-    ensures { λ r. ⌜ r ≤ 48 ⌝ }
+    ensures { λ r. ⌜ PlaceIn g t r ⌝ }
 {
     let mut low: usize = 0;
     let mut high = g.count;

@@ -9,7 +9,7 @@ ghost use lib.ListN.{length, getD};
 ghost use Rattle.specification.specs.Results.{if_then_else_};
 ghost use Rattle.specification.specs.Letters.{vector};
 ghost use Rattle.specification.specs.Rules.{isRule, ruleLetters, ruleKind};
-ghost use Rattle.terms.specs.Abstraction.{partOf, termOf, Counted};
+ghost use Rattle.terms.specs.Abstraction.{partOf, termOf};
 ghost use Rattle.terms.specs.Valid.{TermValid};
 ghost use Rattle.shortening.specs.Choosing.{LeftBy};
 ghost use Rattle.shortening.specs.Trying.{SomeOpened, Tried, NextPick, RuledOut, NextOfMask, NextPlace};
@@ -22,6 +22,7 @@ use crate::choosing::open;
 use crate::choosing::pick;
 use integers::divide;
 use integers::neg;
+use logs::steps::no_step;
 use marks::marking::size_mark;
 use marks::steps::gain;
 use marks::steps::mark_step;
@@ -103,26 +104,6 @@ fn try_pick(marks: &[u8; 512], t: Term, rule: u8, o: Opening, j: usize) -> Trial
     Trial {
         found: q.exact,
         step: e,
-    }
-}
-
-// No step.
-pub fn no_step() -> Step
-    ensures { λ r. ⌜ Counted (r .m) ⌝ }
-{
-    let p = Part::Nothing;
-    let f = [0u32; 7];
-    let m = Term {
-        coef: 0,
-        factors: f,
-        factor_count: 0,
-        part: p,
-    };
-    let letters = [0u8; 6];
-    Step {
-        rule: 0,
-        letters: letters,
-        m: m,
     }
 }
 

@@ -50,10 +50,6 @@ examples =
     ∷ prints (3 ∷ 1 ∷ 1 ∷ 1 ∷ 3 ∷ 8 ∷ 1 ∷ 0 ∷ 1 ∷ 2 ∷ 1 ∷ 1 ∷ []) (98 ∷ 43 ∷ 40 ∷ 97 ∷ 94 ∷ 99 ∷ 41 ∷ 10 ∷ [])
     -- and so do lists of factors: cd + (a·b), with scalars c and d, is `(a.b)+cd`
     ∷ prints (4 ∷ 1 ∷ 1 ∷ 0 ∷ 0 ∷ 3 ∷ 6 ∷ 1 ∷ 2 ∷ 1 ∷ 3 ∷ 7 ∷ 1 ∷ 0 ∷ 1 ∷ 1 ∷ []) (40 ∷ 97 ∷ 46 ∷ 98 ∷ 41 ∷ 43 ∷ 99 ∷ 100 ∷ 10 ∷ [])
-    -- "46340 times 46340 is taken"
-    ∷ prints (1 ∷ 0 ∷ 6 ∷ 2 ∷ 0 ∷ 0 ∷ 181 ∷ 4 ∷ 2 ∷ 0 ∷ 0 ∷ 181 ∷ 4 ∷ []) (50 ∷ 49 ∷ 52 ∷ 55 ∷ 51 ∷ 57 ∷ 53 ∷ 54 ∷ 48 ∷ 48 ∷ 10 ∷ [])
-    -- "46341 times 46341 is 9"
-    ∷ prints (1 ∷ 0 ∷ 6 ∷ 2 ∷ 0 ∷ 0 ∷ 181 ∷ 5 ∷ 2 ∷ 0 ∷ 0 ∷ 181 ∷ 5 ∷ []) (82 ∷ 57 ∷ 10 ∷ [])
     -- "a refusal R and its decimal number, as `R5`": the letter b of a table of one letter
     ∷ prints (1 ∷ 1 ∷ 1 ∷ 1 ∷ []) (82 ∷ 53 ∷ 10 ∷ [])
     -- "a missing length byte or a cut table is 1"

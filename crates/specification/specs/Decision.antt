@@ -19,6 +19,14 @@ pub data Decision : Type 0 where
   differs : Decision
   undecided : ℕ → Decision
 
+-- "a 72-byte buffer"
+abbrev pub bufferBytes : ℕ
+bufferBytes = 72
+
+-- "55,296 work bytes"
+abbrev pub workBytes : ℕ
+workBytes = 55296
+
 -- "every shape is tested first", "Then letters in byte order", "two forms of unlike kind decided: 6"
 unfoldable pub takeTwoForms : (table s t : List ℕ) → Result (Form × Form)
 takeTwoForms table s t = do
@@ -33,7 +41,7 @@ takeTwoForms table s t = do
 unfoldable pub decideTested : (table s t buffer work : List ℕ) → Result (Form × Form)
 decideTested table s t buffer work = do
   testTable table
-  require (leb 72 (length buffer) && leb 55296 (length work)) 2
+  require (leb bufferBytes (length buffer) && leb workBytes (length work)) 2
   takeTwoForms table s t
 
 -- the three numbers of a letter: "each number 0 to 6, scalar letters 0 to 2", a scalar letter's other two 0

@@ -28,7 +28,7 @@ unfoldable pub testTable : List ℕ → Test
 testTable table = require (goodTable table) 1
 
 -- the kind of the letter n
-abbrev pub kindOf : List ℕ → ℕ → ℕ
+unfoldable pub kindOf : List ℕ → ℕ → ℕ
 kindOf table n = getD table n 0
 
 -- "5 absent or 6 of the wrong kind"

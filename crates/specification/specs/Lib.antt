@@ -13,4 +13,7 @@ pub mod Rules
 pub mod Logs
 pub mod Decision
 pub mod Shortening
+pub mod Auditing
 pub mod Printing
+pub mod Promises
+pub mod Returns

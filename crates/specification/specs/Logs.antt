@@ -1,17 +1,36 @@
 -- Logs: their shape, their letters, the replay, and the checker's call. Assumes nothing.
 use mathlib.Core.Bool.{Bool, true, false, _&&_}
-use mathlib.Core.List.{List, [], _∷_, _++_}
+use mathlib.Core.List.{List, [], _∷_, _++_, map}
 use Prim.Native.Nat.{ℕ, zero, suc, _+_}
 use lib.IntN.{ℤ, pos, negsuc}
 use lib.ListN.{length, getD}
 use lib.Dec.{ltb, leb, eqb, isEq}
+use Rattle.specification.specs.Lists.{joined}
 use Rattle.specification.specs.Results.{Result, refused, given, _>>=_, _>>_, require, if_then_else_}
 use Rattle.specification.specs.Letters.{testTable}
 use Rattle.specification.specs.Terms.{Term, Form, compareTerms}
-use Rattle.specification.specs.Records.{readLetters, readTermAt, readFormAt, testTerms}
+use Rattle.specification.specs.Records.{writeTerm, writeForm, readLetters, readTermAt, readFormAt, testTerms}
 use Rattle.specification.specs.Rules.{Step, isRule, ruleLetters, testStepLetters, takeStep}
 
+-- ════ writing
+
+-- "the rule number, its letters in the order a b c d, a b c d, a b c d h, a b c d h or a b c d g h, and a term record M"
+unfoldable pub writeStep : Step → List ℕ
+writeStep s = s .rule ∷ s .letters ++ writeTerm (s .m)
+
+-- the records of steps, one behind the other
+unfoldable pub writeSteps : List Step → List ℕ
+writeSteps ss = joined (map writeStep ss)
+
+-- "the first form, a count byte 0 to 64, the steps, the last form"
+unfoldable pub writeLog : (first : Form) (steps : List Step) (last : Form) → List ℕ
+writeLog first steps last = writeForm first ++ length steps ∷ writeSteps steps ++ writeForm last
+
 -- ════ the shape
+
+-- a log has "at most 3,013 bytes": two forms, a count byte and 64 steps of 23 bytes
+abbrev pub logBytes : ℕ
+logBytes = 3013
 
 -- the step record at a position: the rule number, its letters, and a term record M
 unfoldable pub readStepAt : (s : List ℕ) (at : ℕ) → Result (Step × ℕ)
@@ -37,7 +56,7 @@ pub record Log : Type 0 where
   pub lastStart : ℕ
   pub last : Form
 
--- "the first form, a count byte 0 to 64, the steps, the last form"; 770 + 1 + 64 · 23 + 770 bytes are 3013, so that no shape is longer
+-- "the first form, a count byte 0 to 64, the steps, the last form"; that none is longer than `logBytes` is a theorem (`log-short`)
 unfoldable pub readLog : (s : List ℕ) → Result Log
 readLog s = do
   (first, firstEnd) ← readFormAt s 0
@@ -90,6 +109,13 @@ unfoldable pub replay : (log : Log) (k : ℕ) (current : Form) (steps : List Ste
 replay log k current [] =
     if sameForm (log .last) current then accepted (log .firstEnd) (log .lastStart) (length (log .steps)) else refusedAt 13 k
 replay log k current (s ∷ ss) = atStep k (takeStep current s) λ reached. replay log (k + 1) reached ss
+
+-- the form that steps reach, one after the other, or the refusal of one
+unfoldable pub takeSteps : (current : Form) (steps : List Step) → Result Form
+takeSteps current [] = given current
+takeSteps current (s ∷ ss) = do
+  reached ← takeStep current s
+  takeSteps reached ss
 
 -- ════ the call
 

@@ -1,7 +1,8 @@
--- The printer: from standard input to standard output. Assumes nothing.
+-- The printer and the text of a shortening: from standard input to standard output. Assumes nothing.
+use mathlib.Core.Path.{_≡_}
 use mathlib.Core.Bool.{Bool, true, false, not, _&&_, _||_}
 use mathlib.Core.List.{List, [], _∷_, _++_, map}
-use Prim.Native.Nat.{ℕ, zero, suc, _+_, _/_, _%_}
+use Prim.Native.Nat.{ℕ, zero, suc, _+_, _/_, _%_, _≤_}
 use lib.IntN.{ℤ, pos, negsuc, natAbs}
 use lib.ListN.{length, getD, take, drop}
 use lib.Dec.{ltb, leb, eqb}
@@ -9,7 +10,11 @@ use Rattle.specification.specs.Lists.{joined}
 use Rattle.specification.specs.Results.{Result, refused, given, _>>_, require, if_then_else_}
 use Rattle.specification.specs.Letters.{testTable}
 use Rattle.specification.specs.Terms.{Term, Form}
+use Rattle.specification.specs.Records.{writeInto}
 use Rattle.specification.specs.Reduction.{reduced}
+use Rattle.specification.specs.Rules.{Step}
+use Rattle.specification.specs.Logs.{Log, accepted, readLog, checkCall}
+use Rattle.specification.specs.Shortening.{Shortest}
 
 -- ════ a form
 
@@ -80,15 +85,23 @@ unfoldable pub printForm : List Term → List ℕ
 printForm [] = 48 ∷ []
 printForm (t ∷ ts) = printFirstSign (t .coef) ++ printTerm t ++ printTerms ts
 
--- ════ the call
+-- ════ the printer's call
+
+-- a form's line fits into so many bytes
+abbrev pub lineBytes : ℕ
+lineBytes = 1393
+
+-- the table behind its length byte
+abbrev pub inputTable : (s : List ℕ) → List ℕ
+inputTable s = take (getD s 0 0) (drop 1 s)
 
 -- "the table's length byte, table and expression from standard input; a missing length byte or a cut table is 1"
 unfoldable pub printTested : (s : List ℕ) → Result Form
 printTested s = do
   require (leb 1 (length s)) 1
   require (leb (getD s 0 0 + 1) (length s)) 1
-  testTable (take (getD s 0 0) (drop 1 s))
-  reduced (take (getD s 0 0) (drop 1 s)) (drop (getD s 0 0 + 1) s)
+  testTable (inputTable s)
+  reduced (inputTable s) (drop (getD s 0 0 + 1) s)
 
 -- the form, or "a refusal R and its decimal number", "each with a newline"
 unfoldable pub printResult : Result Form → List ℕ
@@ -98,3 +111,74 @@ printResult (given f) = printForm (f .terms) ++ 10 ∷ []
 -- the bytes written to standard output
 unfoldable pub printCall : (s : List ℕ) → List ℕ
 printCall s = printResult (printTested s)
+
+-- the text's length and the text in front of the memory lent; memory that is too short for a line is 2, and stands
+unfoldable pub printAnswer : (s memory : List ℕ) → Result ℕ × List ℕ
+printAnswer s memory =
+    if leb lineBytes (length memory) then (given (length (printCall s)), writeInto (printCall s) memory) else (refused 2, memory)
+
+-- ════ the text of a log: the first form, each step, the last form, each on a line
+
+-- ` a b c d`
+unfoldable pub printLetters : List ℕ → List ℕ
+printLetters [] = []
+printLetters (n ∷ ns) = 32 ∷ printLetter n ∷ printLetters ns
+
+-- `rule 2:`
+unfoldable pub printRule : ℕ → List ℕ
+printRule rule = 114 ∷ 117 ∷ 108 ∷ 101 ∷ 32 ∷ decimal rule ++ 58 ∷ []
+
+-- `, M = 1` and a newline: M as the form of this one term
+unfoldable pub printMultiplier : Term → List ℕ
+printMultiplier m = 44 ∷ 32 ∷ 77 ∷ 32 ∷ 61 ∷ 32 ∷ printForm (m ∷ []) ++ 10 ∷ []
+
+-- `rule 2: a b c d, M = 1` and a newline
+unfoldable pub printStep : Step → List ℕ
+printStep s = printRule (s .rule) ++ printLetters (s .letters) ++ printMultiplier (s .m)
+
+-- the steps, each on its line
+unfoldable pub printSteps : List Step → List ℕ
+printSteps ss = joined (map printStep ss)
+
+-- the line of the first form, those of the steps, that of the last form
+unfoldable pub printLog : Log → List ℕ
+printLog log = printResult (given (log .first)) ++ printSteps (log .steps) ++ printResult (given (log .last))
+
+-- ════ the call of the program shorten, which reads what the printer reads
+
+-- the text of a shortening fits into so many bytes
+abbrev pub linesBytes : ℕ
+linesBytes = 5426
+
+-- a text in front of the memory lent, and its length
+pub record TextWritten (before after : List ℕ) (count : ℕ) (text : List ℕ) : Type 0 where
+  pub ends : count ≡ length text
+  pub bytes : after ≡ writeInto text before
+
+-- the text is that of a log that begins with the form, is accepted, whose steps are at most the terms saved, and at whose last form no admissible step
+-- leads to fewer terms
+pub record ShorteningPrinted (table : List ℕ) (first : Form) (before after : List ℕ) (count : ℕ) : Type 0 where
+  pub bytes : List ℕ
+  pub log : Log
+  pub reads : readLog bytes ≡ given log
+  pub begins : log .first ≡ first
+  pub isAccepted : checkCall table bytes ≡ accepted (log .firstEnd) (log .lastStart) (length (log .steps))
+  pub saves : length (log .steps) + length (log .last .terms) ≤ length (first .terms)
+  pub shortest : Shortest table (log .last)
+  pub text : TextWritten before after count (printLog log)
+
+-- by what reduction gives: the text of a shortening, or the printer's line of a refusal
+unfoldable pub PrintedBy : (r : Result Form) (table before after : List ℕ) (count : ℕ) → Type 0
+PrintedBy (refused n) table before after count = TextWritten before after count (printResult (refused n))
+PrintedBy (given first) table before after count = ShorteningPrinted table first before after count
+
+-- what holds of the answer, by whether the memory lent is long enough: refused with 2 and nothing written, or the text and its length
+unfoldable pub LinesPrintedBy : (enough : Bool) (s before : List ℕ) (answer : Result ℕ) (after : List ℕ) → Type 0
+LinesPrintedBy true s before (given count) after = PrintedBy (printTested s) (inputTable s) before after count
+LinesPrintedBy true s before (refused n) after = ⊥
+LinesPrintedBy false s before (given count) after = ⊥
+LinesPrintedBy false s before (refused n) after = (n ≡ 2) × (after ≡ before)
+
+-- the call: what was read, and the memory lent; the answer, and the memory afterwards
+unfoldable pub LinesPrinted : (s before : List ℕ) (answer : Result ℕ) (after : List ℕ) → Type 0
+LinesPrinted s before answer after = LinesPrintedBy (leb linesBytes (length before)) s before answer after

@@ -12,6 +12,10 @@ use Rattle.specification.specs.Results.{Result, Test, refused, given, _>
 use Rattle.specification.specs.Letters.{scalar, vector, testLetters}
 use Rattle.specification.specs.Terms.{Term, Form, termKind, termBefore, termInShape}
 
+-- "A call that gives a form writes its record into at least 770 bytes"
+abbrev pub formBytes : ℕ
+formBytes = 770
+
 -- ════ four bytes signed, most significant byte first
 
 -- an integer as a number of 32 bits
@@ -160,7 +164,7 @@ readTerms (suc count) kind before s at = do
   require (partFits kind t && follows termBefore before t) 11
   readTerms count kind (before ++ t ∷ []) s next
 
--- the form record at a position; 2 + 48 · 16 bytes are 770, so that no shape is longer
+-- the form record at a position; that none is longer than `formBytes` is a theorem (`form-short`)
 unfoldable pub readFormAt : (s : List ℕ) (at : ℕ) → Result (Form × ℕ)
 readFormAt s at = do
   require (leb (at + 2) (length s)) 11

@@ -9,7 +9,7 @@ use Rattle.specification.specs.Lists.{all}
 use Rattle.specification.specs.Results.{Result, given, _>>=_, _>>_, require, if_then_else_}
 use Rattle.specification.specs.Letters.{scalar, vector, testTable}
 use Rattle.specification.specs.Terms.{Term, Form, dotOf, tripleOf, wedgeOf, plus, minus, timesTerm, negated, keep, gather, within, coefWithin, vectorLetters, scalarLetters}
-use Rattle.specification.specs.Records.{answerForm}
+use Rattle.specification.specs.Records.{formBytes, answerForm}
 use Rattle.specification.specs.Expressions.{Expr, Letter, Constant, Sum, Difference, Negation, Times, Dot, Wedge, Triple, readExpr}
 
 -- ════ one pair of terms: what its two vector parts make
@@ -163,7 +163,7 @@ reduced table expr = do
 unfoldable pub reduceTested : (table expr out : List ℕ) → Result Form
 reduceTested table expr out = do
   testTable table
-  require (leb 770 (length out)) 2
+  require (leb formBytes (length out)) 2
   reduced table expr
 
 -- the length written, or the number; and the memory lent, afterwards

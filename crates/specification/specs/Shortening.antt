@@ -16,18 +16,28 @@ pub data Shortening : Type 0 where
   shortened : ℕ → ℕ → Shortening
   unshortened : ℕ → Shortening
 
+-- how many bytes were written
+unfoldable pub logLength : Shortening → ℕ
+logLength (shortened size steps) = size
+logLength (unshortened n) = 0
+
+-- "a form and at least 2,309 bytes"
+abbrev pub shorteningBytes : ℕ
+shorteningBytes = 2309
+
 -- the tests of the call in their order: 1, 2, then contents
 unfoldable pub shortenTested : (table form out : List ℕ) → Result Form
 shortenTested table form out = do
   testTable table
-  require (leb 2309 (length out)) 2
+  require (leb shorteningBytes (length out)) 2
   takeForm table form
 
 -- no admissible step of any rule, letters and term M leads from the form to fewer terms
 unfoldable pub Shortest : (table : List ℕ) (f : Form) → Type 0
 Shortest table f = (s : Step) (reached : Form) → stepAt table f s ≡ given reached → length (f .terms) ≤ length (reached .terms)
 
--- of a log of so many bytes and steps: it begins with the form taken, the checker accepts exactly it, its steps are those reported and at most the terms saved, no admissible step at its last form leads to fewer terms, and the bytes after it stand
+-- of a log of so many bytes and steps: it begins with the form taken, the checker accepts exactly it, its steps are those reported and at most the terms saved, no
+-- admissible step at its last form leads to fewer terms, and the bytes after it stand
 pub record ShortenedTo (table form : List ℕ) (first : Form) (out : List ℕ) (size steps : ℕ) (out′ : List ℕ) : Type 0 where
   pub lastStart : ℕ
   pub last : Form

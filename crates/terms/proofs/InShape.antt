@@ -1,14 +1,12 @@
 -- The shape of factors by their numbers, and the letters that they use, one turn at a time. Assumes nothing.
 use mathlib.Core.Path.{_≡_, refl, ap, sym, _∙_}
-use mathlib.Core.Logic.{_⊎_, inl, inr}
 use mathlib.Core.Bool.{Bool, true, false, not, _&&_}
 use mathlib.Core.List.{List, [], _∷_, map}
 use Prim.Native.Nat.{ℕ, zero, _+_, _-_, _*_, _/_, _%_, _<_, _≤_}
 use native.Mathlib.Omega.{arith}
-use lib.Dec.{ltb, leb}
+use lib.Dec.{ltb, leb, eqb}
 use lib.ListN.{length, getD, take, drop}
-use borrow.Author.Tests.{lt-ltb, le-ltb, le-leb, lt-leb, ltb-true, ltb-false}
-use Rattle.algebra.specs.Conditions.{lt-or-le}
+use borrow.Author.Tests.{lt-ltb, le-ltb, le-leb, lt-leb, ltb-true, ltb-false, eqb-true, eqb-false, eq-eqb, ne-eqb}
 use Rattle.specification.specs.Lists.{order, isNotMore, all, ascend}
 use Rattle.specification.specs.Terms.{isZero, coefWithin, factorInShape, factorNotAfter, partInShape, vectorLettersOf, scalarLettersOf, vectorLetters, scalarLetters, termInShape}
 use Rattle.specification.specs.Terms as S
@@ -20,6 +18,7 @@ use Rattle.terms.specs.Numbers.{lettersOf}
 use Rattle.terms.specs.Abstraction.{partOf}
 use Rattle.terms.specs.Used.{UsedBy}
 use Rattle.terms.proofs.Numbers.{one-is, two-is, three-is, number-order}
+use Rattle.terms.proofs.Letters.{letters-long}
 use Rattle.terms.proofs.Arrays.{rest-at, nothing-left}
 
 -- ════ one factor
@@ -105,24 +104,16 @@ shape-end f n i last fl h = rw (nothing-left f n i fl h)
 
 -- ════ the letters used
 
-pub counted-scalar : (k : ℕ) → k < 256 → (0 ≡ vectorLettersOf (lettersOf k ∷ [])) × (1 ≡ scalarLettersOf (lettersOf k ∷ []))
-unfolding vectorLettersOf scalarLettersOf
-counted-scalar k h = (rw (one-is k h), rw (one-is k h))
+module _ (f : List ℕ) (n : ℕ) (e : n ≡ length f) where
+  -- one letter is a scalar's
+  pub counted-one : n ≡ 1 → (0 ≡ vectorLettersOf (f ∷ [])) × (1 ≡ scalarLettersOf (f ∷ []))
+  unfolding vectorLettersOf scalarLettersOf
+  counted-one h = let q = eq-eqb (length f) 1 (sym e ∙ h) in (rw q, rw q)
 
-pub counted-dot : (k : ℕ) → 256 ≤ k → k < 65792 → (2 ≡ vectorLettersOf (lettersOf k ∷ [])) × (0 ≡ scalarLettersOf (lettersOf k ∷ []))
-unfolding vectorLettersOf scalarLettersOf
-counted-dot k h g = (rw (two-is k h g), rw (two-is k h g))
-
-pub counted-triple : (k : ℕ) → 65792 ≤ k → (3 ≡ vectorLettersOf (lettersOf k ∷ [])) × (0 ≡ scalarLettersOf (lettersOf k ∷ []))
-unfolding vectorLettersOf scalarLettersOf
-counted-triple k h = (rw (three-is k h), rw (three-is k h))
-
-pub counted-vector : (k : ℕ) → 256 ≤ k → 0 ≡ scalarLettersOf (lettersOf k ∷ [])
-counted-vector k h = go (ltb k 65792) refl
-  where
-    go : (t : Bool) → ltb k 65792 ≡ t → 0 ≡ scalarLettersOf (lettersOf k ∷ [])
-    go true e = counted-dot k h (ltb-true _ _ e) .1
-    go false e = counted-triple k (ltb-false _ _ e) .1
+  -- more are vectors'
+  pub counted-more : (n ≡ 1 → ⊥) → (n ≡ vectorLettersOf (f ∷ [])) × (0 ≡ scalarLettersOf (f ∷ []))
+  unfolding vectorLettersOf scalarLettersOf
+  counted-more h = let q = ne-eqb (length f) 1 (λ (g : length f ≡ 1). h (e ∙ g)) in (rw q (omega arith), rw q)
 
 module _ (f : List ℕ) (n i : ℕ) (fl : n ≤ length f) (h : i < n) where
   pub vectors-more : (v a r : ℕ) → v ≡ vectorLettersOf (lettersOf (getD f i 0) ∷ []) → a ≡ r + vectorLettersOf (map lettersOf (drop i (take n f)))
@@ -148,12 +139,11 @@ module _ (f : List ℕ) (n i : ℕ) (fl : n ≤ length f) (h : n ≤ i) where
 
 -- what one factor counts: a scalar letter, or at least two vector letters
 factor-counts : (k : ℕ) → 2 ≤ 2 * scalarLettersOf (lettersOf k ∷ []) + vectorLettersOf (lettersOf k ∷ [])
-factor-counts k = go (lt-or-le k 256) (lt-or-le k 65792)
+factor-counts k = go (eqb (length (lettersOf k)) 1) refl
   where
-    go : (k < 256) ⊎ (256 ≤ k) → (k < 65792) ⊎ (65792 ≤ k) → 2 ≤ 2 * scalarLettersOf (lettersOf k ∷ []) + vectorLettersOf (lettersOf k ∷ [])
-    go (inl h) o = omega (arith, counted-scalar k h .0, counted-scalar k h .1)
-    go (inr h) (inl g) = omega (arith, counted-dot k h g .0, counted-dot k h g .1)
-    go (inr h) (inr g) = omega (arith, counted-triple k g .0, counted-triple k g .1)
+    go : (b : Bool) → eqb (length (lettersOf k)) 1 ≡ b → 2 ≤ 2 * scalarLettersOf (lettersOf k ∷ []) + vectorLettersOf (lettersOf k ∷ [])
+    go true e = let w = counted-one (lettersOf k) _ refl (eqb-true _ _ e) in omega (arith, w .0, w .1)
+    go false e = let w = counted-more (lettersOf k) _ refl (eqb-false _ _ e) in omega (arith, w .0, w .1, letters-long k .0, eqb-false (length (lettersOf k)) 1 e)
 
 scalars-first : (f : List ℕ) (fs : List (List ℕ)) → scalarLettersOf (f ∷ fs) ≡ scalarLettersOf (f ∷ []) + scalarLettersOf fs
 unfolding scalarLettersOf
@@ -177,7 +167,10 @@ pub shape-of : (t : S.Term) (zero within factors part letters : Bool) → zero �
     → letters ≡ (leb (vectorLetters t) 6 && leb (scalarLetters t) 2)
     → (not zero && (within && (factors && (part && letters)))) ≡ termInShape t
 unfolding termInShape
-shape-of t z w f p l ez ew ef ep el = rw (ez, ew, ef, ep, el) (in-a-row (not (isZero (t .coef))) (coefWithin (t .coef)) (all factorInShape (t .factors)) (ascend factorNotAfter (t .factors)) (partInShape (t .part)) (leb (vectorLetters t) 6) (leb (scalarLetters t) 2))
+shape-of t z w f p l ez ew ef ep el =
+    rw (ez, ew, ef, ep, el)
+    (in-a-row (not (isZero (t .coef))) (coefWithin (t .coef)) (all factorInShape (t .factors)) (ascend factorNotAfter (t .factors)) (partInShape (t .part))
+    (leb (vectorLetters t) 6) (leb (scalarLetters t) 2))
   where
     in-a-row : (z w a b p u v : Bool) → (z && (w && ((a && b) && (p && (u && v))))) ≡ ((((((z && w) && a) && b) && p) && u) && v)
     in-a-row false w a b p u v = refl

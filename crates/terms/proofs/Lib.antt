@@ -1,6 +1,7 @@
 -- Lemmas that belong to no one function.
 pub mod Arrays
 pub mod Numbers
+pub mod Letters
 pub mod Orders
 pub mod Shift
 pub mod Places

@@ -155,17 +155,3 @@ letter-number p x k h e = number-part k ∙ h .letters ∙ rw e
 pub wedge-number : (p : Part) (x y k : ℕ) → FactorNumber (x ∷ y ∷ []) k → p ≡ Wedge x y → partLettersOf (1 + k) ≡ partOf p
 unfolding partOf
 wedge-number p x y k h e = number-part k ∙ h .letters ∙ rw e
-
--- ════ the letters of a number
-
-pub scalar-letters : (k : ℕ) → k < 256 → lettersOf k ≡ k ∷ []
-unfolding lettersOf
-scalar-letters k h = rw (lt-ltb k 256 h)
-
-pub dot-letters : (k j : ℕ) → 256 ≤ k → k < 65792 → j ≡ k - 256 → lettersOf k ≡ j / 256 ∷ j % 256 ∷ []
-unfolding lettersOf
-dot-letters k j g h e = rw (le-ltb k 256 g, lt-ltb k 65792 h, e)
-
-pub triple-letters : (k j : ℕ) → 65792 ≤ k → j ≡ k - 65792 → lettersOf k ≡ j / 65536 ∷ j / 256 % 256 ∷ j % 256 ∷ []
-unfolding lettersOf
-triple-letters k j g e = rw (le-ltb k 256 (omega arith), le-ltb k 65792 g, e)

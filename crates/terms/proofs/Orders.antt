@@ -3,9 +3,8 @@ use mathlib.Core.Path.{_≡_, refl, sym, _∙_}
 use mathlib.Core.List.{List, [], _∷_, map}
 use Prim.Native.Nat.{ℕ, _+_, _<_, _≤_, Ordering, Ordering·lt, Ordering·eq, Ordering·gt}
 use native.Mathlib.Omega.{arith}
-use native.Mathlib.Numerals.{add-one}
-use lib.ListN.{length, getD, take, drop, length-map, drop-of-length-le}
-use lib.Seq.{drop-cons, getD-take, length-take-le}
+use lib.ListN.{length, getD, take, drop, length-map}
+use lib.Seq.{length-take-le}
 use Rattle.specification.specs.Lists.{thenBy, order, firstDifference, compareLists}
 use Rattle.specification.specs.Terms.{compareLetters, compareTerms}
 use Rattle.theory.specs.Order.{nat-laws, compares-less, compares-equal, compares-more}
@@ -19,7 +18,8 @@ use Rattle.terms.proofs.Numbers.{number-order, part-order}
 
 module _ (f g : List ℕ) (n k : ℕ) (fl : n ≤ length f) (gl : n ≤ length g) (kn : k < n) where
   -- it is here, or further on
-  pub first-here : (o : Ordering) → order (getD f k 0) (getD g k 0) ≡ o → firstDifference order (drop k (take n f)) (drop k (take n g)) ≡ thenBy o (firstDifference order (drop (k + 1) (take n f)) (drop (k + 1) (take n g)))
+  pub first-here : (o : Ordering) → order (getD f k 0) (getD g k 0) ≡ o
+      → firstDifference order (drop k (take n f)) (drop k (take n g)) ≡ thenBy o (firstDifference order (drop (k + 1) (take n f)) (drop (k + 1) (take n g)))
   unfolding firstDifference
   first-here o e = rw (rest-at f n k 0 fl kn, rest-at g n k 0 gl kn, e)
 

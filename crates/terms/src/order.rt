@@ -1,11 +1,12 @@
 // The order of terms: by vector part, then by the number of factors, then at the first factor that differs.
 ghost use mathlib.Core.Path.{_≡_};
 ghost use Prim.Native.Nat.{_≤_};
+ghost use lib.Dec.{isEq};
 ghost use lib.ListN.{length, take};
-ghost use Rattle.specification.specs.Lists.{order, firstDifference};
+ghost use Rattle.specification.specs.Lists.{order, isLess, firstDifference};
 ghost use Rattle.specification.specs.Terms.{compareTerms};
 ghost use Rattle.terms.specs.Numbers.{partLettersOf};
-ghost use Rattle.terms.specs.Abstraction.{partOf, termOf, orderingOf, Counted};
+ghost use Rattle.terms.specs.Abstraction.{partOf, termOf, orderingOf, isMore, Counted};
 use crate::factors::dot_number;
 use crate::factors::scalar_number;
 use crate::types::Part;
@@ -16,6 +17,39 @@ pub enum Order {
     Less,
     Equal,
     Greater,
+}
+
+// It found the first before the second.
+pub fn is_less(o: Order) -> bool
+    ensures { λ r. ⌜ r ≡ isLess (orderingOf o) ⌝ }
+{
+    match o {
+        Order::Less => true,
+        Order::Equal => false,
+        Order::Greater => false,
+    }
+}
+
+// It found no difference.
+pub fn is_equal(o: Order) -> bool
+    ensures { λ r. ⌜ r ≡ isEq (orderingOf o) ⌝ }
+{
+    match o {
+        Order::Less => false,
+        Order::Equal => true,
+        Order::Greater => false,
+    }
+}
+
+// It found the first behind the second.
+pub fn is_more(o: Order) -> bool
+    ensures { λ r. ⌜ r ≡ isMore (orderingOf o) ⌝ }
+{
+    match o {
+        Order::Less => false,
+        Order::Equal => false,
+        Order::Greater => true,
+    }
 }
 
 // The number of a vector part: shorter parts first, then in the order of their letters.

@@ -10,6 +10,8 @@ ghost use lib.Dec.{leb};
 ghost use Rattle.terms.specs.Numbers.{lettersOf};
 ghost use Rattle.terms.specs.Abstraction.{partOf, termOf};
 ghost use Rattle.terms.specs.Used.{UsedBy};
+use crate::factors::factor_in_shape;
+use crate::factors::letter_count;
 use crate::types::Part;
 use integers::is_zero;
 use integers::within;
@@ -18,24 +20,6 @@ use integers::within;
 pub struct Used {
     pub vectors: usize,
     pub scalars: usize,
-}
-
-// The letters of one factor are in order.
-fn factor_in_shape(k: u32) -> bool
-    ensures { λ r. ⌜ r ≡ factorInShape (lettersOf k) ⌝ }
-{
-    if k < 256 {
-        return true;
-    }
-    if k < 65792 {
-        let j = k - 256;
-        return j / 256 <= j % 256;
-    }
-    let j = k - 65792;
-    if j / 65536 < j / 256 % 256 {
-        return j / 256 % 256 < j % 256;
-    }
-    false
 }
 
 // The letters of each of n factors are in order, and so are the factors.
@@ -64,20 +48,15 @@ fn factors_in_shape(f: &[u32; 7], n: u8) -> bool
 fn vector_count(k: u32) -> usize
     ensures { λ r. ⌜ (r ≡ vectorLettersOf (lettersOf k ∷ [])) × (r ≤ 3) ⌝ }
 {
-    if k < 256 {
-        return 0;
-    }
-    if k < 65792 {
-        return 2;
-    }
-    3
+    let n = letter_count(k);
+    if n == 1 { 0 } else { n }
 }
 
 // The scalar letters of one factor.
 fn scalar_count(k: u32) -> usize
     ensures { λ r. ⌜ (r ≡ scalarLettersOf (lettersOf k ∷ [])) × (r ≤ 1) ⌝ }
 {
-    if k < 256 { 1 } else { 0 }
+    if letter_count(k) == 1 { 1 } else { 0 }
 }
 
 // The letters that n factors use, repeats counted.

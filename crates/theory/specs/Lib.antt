@@ -1,4 +1,4 @@
--- Theorems about the definitions, in the order in which they build on each other. README.md names each promise with its theorem.
+-- Theorems about the definitions, in the order in which they build on each other. docs/PROVED.md names each promise with its theorem.
 pub mod Tests
 pub mod Elements
 pub mod Order

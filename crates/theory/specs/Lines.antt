@@ -1,8 +1,8 @@
--- The eight starred lines of "Lines to try", as rows of one table with one computed test. Assumes nothing.
-use mathlib.Core.Bool.{Bool, false}
+-- The eleven starred lines of "Lines to try", as rows of one table with one computed test. Assumes nothing.
+use mathlib.Core.Bool.{Bool, true, false}
 use mathlib.Core.List.{List, [], _∷_, _++_}
-use Prim.Native.Nat.{ℕ}
-use lib.Dec.{T}
+use Prim.Native.Nat.{ℕ, zero, suc}
+use lib.Dec.{T, eqb}
 use Rattle.specification.specs.Lists.{all}
 use Rattle.specification.specs.Results.{Result, refused, given}
 use Rattle.specification.specs.Letters.{scalar, vector}
@@ -34,6 +34,13 @@ d = 1 ∷ 3 ∷ []
 abbrev twice : List ℕ
 twice = 2 ∷ 0 ∷ 0 ∷ 0 ∷ 2 ∷ []
 
+-- 46340 and 46341: 02 00 00 B5 04, 02 00 00 B5 05
+abbrev root : List ℕ
+root = 2 ∷ 0 ∷ 0 ∷ 181 ∷ 4 ∷ []
+
+abbrev overRoot : List ℕ
+overRoot = 2 ∷ 0 ∷ 0 ∷ 181 ∷ 5 ∷ []
+
 infixl 5 _⊞_ _⊟_
 infixl 6 _⊠_
 infixl 7 _⊙_
@@ -62,12 +69,29 @@ e ⋀ f = 8 ∷ e ++ f
 abbrev tripled : List ℕ → List ℕ → List ℕ → List ℕ
 tripled e f g = 9 ∷ e ++ f ++ g
 
+-- ════ sums of letters
+
+-- 7 scalar letters, 0 to 6, and 8 vector letters, 7 to 14
+abbrev fifteen : List ℕ
+fifteen = 0 ∷ 0 ∷ 0 ∷ 0 ∷ 0 ∷ 0 ∷ 0 ∷ 1 ∷ 1 ∷ 1 ∷ 1 ∷ 1 ∷ 1 ∷ 1 ∷ 1 ∷ []
+
+-- the sum of the letters n, n + 1, .., n + more
+unfoldable pub letters : (n more : ℕ) → List ℕ
+letters n zero = 1 ∷ n ∷ []
+letters n (suc more) = (1 ∷ n ∷ []) ⊞ letters (suc n) more
+
 -- ════ the table
 
--- an expression and the form that it reduces to; or a form, a step, and the form reached
-pub data Line : Type 0 where
-  reduces : List ℕ → Form → Line
-  steps : Form → Step → Form → Line
+-- what a line says of an expression: its form, that it is taken, or the number of its refusal
+pub data Answer : Type 0 where
+  isForm : Form → Answer
+  isTaken : Answer
+  isRefused : ℕ → Answer
+
+-- a table, an expression and its answer; or a form, a step, and the form reached
+pub data Claim : Type 0 where
+  reduces : (table expr : List ℕ) → Answer → Claim
+  steps : Form → Step → Form → Claim
 
 -- a form of scalar terms
 abbrev scalarForm : List Term → Form
@@ -85,37 +109,59 @@ fourTriples = vectorForm
     ∷ plus (tripleOf 0 1 3 ∷ []) (2 ∷ [])
     ∷ minus (tripleOf 0 1 2 ∷ []) (3 ∷ []) ∷ [])
 
--- the eight lines
-unfoldable pub lines : List Line
+-- a line that makes one claim
+abbrev one : Claim → List Claim
+one claim = claim ∷ []
+
+-- a line that makes two
+abbrev two : Claim → Claim → List Claim
+two claim other = claim ∷ other ∷ []
+
+-- the eleven lines, each with what it claims
+unfoldable pub lines : List (List Claim)
 lines =
     -- b∧a: −(a∧b)
-    reduces (b ⋀ a) (vectorForm (minus [] (wedgeOf 0 1) ∷ []))
+    one (reduces table (b ⋀ a) (isForm (vectorForm (minus [] (wedgeOf 0 1) ∷ []))))
     -- a∧a: empty, vector
-    ∷ reduces (a ⋀ a) (vectorForm [])
+    ∷ one (reduces table (a ⋀ a) (isForm (vectorForm [])))
     -- a∧(b∧c): (a·c)b − (a·b)c
-    ∷ reduces (a ⋀ (b ⋀ c)) (vectorForm (plus (dotOf 0 2 ∷ []) (1 ∷ []) ∷ minus (dotOf 0 1 ∷ []) (2 ∷ []) ∷ []))
+    ∷ one (reduces table (a ⋀ (b ⋀ c)) (isForm (vectorForm (plus (dotOf 0 2 ∷ []) (1 ∷ []) ∷ minus (dotOf 0 1 ∷ []) (2 ∷ []) ∷ []))))
     -- a∧(b∧c)+b∧(c∧a)+c∧(a∧b): empty
-    ∷ reduces (a ⋀ (b ⋀ c) ⊞ b ⋀ (c ⋀ a) ⊞ c ⋀ (a ⋀ b)) (vectorForm [])
+    ∷ one (reduces table (a ⋀ (b ⋀ c) ⊞ b ⋀ (c ⋀ a) ⊞ c ⋀ (a ⋀ b)) (isForm (vectorForm [])))
     -- ((a∧b)∧(b∧c))·(c∧a) − (a·(b∧c))(a·(b∧c)): empty, scalar
-    ∷ reduces (((a ⋀ b) ⋀ (b ⋀ c)) ⊙ (c ⋀ a) ⊟ (a ⊙ (b ⋀ c)) ⊠ (a ⊙ (b ⋀ c))) (scalarForm [])
+    ∷ one (reduces table (((a ⋀ b) ⋀ (b ⋀ c)) ⊙ (c ⋀ a) ⊟ (a ⊙ (b ⋀ c)) ⊠ (a ⊙ (b ⋀ c))) (isForm (scalarForm [])))
     -- (b∧c)·(a∧d)+(c∧a)·(b∧d)+(a∧b)·(c∧d): empty
-    ∷ reduces ((b ⋀ c) ⊙ (a ⋀ d) ⊞ (c ⋀ a) ⊙ (b ⋀ d) ⊞ (a ⋀ b) ⊙ (c ⋀ d)) (scalarForm [])
+    ∷ one (reduces table ((b ⋀ c) ⊙ (a ⋀ d) ⊞ (c ⋀ a) ⊙ (b ⋀ d) ⊞ (a ⋀ b) ⊙ (c ⋀ d)) (isForm (scalarForm [])))
     -- (b∧c)∧(a∧d)+(c∧a)∧(b∧d)+(a∧b)∧(c∧d)+2(abc)d: (bcd)a−(acd)b+(abd)c−(abc)d
-    ∷ reduces ((b ⋀ c) ⋀ (a ⋀ d) ⊞ (c ⋀ a) ⋀ (b ⋀ d) ⊞ (a ⋀ b) ⋀ (c ⋀ d) ⊞ twice ⊠ tripled a b c ⊠ d) fourTriples
+    ∷ one (reduces table ((b ⋀ c) ⋀ (a ⋀ d) ⊞ (c ⋀ a) ⋀ (b ⋀ d) ⊞ (a ⋀ b) ⋀ (c ⋀ d) ⊞ twice ⊠ tripled a b c ⊠ d) (isForm fourTriples))
     -- That form, rule 2, letters a b c d, M = 1: empty
-    ∷ steps fourTriples (record { rule = 2; letters = 0 ∷ 1 ∷ 2 ∷ 3 ∷ []; m = plus [] [] }) (vectorForm [])
+    ∷ one (steps fourTriples (record { rule = 2; letters = 0 ∷ 1 ∷ 2 ∷ 3 ∷ []; m = plus [] [] }) (vectorForm []))
+    -- 46340 times 46340 is taken; 46341 times 46341 is 9
+    ∷ two (reduces table (root ⊠ root) isTaken) (reduces table (overRoot ⊠ overRoot) (isRefused 9))
+    -- A sum of 6 scalar letters times a sum of 8 vector letters is taken; 7 times 7 is 7
+    ∷ two (reduces fifteen (letters 0 5 ⊠ letters 7 7) isTaken) (reduces fifteen (letters 0 6 ⊠ letters 7 6) (isRefused 7))
+    -- (a·a)(a·a)(a·a) is taken; that times a is 8
+    ∷ two (reduces table ((a ⊙ a) ⊠ (a ⊙ a) ⊠ (a ⊙ a)) isTaken) (reduces table ((a ⊙ a) ⊠ (a ⊙ a) ⊠ (a ⊙ a) ⊠ a) (isRefused 8))
     ∷ []
 
--- the form is given
-isForm : Result Form → Form → Bool
-isForm (refused n) f = false
-isForm (given g) f = sameForm g f
+-- the result is the answer
+answers : Result Form → Answer → Bool
+answers (refused n) (isForm f) = false
+answers (refused n) isTaken = false
+answers (refused n) (isRefused m) = eqb n m
+answers (given g) (isForm f) = sameForm g f
+answers (given g) isTaken = true
+answers (given g) (isRefused m) = false
 
--- the line holds
-lineHolds : Line → Bool
-lineHolds (reduces e f) = isForm (reduced table e) f
-lineHolds (steps f s g) = isForm (stepAt table f s) g
+-- the claim holds
+claimHolds : Claim → Bool
+claimHolds (reduces table expr answer) = answers (reduced table expr) answer
+claimHolds (steps f s g) = answers (stepAt table f s) (isForm g)
+
+-- every claim of a line holds
+lineHolds : List Claim → Bool
+lineHolds claims = all claimHolds claims
 
 linesHold : T (all lineHolds lines)
-unfolding lines lineHolds isForm computing
+unfolding lines letters answers claimHolds lineHolds computing
 linesHold = tt

@@ -1,4 +1,4 @@
--- Records: bytes at a position, the fields of a term record, and that terms, forms and logs have one record each.
+-- Records: bytes at a position, the fields of a term record, and that terms, forms and logs have one record each, of so many bytes at most.
 pub mod Positions
 pub mod Numbers
 pub mod Fields
@@ -7,3 +7,4 @@ pub mod Factors
 pub mod Terms
 pub mod Forms
 pub mod Logs
+pub mod Lengths

@@ -3,6 +3,7 @@ use Rattle.audit.proofs.audit.Statement.{statement}
 use Rattle.audit.proofs.audit.Tie as tie
 use mathlib.Core.Path.{sym, refl, subst, _∙_}
 use denote.Ref.{now}
+use Rattle.audit.specs.Answers.{verdictOf}
 use Rattle.audit.proofs.Audits.{audit-table, buffer-short, work-short, audit-refused, log-inside, audit-agrees}
 use lib.Dec.{T}
 use lib.Seq.{length-take-le}
@@ -11,13 +12,25 @@ check-table-requires : tie.Need-check-table-requires
 check-table-requires c κs = search needs
 
 returns : tie.Need-returns
-returns c = audit-table (now (c .before .before .before .before .before .before .before .args .table)) (now (c .before .before .before .before .before .before .before .args .form)) (now (c .before .before .before .before .before .before .before .args .out)) (now (c .before .before .before .before .before .before .before .args .buffer)) (now (c .before .before .before .before .before .before .before .args .work)) _ (c .before .check-table .ensures) (c .if1 .taken)
+unfolding verdictOf
+returns c =
+    let w = c .before .before .before .before .before .before .before in
+    audit-table (now (w .args .table)) (now (w .args .form)) (now (w .args .out)) (now (w .args .buffer)) (now (w .args .work)) _ (c .before .check-table .ensures)
+    (c .if1 .taken)
 
 returns-2 : tie.Need-returns-2
-returns-2 c = buffer-short (now (c .before .before .before .before .before .before .before .before .args .table)) (now (c .before .before .before .before .before .before .before .before .args .form)) (now (c .before .before .before .before .before .before .before .before .args .out)) (now (c .before .before .before .before .before .before .before .before .args .buffer)) (now (c .before .before .before .before .before .before .before .before .args .work)) _ (c .before .before .check-table .ensures) (c .before .if1 .left) (c .if2 .taken)
+unfolding verdictOf
+returns-2 c =
+    let w = c .before .before .before .before .before .before .before .before in
+    buffer-short (now (w .args .table)) (now (w .args .form)) (now (w .args .out)) (now (w .args .buffer)) (now (w .args .work)) _
+    (c .before .before .check-table .ensures) (c .before .if1 .left) (c .if2 .taken)
 
 returns-3 : tie.Need-returns-3
-returns-3 c = work-short (now (c .before .before .before .before .before .before .before .before .before .args .table)) (now (c .before .before .before .before .before .before .before .before .before .args .form)) (now (c .before .before .before .before .before .before .before .before .before .args .out)) (now (c .before .before .before .before .before .before .before .before .before .args .buffer)) (now (c .before .before .before .before .before .before .before .before .before .args .work)) _ (c .before .before .before .check-table .ensures) (c .before .before .if1 .left) (c .before .if2 .left) (c .if3 .taken)
+unfolding verdictOf
+returns-3 c =
+    let w = c .before .before .before .before .before .before .before .before .before in
+    work-short (now (w .args .table)) (now (w .args .form)) (now (w .args .out)) (now (w .args .buffer)) (now (w .args .work)) _
+    (c .before .before .before .check-table .ensures) (c .before .before .if1 .left) (c .before .if2 .left) (c .if3 .taken)
 
 shorten-requires : tie.Need-shorten-requires
 shorten-requires c κs = search needs
@@ -29,10 +42,24 @@ enum-known-s-2 : tie.Need-enum-known-s-2
 enum-known-s-2 c = search needs
 
 slice-reshare-prefix-ends-hold : tie.Need-slice-reshare-prefix-ends-hold
-slice-reshare-prefix-ends-hold c = log-inside (now (c .before .before .before .before .before .before .before .before .before .before .before .before .before .before .before .before .args .table)) (now (c .before .before .before .before .before .before .before .before .before .before .before .before .before .before .before .before .args .form)) (now (c .before .before .before .before .before .before .before .before .before .before .before .before .before .before .before .before .args .out)) (now (c .before .before .before .before .before .before .before .before .before .before .before .before .before .before .before .before .args .buffer)) (now (c .before .before .before .before .before .before .before .before .before .before .before .before .before .before .before .before .args .work)) _ (c .before .before .before .before .before .before .before .before .before .before .check-table .ensures) (c .before .before .before .before .before .before .before .before .before .if1 .left) (c .before .before .before .before .before .before .before .before .if2 .left) (c .before .before .before .before .before .before .before .if3 .left) (c .before .before .before .before .before .shorten .result) _ (c .before .before .before .before .before .shorten .ensures .0) _ _ (c .before .s2 .given .1)
+slice-reshare-prefix-ends-hold c =
+    let w = c .before .before .before .before .before .before .before .before .before .before .before .before .before .before .before .before in
+    log-inside (now (w .args .table)) (now (w .args .form)) (now (w .args .out)) (now (w .args .buffer)) (now (w .args .work)) _
+    (c .before .before .before .before .before .before .before .before .before .before .check-table .ensures)
+    (c .before .before .before .before .before .before .before .before .before .if1 .left)
+    (c .before .before .before .before .before .before .before .before .if2 .left) (c .before .before .before .before .before .before .before .if3 .left)
+    (c .before .before .before .before .before .shorten .result) _ (c .before .before .before .before .before .shorten .ensures .0) _ _ (c .before .s2 .given .1)
 
 slice-aggregate-ends-hold : tie.Need-slice-aggregate-ends-hold
-slice-aggregate-ends-hold c = sym (length-take-le _ _ (log-inside (now (c .before .before .before .before .before .before .before .before .before .before .before .before .before .before .before .before .before .args .table)) (now (c .before .before .before .before .before .before .before .before .before .before .before .before .before .before .before .before .before .args .form)) (now (c .before .before .before .before .before .before .before .before .before .before .before .before .before .before .before .before .before .args .out)) (now (c .before .before .before .before .before .before .before .before .before .before .before .before .before .before .before .before .before .args .buffer)) (now (c .before .before .before .before .before .before .before .before .before .before .before .before .before .before .before .before .before .args .work)) _ (c .before .before .before .before .before .before .before .before .before .before .before .check-table .ensures) (c .before .before .before .before .before .before .before .before .before .before .if1 .left) (c .before .before .before .before .before .before .before .before .before .if2 .left) (c .before .before .before .before .before .before .before .before .if3 .left) (c .before .before .before .before .before .before .shorten .result) _ (c .before .before .before .before .before .before .shorten .ensures .0) _ _ (c .before .before .s2 .given .1)))
+slice-aggregate-ends-hold c =
+    let w = c .before .before .before .before .before .before .before .before .before .before .before .before .before .before .before .before .before in
+    sym
+    (length-take-le _ _ (log-inside (now (w .args .table)) (now (w .args .form)) (now (w .args .out)) (now (w .args .buffer)) (now (w .args .work)) _
+    (c .before .before .before .before .before .before .before .before .before .before .before .check-table .ensures)
+    (c .before .before .before .before .before .before .before .before .before .before .if1 .left)
+    (c .before .before .before .before .before .before .before .before .before .if2 .left)
+    (c .before .before .before .before .before .before .before .before .if3 .left) (c .before .before .before .before .before .before .shorten .result) _
+    (c .before .before .before .before .before .before .shorten .ensures .0) _ _ (c .before .before .s2 .given .1)))
 
 ends-hold-requires : tie.Need-ends-hold-requires
 ends-hold-requires c κs = search needs
@@ -47,13 +74,32 @@ same-length-3 : tie.Need-same-length-3
 same-length-3 c = search needs
 
 returns-4 : tie.Need-returns-4
-returns-4 c = audit-agrees (now (c .before .before .before .before .before .before .before .before .before .before .before .before .before .before .before .before .before .before .before .before .before .before .before .before .before .args .table)) (now (c .before .before .before .before .before .before .before .before .before .before .before .before .before .before .before .before .before .before .before .before .before .before .before .before .before .args .form)) (now (c .before .before .before .before .before .before .before .before .before .before .before .before .before .before .before .before .before .before .before .before .before .before .before .before .before .args .out)) (now (c .before .before .before .before .before .before .before .before .before .before .before .before .before .before .before .before .before .before .before .before .before .before .before .before .before .args .buffer)) (now (c .before .before .before .before .before .before .before .before .before .before .before .before .before .before .before .before .before .before .before .before .before .before .before .before .before .args .work)) _ (c .before .before .before .before .before .before .before .before .before .before .before .before .before .before .before .before .before .before .before .check-table .ensures) (c .before .before .before .before .before .before .before .before .before .before .before .before .before .before .before .before .before .before .if1 .left) (c .before .before .before .before .before .before .before .before .before .before .before .before .before .before .before .before .before .if2 .left) (c .before .before .before .before .before .before .before .before .before .before .before .before .before .before .before .before .if3 .left) (c .before .before .before .before .before .before .before .before .before .before .before .before .before .before .shorten .result) _ (c .before .before .before .before .before .before .before .before .before .before .before .before .before .before .shorten .ensures .0) _ _ (c .before .before .before .before .before .before .before .before .before .before .s2 .given .1) _ _ _ _ (c .before .before .before .before .before .ends-hold .ensures) (λ e. refl)
+unfolding verdictOf
+returns-4 c =
+    let w =
+    c .before .before .before .before .before .before .before .before .before .before .before .before .before .before .before .before .before .before .before .before .before .before .before .before .before in
+    audit-agrees (now (w .args .table)) (now (w .args .form)) (now (w .args .out)) (now (w .args .buffer)) (now (w .args .work)) _
+    (c .before .before .before .before .before .before .before .before .before .before .before .before .before .before .before .before .before .before .before .check-table .ensures)
+    (c .before .before .before .before .before .before .before .before .before .before .before .before .before .before .before .before .before .before .if1 .left)
+    (c .before .before .before .before .before .before .before .before .before .before .before .before .before .before .before .before .before .if2 .left)
+    (c .before .before .before .before .before .before .before .before .before .before .before .before .before .before .before .before .if3 .left)
+    (c .before .before .before .before .before .before .before .before .before .before .before .before .before .before .shorten .result) _
+    (c .before .before .before .before .before .before .before .before .before .before .before .before .before .before .shorten .ensures .0) _ _
+    (c .before .before .before .before .before .before .before .before .before .before .s2 .given .1) _ _ _ _
+    (c .before .before .before .before .before .ends-hold .ensures) (λ e. refl)
 
 same-length-4 : tie.Need-same-length-4
 same-length-4 c = search needs
 
 returns-5 : tie.Need-returns-5
-returns-5 c = audit-refused (now (c .before .before .before .before .before .before .before .before .before .before .before .before .before .before .before .before .args .table)) (now (c .before .before .before .before .before .before .before .before .before .before .before .before .before .before .before .before .args .form)) (now (c .before .before .before .before .before .before .before .before .before .before .before .before .before .before .before .before .args .out)) (now (c .before .before .before .before .before .before .before .before .before .before .before .before .before .before .before .before .args .buffer)) (now (c .before .before .before .before .before .before .before .before .before .before .before .before .before .before .before .before .args .work)) _ (c .before .before .before .before .before .before .before .before .before .before .check-table .ensures) (c .before .before .before .before .before .before .before .before .before .if1 .left) (c .before .before .before .before .before .before .before .before .if2 .left) (c .before .before .before .before .before .before .before .if3 .left) (c .before .before .before .before .before .shorten .result) _ (c .before .before .before .before .before .shorten .ensures .0) _ (c .before .s .given .1)
+unfolding verdictOf
+returns-5 c =
+    let w = c .before .before .before .before .before .before .before .before .before .before .before .before .before .before .before .before in
+    audit-refused (now (w .args .table)) (now (w .args .form)) (now (w .args .out)) (now (w .args .buffer)) (now (w .args .work)) _
+    (c .before .before .before .before .before .before .before .before .before .before .check-table .ensures)
+    (c .before .before .before .before .before .before .before .before .before .if1 .left)
+    (c .before .before .before .before .before .before .before .before .if2 .left) (c .before .before .before .before .before .before .before .if3 .left)
+    (c .before .before .before .before .before .shorten .result) _ (c .before .before .before .before .before .shorten .ensures .0) _ (c .before .s .given .1)
 
 same-length-5 : tie.Need-same-length-5
 same-length-5 c = search needs
@@ -65,7 +111,19 @@ same-length-7 : tie.Need-same-length-7
 same-length-7 c = search needs
 
 returns-6 : tie.Need-returns-6
-returns-6 c = audit-agrees (now (c .before .before .before .before .before .before .before .before .before .before .before .before .before .before .before .before .before .before .before .before .before .before .before .before .before .args .table)) (now (c .before .before .before .before .before .before .before .before .before .before .before .before .before .before .before .before .before .before .before .before .before .before .before .before .before .args .form)) (now (c .before .before .before .before .before .before .before .before .before .before .before .before .before .before .before .before .before .before .before .before .before .before .before .before .before .args .out)) (now (c .before .before .before .before .before .before .before .before .before .before .before .before .before .before .before .before .before .before .before .before .before .before .before .before .before .args .buffer)) (now (c .before .before .before .before .before .before .before .before .before .before .before .before .before .before .before .before .before .before .before .before .before .before .before .before .before .args .work)) _ (c .before .before .before .before .before .before .before .before .before .before .before .before .before .before .before .before .before .before .before .check-table .ensures) (c .before .before .before .before .before .before .before .before .before .before .before .before .before .before .before .before .before .before .if1 .left) (c .before .before .before .before .before .before .before .before .before .before .before .before .before .before .before .before .before .if2 .left) (c .before .before .before .before .before .before .before .before .before .before .before .before .before .before .before .before .if3 .left) (c .before .before .before .before .before .before .before .before .before .before .before .before .before .before .shorten .result) _ (c .before .before .before .before .before .before .before .before .before .before .before .before .before .before .shorten .ensures .0) _ _ (c .before .before .before .before .before .before .before .before .before .before .s2 .given .1) _ _ _ _ (c .before .before .before .before .before .ends-hold .ensures) (λ e. absurd (subst T (sym e ∙ c .if4 .left) tt))
+unfolding verdictOf
+returns-6 c =
+    let w =
+    c .before .before .before .before .before .before .before .before .before .before .before .before .before .before .before .before .before .before .before .before .before .before .before .before .before in
+    audit-agrees (now (w .args .table)) (now (w .args .form)) (now (w .args .out)) (now (w .args .buffer)) (now (w .args .work)) _
+    (c .before .before .before .before .before .before .before .before .before .before .before .before .before .before .before .before .before .before .before .check-table .ensures)
+    (c .before .before .before .before .before .before .before .before .before .before .before .before .before .before .before .before .before .before .if1 .left)
+    (c .before .before .before .before .before .before .before .before .before .before .before .before .before .before .before .before .before .if2 .left)
+    (c .before .before .before .before .before .before .before .before .before .before .before .before .before .before .before .before .if3 .left)
+    (c .before .before .before .before .before .before .before .before .before .before .before .before .before .before .shorten .result) _
+    (c .before .before .before .before .before .before .before .before .before .before .before .before .before .before .shorten .ensures .0) _ _
+    (c .before .before .before .before .before .before .before .before .before .before .s2 .given .1) _ _ _ _
+    (c .before .before .before .before .before .ends-hold .ensures) (λ e. absurd (subst T (sym e ∙ c .if4 .left) tt))
 
 pub audit-spec : {M : Type 1} → statement M
 audit-spec =

@@ -4,7 +4,7 @@ use mathlib.Core.Path.{_≡_}
 use Prim.Native.Nat.{ℕ}
 use borrow.Author.Needs.{needs}
 use Rattle.specification.specs.Results.{given}
-use Rattle.records.proofs.Takers.{bytes-all}
+use Rattle.forms.proofs.Takers.{bytes-all}
 use Rattle.evaluation.specs.declared.vectors.Vector.{Vector}
 use Rattle.evaluation.specs.declared.Valued.{Valued}
 use Rattle.evaluation.specs.declared.Valued.the-variants.{Given}

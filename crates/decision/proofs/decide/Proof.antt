@@ -1,11 +1,9 @@
 -- `decision::decide` meets its contract. Assumes nothing.
 use borrow.Author.Needs.{needs}
 use Rattle.specification.specs.Decision.{Decided}
-use Rattle.terms.specs.Abstraction.{formOf}
-use Rattle.records.specs.Reading.{termsOf}
+use Rattle.terms.specs.Abstraction.{formOf, termsOf}
 use Rattle.decision.specs.Answers.{decisionOf}
-use Rattle.decision.proofs.Deciding.{table-refused, buffer-refused, work-refused, first-refused, second-refused, letters-refused, others-refused}
-use Rattle.decision.proofs.Deciding.{kinds-refused, settle-asks, settled}
+use Rattle.decision.proofs.Deciding.{table-refused, buffer-refused, work-refused, first-refused, second-refused, letters-refused, others-refused, kinds-refused, settle-asks, settled}
 use Rattle.decision.proofs.decide.Statement.{statement}
 use Rattle.decision.proofs.decide.Tie as tie
 

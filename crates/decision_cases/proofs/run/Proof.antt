@@ -1,4 +1,4 @@
--- `decision_cases::run` is safe and ends. Assumes nothing.
+-- `decision_cases::run`. The loop: nothing is to be kept; each case ends behind where it began, so the bytes left become fewer. Assumes nothing.
 use mathlib.Core.Path.{_≡_, refl, _∙_}
 use Prim.Native.Nat.{_-_}
 use native.Mathlib.Omega.{arith}

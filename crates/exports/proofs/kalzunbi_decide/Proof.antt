@@ -5,66 +5,50 @@ use Rattle.exports.proofs.Returning.{holds-returned, differs-returned, 
 use borrow.Author.Needs.{needs}
 use Rattle.exports.proofs.kalzunbi_decide.Statement.{statement}
 use Rattle.exports.proofs.kalzunbi_decide.Tie as tie
-use Rattle.exports.proofs.kalzunbi_decide.Reads as reads
-use Rattle.exports.proofs.kalzunbi_decide.Lts as lts
-use Rattle.decision.proofs.decide.Reads as decide-reads
-use Rattle.exports.proofs.refusal.Reads as refusal-reads
 
--- src/lib.rt:96:9
 decide-requires : tie.Need-decide-requires
 decide-requires c κs = search needs
 
--- src/lib.rt:98:28
 enum-told : tie.Need-enum-told
 enum-told c = search needs
 
--- src/lib.rt:99:30
 enum-told-2 : tie.Need-enum-told-2
 enum-told-2 c = search needs
 
--- src/lib.rt:100:27
 enum-known-d : tie.Need-enum-known-d
 enum-known-d c = search needs
 
--- src/lib.rt:100:33
 refusal-requires : tie.Need-refusal-requires
 refusal-requires c κs = search needs
 
--- src/lib.rt:86:1
 same-length : tie.Need-same-length
 same-length c = search needs
 
--- src/lib.rt:86:1
 same-length-2 : tie.Need-same-length-2
 same-length-2 c = search needs
 
--- src/lib.rt:86:1
 returns : tie.Need-returns
 returns c = holds-returned _ _ _ _ _ _ _ _ (c .before .before .before .before .before .before .decide .ensures) (c .enum-told .given .1)
 
--- src/lib.rt:86:1
 same-length-3 : tie.Need-same-length-3
 same-length-3 c = search needs
 
--- src/lib.rt:86:1
 same-length-4 : tie.Need-same-length-4
 same-length-4 c = search needs
 
--- src/lib.rt:86:1
 returns-2 : tie.Need-returns-2
 returns-2 c = differs-returned _ _ _ _ _ _ _ _ (c .before .before .before .before .before .before .decide .ensures) (c .enum-told2 .given .1)
 
--- src/lib.rt:86:1
 same-length-5 : tie.Need-same-length-5
 same-length-5 c = search needs
 
--- src/lib.rt:86:1
 same-length-6 : tie.Need-same-length-6
 same-length-6 c = search needs
 
--- src/lib.rt:86:1
 returns-3 : tie.Need-returns-3
-returns-3 c = undecided-returned _ _ _ _ _ _ _ _ (c .before .before .before .before .before .before .before .before .decide .ensures) _ (c .before .before .d .given .1) _ (back-is (record { sfits = c .refusal .ok }) ∙ c .refusal .ensures)
+returns-3 c =
+    undecided-returned _ _ _ _ _ _ _ _ (c .before .before .before .before .before .before .before .before .decide .ensures) _ (c .before .before .d .given .1) _
+    (back-is (record { sfits = c .refusal .ok }) ∙ c .refusal .ensures)
 
 pub kalzunbi-decide-spec : {M : Type 1} → statement M
 kalzunbi-decide-spec =

@@ -4,6 +4,8 @@ use native.Mathlib.Omega.{arith}
 use Prim.Native.Nat.{_≤_}
 use mathlib.Core.Path.{_∙_}
 use borrow.Author.Needs.{needs}
+use Rattle.specification.specs.Records.{formBytes}
+use Rattle.specification.specs.Shortening.{shorteningBytes}
 use Rattle.integers.proofs.Machine.{back-is}
 use Rattle.exports.proofs.Returning.{reduce-refused, reduce-short, reduce-returned}
 use Rattle.exports.proofs.kalzunbi_reduce.Statement.{statement}
@@ -16,7 +18,7 @@ enum-known-r : tie.Need-enum-known-r
 enum-known-r c = search needs
 
 -- a record is no longer than a log
-within : 770 ≤ 2309
+within : formBytes ≤ shorteningBytes
 within = omega arith
 
 written-requires : tie.Need-written-requires

@@ -3,7 +3,7 @@ use mathlib.Core.Path.{_∙_}
 use native.Mathlib.Omega.{arith}
 use borrow.Author.Needs.{needs}
 use Rattle.integers.proofs.Machine.{back-is}
-use Rattle.exports.specs.Returns.{returned}
+use Rattle.specification.specs.Returns.{returned}
 use Rattle.exports.proofs.Returning.{cast-small, cast-negative}
 use Rattle.exports.proofs.refusal.Statement.{statement}
 use Rattle.exports.proofs.refusal.Tie as tie

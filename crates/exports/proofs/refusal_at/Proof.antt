@@ -4,7 +4,7 @@ use Prim.Native.Nat.{_+_, _*_}
 use native.Mathlib.Omega.{arith}
 use borrow.Author.Needs.{needs}
 use Rattle.exports.proofs.Returning.{cast-small, cast-negative}
-use Rattle.exports.specs.Returns.{returnedAt}
+use Rattle.specification.specs.Returns.{returnedAt}
 use Rattle.integers.proofs.Machine.{back-is}
 use Rattle.exports.proofs.refusal_at.Statement.{statement}
 use Rattle.exports.proofs.refusal_at.Tie as tie

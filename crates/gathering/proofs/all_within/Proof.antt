@@ -1,3 +1,4 @@
+-- `gathering::all_within`. The loop: all coefficients are within the limit exactly if those from term i on are. Assumes nothing.
 use mathlib.Core.List.{_∷_}
 use mathlib.Core.Path.{_≡_, refl, sym, ap, _∙_}
 use Prim.Native.Nat.{_+_, _-_, _≤_}
@@ -28,49 +29,55 @@ few : (c : tie.Start Inv-loop μ-loop) → c .args .t1 .count ≤ length (c .arg
 few c = omega (arith, places c, c .pre)
 
 -- the term at the place
-at : (c : tie.In-loop Inv-loop μ-loop) → drop (c .before .loop .i) (sumOf (c .before .before .args .t1)) ≡ termOf (getD (c .before .before .args .t1 .terms) (c .before .loop .i) noTerm) ∷ drop (c .before .loop .i + 1) (sumOf (c .before .before .args .t1))
+at : (c : tie.In-loop Inv-loop μ-loop)
+    → drop (c .before .loop .i) (sumOf (c .before .before .args .t1)) ≡ termOf (getD (c .before .before .args .t1 .terms) (c .before .loop .i) noTerm) ∷ drop
+    (c .before .loop .i + 1) (sumOf (c .before .before .args .t1))
 at c = split (c .before .before .args .t1) (c .before .loop .i) noTerm (c .loop-test .taken) (few (c .before .before))
 
 -- the test is of its coefficient
-small : (c : tie.After-within Inv-loop μ-loop) → c .within .result ≡ coefWithin (termOf (getD (c .before .before .before .before .before .args .t1 .terms) (c .before .before .before .before .loop .i) noTerm) .coef)
+small : (c : tie.After-within Inv-loop μ-loop)
+    → c .within .result ≡ coefWithin
+    (termOf (getD (c .before .before .before .before .before .args .t1 .terms) (c .before .before .before .before .loop .i) noTerm) .coef)
 unfolding termOf
 small c = c .within .ensures ∙ ap coefWithin (back-is (record { sfits = c .before .struct-told .given .0 .1 }))
 
--- src/lib.rt:149:5
 loop-holds : tie.Need-loop-holds Inv-loop μ-loop
 loop-holds c = (omega arith, refl)
 
--- src/lib.rt:150:17
 mul-t : tie.Need-mul-t Inv-loop μ-loop
 mul-t c = omega arith
 
--- src/lib.rt:150:17
 element-copy-out-t : tie.Need-element-copy-out-t Inv-loop μ-loop
 element-copy-out-t c = omega arith
 
--- src/lib.rt:151:13
 within-requires : tie.Need-within-requires Inv-loop μ-loop
 within-requires c κs = search needs
 
--- src/lib.rt:152:13
 returns : tie.Need-returns Inv-loop μ-loop
-returns c = let w = c .before .before .before .before .before .before in beyond (sumOf (w .args .t1)) (c .before .before .before .before .before .loop .i) _ (at (c .before .before .before .before)) (c .before .before .before .before .before .loop .inv .1) _ (small (c .before)) (not-true _ (c .if1 .taken))
+returns c =
+    let w = c .before .before .before .before .before .before in
+    beyond (sumOf (w .args .t1)) (c .before .before .before .before .before .loop .i) _ (at (c .before .before .before .before))
+    (c .before .before .before .before .before .loop .inv .1) _ (small (c .before)) (not-true _ (c .if1 .taken))
 
--- src/lib.rt:154:9
 add-i : tie.Need-add-i Inv-loop μ-loop
 add-i c = omega arith
 
--- src/lib.rt:149:5
 loop-less : tie.Need-loop-less Inv-loop μ-loop
 loop-less c = omega arith
 
--- src/lib.rt:149:5
 loop-again : tie.Need-loop-again Inv-loop μ-loop
-loop-again c = let w = c .before .before .before .before .before .before in (omega arith, inside (sumOf (w .args .t1)) (c .before .before .before .before .before .loop .i) _ (at (c .before .before .before .before)) (c .before .before .before .before .before .loop .inv .1) _ (small (c .before)) (not-false _ (c .if1 .left)))
+loop-again c =
+    let w = c .before .before .before .before .before .before in (
+      omega arith,
+      inside (sumOf (w .args .t1)) (c .before .before .before .before .before .loop .i) _ (at (c .before .before .before .before))
+          (c .before .before .before .before .before .loop .inv .1) _ (small (c .before)) (not-false _ (c .if1 .left)),
+    )
 
--- src/lib.rt:143:1
 returns-2 : tie.Need-returns-2 Inv-loop μ-loop
-returns-2 c = let w = c .before .before in let e : c .before .loop .i ≡ w .args .t1 .count = omega arith in inside-all (sumOf (w .args .t1)) (c .before .loop .i) (omega (arith, length-sum (w .args .t1) (few w))) (c .before .loop .inv .1)
+returns-2 c =
+    let w = c .before .before in
+    let e : c .before .loop .i ≡ w .args .t1 .count = omega arith in
+    inside-all (sumOf (w .args .t1)) (c .before .loop .i) (omega (arith, length-sum (w .args .t1) (few w))) (c .before .loop .inv .1)
 
 pub all-within-spec : {M : Type 1} → statement M
 all-within-spec =

@@ -1,38 +1,19 @@
-use mathlib.Core.Bool.{true, false}
-use mathlib.Core.Path.{sym, ap, _∙_}
-use Prim.Native.Nat.{Ordering}
-use Rattle.specification.specs.Lists.{byOrder}
-use Rattle.terms.specs.Abstraction.{orderingOf}
-use Rattle.gathering.specs.Sums.{isBehind}
+use mathlib.Core.Path.{ap, _∙_}
 use borrow.Author.Needs.{needs}
+use Rattle.terms.specs.Abstraction.{isMore}
+use Rattle.gathering.specs.Sums.{isBehind}
 use Rattle.gathering.proofs.comes_behind.Statement.{statement}
 use Rattle.gathering.proofs.comes_behind.Tie as tie
 
 compare-requires : tie.Need-compare-requires
 compare-requires c κs = search needs
 
-enum-told : tie.Need-enum-told
-enum-told c = search needs
-
-enum-told-2 : tie.Need-enum-told-2
-enum-told-2 c = search needs
-
-enum-told-3 : tie.Need-enum-told-3
-enum-told-3 c = search needs
+is-more-requires : tie.Need-is-more-requires
+is-more-requires c κs = search needs
 
 returns : tie.Need-returns
-unfolding isBehind orderingOf
-returns c = sym (ap (λ (o : Ordering). byOrder o false false true) (sym (c .before .before .compare .ensures) ∙ ap orderingOf (c .enum-told .given .1)))
-
-returns-2 : tie.Need-returns-2
-unfolding isBehind orderingOf
-returns-2 c = sym (ap (λ (o : Ordering). byOrder o false false true) (sym (c .before .before .compare .ensures) ∙ ap orderingOf (c .enum-told2 .given .1)))
-
-returns-3 : tie.Need-returns-3
-unfolding isBehind orderingOf
-returns-3 c = sym (ap (λ (o : Ordering). byOrder o false false true) (sym (c .before .before .compare .ensures) ∙ ap orderingOf (c .enum-told3 .given .1)))
+unfolding isBehind
+returns c = c .is-more .ensures ∙ ap isMore (c .before .compare .ensures)
 
 pub comes-behind-spec : {M : Type 1} → statement M
-comes-behind-spec =
-    tie.close
-    (tie.spec compare-requires enum-told enum-told-2 enum-told-3 returns returns-2 returns-3)
+comes-behind-spec = tie.close (tie.spec compare-requires is-more-requires returns)

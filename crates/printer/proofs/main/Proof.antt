@@ -1,55 +1,50 @@
+-- `printer::main`: what is written lies inside the bytes lent. Assumes nothing.
 use mathlib.Core.Path.{sym}
-use lib.Seq.{length-take-le}
-use Rattle.records.proofs.Inside.{written-inside}
 use native.Mathlib.Omega.{arith}
+use lib.Seq.{length-take-le}
+use Rattle.printer_call.proofs.Answers.{printed-inside}
 use borrow.Author.Needs.{needs}
 use Rattle.printer.proofs.main.Statement.{statement}
 use Rattle.printer.proofs.main.Tie as tie
-use Rattle.printer.proofs.main.Reads as reads
-use Rattle.printer.proofs.main.Lts as lts
-use Rattle.io.proofs.read_full.Reads as read-full-reads
-use Rattle.io.proofs.write_all.Reads as write-all-reads
-use Rattle.printer_call.proofs.print.Reads as print-reads
 
--- src/main.rt:7:30
 slice-aggregate-read-full : tie.Need-slice-aggregate-read-full
 slice-aggregate-read-full c = search needs
 
--- src/main.rt:7:9
 read-full-requires : tie.Need-read-full-requires
 read-full-requires c κs = search needs
 
--- src/main.rt:9:19
 array-share-prefix-input : tie.Need-array-share-prefix-input
 array-share-prefix-input c = search needs
 
--- src/main.rt:9:19
 slice-aggregate-print : tie.Need-slice-aggregate-print
 slice-aggregate-print c = search needs
 
--- src/main.rt:9:32
 slice-aggregate-print-2 : tie.Need-slice-aggregate-print-2
 slice-aggregate-print-2 c = search needs
 
--- src/main.rt:9:9
 print-requires : tie.Need-print-requires
 print-requires c κs = search needs
 
--- src/main.rt:10:22
+enum-known-m : tie.Need-enum-known-m
+enum-known-m c = search needs
+
+enum-told : tie.Need-enum-told
+enum-told c = search needs
+
+returns : tie.Need-returns
+returns c = search needs
+
 array-share-prefix-out : tie.Need-array-share-prefix-out
-array-share-prefix-out c = let w = (c .before .print .ensures) in omega (arith, written-inside _ _ _ _ (w .ends) (w .bytes), (c .before .print .kept .1 .0))
+array-share-prefix-out c = omega (arith, printed-inside _ _ _ _ _ (c .before .before .before .before .print .ensures) (c .before .m .given .1), c .before .before .before .before .print .kept .1 .0)
 
--- src/main.rt:10:22
 slice-aggregate-write-all : tie.Need-slice-aggregate-write-all
-slice-aggregate-write-all c = let w = (c .before .before .print .ensures) in sym (length-take-le _ _ (written-inside _ _ _ _ (w .ends) (w .bytes)))
+slice-aggregate-write-all c = sym (length-take-le _ _ (printed-inside _ _ _ _ _ (c .before .before .before .before .before .print .ensures) (c .before .before .m .given .1)))
 
--- src/main.rt:10:5
 write-all-requires : tie.Need-write-all-requires
 write-all-requires c κs = search needs
 
--- src/main.rt:5:1
-returns : tie.Need-returns
-returns c = search needs
+returns-2 : tie.Need-returns-2
+returns-2 c = search needs
 
 pub main-spec : {M : Type 1} → statement M
 main-spec =
@@ -61,7 +56,10 @@ main-spec =
     slice-aggregate-print
     slice-aggregate-print-2
     print-requires
+    enum-known-m
+    enum-told
+    returns
     array-share-prefix-out
     slice-aggregate-write-all
     write-all-requires
-    returns)
+    returns-2)

@@ -6,8 +6,8 @@ use lib.ListN.{length}
 use borrow.Author.Needs.{needs}
 use Rattle.terms.specs.Abstraction.{termOf}
 use Rattle.terms.proofs.Arrays.{all-at}
-use Rattle.printing.specs.Text.{printFactors}
-use Rattle.printing.proofs.Progress.{UnderWay, begins, goes-on, ended}
+use Rattle.symbols.specs.Text.{printFactors}
+use Rattle.symbols.proofs.Progress.{UnderWay, begins, goes-on, ended}
 use Rattle.printing.proofs.Texts.{factorsFrom, factor-room, factor-next, factors-end, factor-named}
 use Rattle.printing.proofs.print_factors.Statement.{statement}
 use Rattle.printing.proofs.print_factors.Tie as tie

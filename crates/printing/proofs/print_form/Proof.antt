@@ -6,7 +6,7 @@ use lib.ListN.{length, getD, length-map}
 use borrow.Author.Needs.{needs}
 use Rattle.terms.specs.declared.types.Term.{Term}
 use Rattle.terms.proofs.Arrays.{noTerm}
-use Rattle.printing.specs.Printable.{TermPrintable}
+use Rattle.symbols.specs.Printable.{TermPrintable}
 use Rattle.printing.proofs.Texts.{empty-written, single-short, form-written, term-printable}
 use Rattle.printing.proofs.print_form.Statement.{statement}
 use Rattle.printing.proofs.print_form.Tie as tie

@@ -3,7 +3,7 @@ use mathlib.Core.Path.{_∙_}
 use native.Mathlib.Omega.{arith}
 use lib.ListN.{length-set}
 use borrow.Author.Needs.{needs}
-use Rattle.printing.proofs.Decimals.{decimal-short}
+use Rattle.symbols.proofs.Decimals.{decimal-short}
 use Rattle.printing.proofs.Texts.{refusal-written}
 use Rattle.printing.proofs.print_refusal.Statement.{statement}
 use Rattle.printing.proofs.print_refusal.Tie as tie

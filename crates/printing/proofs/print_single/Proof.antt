@@ -5,8 +5,8 @@ use borrow.Author.Needs.{needs}
 use Rattle.specification.specs.Printing.{printFirstSign}
 use Rattle.integers.proofs.Machine.{back-is}
 use Rattle.records.specs.Written.{Written}
-use Rattle.printing.proofs.Pieces.{first-short}
-use Rattle.printing.proofs.Progress.{written-as}
+use Rattle.symbols.proofs.Pieces.{first-short}
+use Rattle.symbols.proofs.Progress.{written-as}
 use Rattle.printing.proofs.Texts.{single-written}
 use Rattle.printing.proofs.print_single.Statement.{statement}
 use Rattle.printing.proofs.print_single.Tie as tie

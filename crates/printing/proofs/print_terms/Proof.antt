@@ -9,9 +9,9 @@ use Rattle.terms.specs.declared.types.Term.{Term}
 use Rattle.terms.proofs.Arrays.{noTerm}
 use Rattle.records.specs.Written.{Written}
 use Rattle.records.proofs.Writes.{written-then}
-use Rattle.printing.specs.Printable.{TermPrintable}
-use Rattle.printing.proofs.Pieces.{later-short}
-use Rattle.printing.proofs.Progress.{UnderWay, written-as, begins, goes-on, ended}
+use Rattle.symbols.specs.Printable.{TermPrintable}
+use Rattle.symbols.proofs.Pieces.{later-short}
+use Rattle.symbols.proofs.Progress.{UnderWay, written-as, begins, goes-on, ended}
 use Rattle.printing.proofs.Texts.{termsFrom, signed-short, term-next, terms-end, term-printable}
 use Rattle.printing.proofs.print_terms.Statement.{statement}
 use Rattle.printing.proofs.print_terms.Tie as tie

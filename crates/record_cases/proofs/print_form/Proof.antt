@@ -1,4 +1,4 @@
-use Rattle.theory.specs.Records.Forms.{form-short}
+use Rattle.theory.specs.Records.Lengths.{form-short}
 use mathlib.Core.Path.{sym}
 use lib.Seq.{length-take-le}
 use Rattle.records.proofs.Inside.{written-inside}
@@ -6,37 +6,25 @@ use native.Mathlib.Omega.{arith}
 use borrow.Author.Needs.{needs}
 use Rattle.record_cases.proofs.print_form.Statement.{statement}
 use Rattle.record_cases.proofs.print_form.Tie as tie
-use Rattle.record_cases.proofs.print_form.Reads as reads
-use Rattle.record_cases.proofs.print_form.Lts as lts
-use Rattle.case_lines.proofs.print_bytes.Reads as print-bytes-reads
-use Rattle.case_lines.proofs.print_character.Reads as print-character-reads
-use Rattle.records.proofs.write.write_form.Reads as write-form-reads
 
--- src/main.rt:19:24
 slice-aggregate-write-form : tie.Need-slice-aggregate-write-form
 slice-aggregate-write-form c = search needs
 
--- src/main.rt:19:9
 write-form-requires : tie.Need-write-form-requires
 write-form-requires c κs = (c .before .pre, omega (arith, c .before .pre .few))
 
--- src/main.rt:20:5
 print-character-requires : tie.Need-print-character-requires
 print-character-requires c κs = search needs
 
--- src/main.rt:21:17
 array-share-prefix-out : tie.Need-array-share-prefix-out
 array-share-prefix-out c = omega (arith, (c .before .before .write-form .ensures .ends), form-short _ ((c .before .before .before .before .pre .inShape)))
 
--- src/main.rt:21:17
 slice-aggregate-print-bytes : tie.Need-slice-aggregate-print-bytes
 slice-aggregate-print-bytes c = let w = (c .before .before .before .write-form .ensures) in sym (length-take-le _ _ (written-inside _ _ _ _ (w .ends) (w .bytes)))
 
--- src/main.rt:21:5
 print-bytes-requires : tie.Need-print-bytes-requires
 print-bytes-requires c κs = search needs
 
--- src/main.rt:15:1
 returns : tie.Need-returns
 returns c = search needs
 

@@ -3,44 +3,37 @@ use native.Mathlib.Omega.{arith}
 use borrow.Author.Needs.{needs}
 use Rattle.reduction.proofs.reduce.Statement.{statement}
 use Rattle.reduction.proofs.reduce.Tie as tie
-use Rattle.reduction.proofs.reduce.Reads as reads
-use Rattle.reduction.proofs.reduce.Lts as lts
-use Rattle.records.proofs.table.check_table.Reads as check-table-reads
-use Rattle.records.proofs.write.write_form.Reads as write-form-reads
-use Rattle.reduction.proofs.form_of.Reads as form-of-reads
 
--- src/lib.rt:43:9
 check-table-requires : tie.Need-check-table-requires
 check-table-requires c κs = search needs
 
--- src/lib.rt:45:9
 returns : tie.Need-returns
 returns c = table-refused _ _ _ _ (c .before .check-table .ensures) (c .if1 .taken)
 
--- src/lib.rt:48:9
 returns-2 : tie.Need-returns-2
 returns-2 c = short-refused _ _ _ _ (c .before .before .check-table .ensures) (c .before .if1 .left) (c .if2 .taken)
 
--- src/lib.rt:50:9
 form-of-requires : tie.Need-form-of-requires
 form-of-requires c κs = search needs
 
--- src/lib.rt:53:9
 returns-3 : tie.Need-returns-3
-returns-3 c = content-refused _ _ _ _ (c .before .before .before .before .check-table .ensures) (c .before .before .before .if1 .left) (c .before .before .if2 .left) _ (c .before .form-of .ensures) (c .if3 .taken)
+returns-3 c =
+    content-refused _ _ _ _ (c .before .before .before .before .check-table .ensures) (c .before .before .before .if1 .left) (c .before .before .if2 .left) _
+    (c .before .form-of .ensures) (c .if3 .taken)
 
--- src/lib.rt:56:22
 write-form-requires : tie.Need-write-form-requires
 write-form-requires c κs =
     let v = c .before .before .before .form-of .ensures .valid (c .before .before .if3 .left) in (v, omega (arith, v .few, c .before .before .before .before .if2 .left))
 
--- src/lib.rt:40:1
 same-length : tie.Need-same-length
 same-length c = search needs
 
--- src/lib.rt:40:1
 returns-4 : tie.Need-returns-4
-returns-4 c = form-written _ _ _ _ (c .before .before .before .before .before .before .before .before .before .check-table .ensures) (c .before .before .before .before .before .before .before .before .if1 .left) (c .before .before .before .before .before .before .before .if2 .left) _ (c .before .before .before .before .before .before .form-of .ensures) _ _ (c .before .before .before .before .before .if3 .left) (c .before .before .write-form .ensures)
+returns-4 c =
+    form-written _ _ _ _ (c .before .before .before .before .before .before .before .before .before .check-table .ensures)
+    (c .before .before .before .before .before .before .before .before .if1 .left) (c .before .before .before .before .before .before .before .if2 .left) _
+    (c .before .before .before .before .before .before .form-of .ensures) _ _ (c .before .before .before .before .before .if3 .left)
+    (c .before .before .write-form .ensures)
 
 pub reduce-spec : {M : Type 1} → statement M
 reduce-spec =

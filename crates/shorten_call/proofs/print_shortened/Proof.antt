@@ -10,10 +10,7 @@ form-places : (c : tie.After-form-of) → length (c .form-of .result .form .term
 form-places c = sym (length-map (c .form-of .result .form .terms) _) ∙ c .form-of .ok .1 .1 .1 .0 .1 .1 .1 .1 .0 .1 .0 .1
 
 last-places : (c : tie.After-derive) → length (c .derive .result .last .terms) ≡ 48
-last-places c = sym (length-map (c .derive .result .last .terms) _) ∙ c .derive .ok .1 .1 .1 .1 .0 .1 .1 .1 .1 .0 .1 .0 .1
-
-steps-places : (c : tie.After-derive) → length (c .derive .result .steps) ≡ 48
-steps-places c = sym (length-map (c .derive .result .steps) _) ∙ c .derive .ok .1 .1 .1 .0 .1 .0 .1
+last-places c = sym (length-map (c .derive .result .last .terms) _) ∙ c .derive .ok .1 .1 .1 .0 .1 .1 .1 .1 .0 .1 .0 .1
 
 check-table-requires : tie.Need-check-table-requires
 check-table-requires c κs = search needs
@@ -47,21 +44,21 @@ derive-requires c κs = c .before .before .form-of .ensures .valid (c .before .i
 
 print-log-requires : tie.Need-print-log-requires
 print-log-requires c κs =
-    let w = c .before .before .before in
-    let v = w .before .before in
-    let p = log-printable _ _ _ (v .before .check-table .ensures) (v .if1 .left) _ (w .before .form-of .ensures) (w .if2 .left) _ (c .before .derive .ensures) in
-    (p .0, p .1, p .2, v .before .before .before .before .before .pre)
+    let p = log-printable _ _ _ (c .before .before .before .before .before .before .before .before .check-table .ensures)
+    (c .before .before .before .before .before .before .before .if1 .left) _ (c .before .before .before .before .before .before .form-of .ensures)
+    (c .before .before .before .before .before .if2 .left) _ (c .before .before .before .derive .ensures) in
+    (p .0, p .1, p .2, c .before .before .before .before .before .before .before .before .before .before .before .before .pre)
 
 same-length-3 : tie.Need-same-length-3
 same-length-3 c = search needs
 
 returns-3 : tie.Need-returns-3
 returns-3 c =
-    let d = c .before .before .before .before in
-    let w = d .before .before in
-    let v = w .before .before in
-    log-printed _ _ _ (v .before .check-table .ensures) _ _ _ (v .if1 .left) _ (w .before .form-of .ensures) (w .if2 .left) _ (d .derive .ensures)
-    (form-places (w .before)) (last-places d) (steps-places d) (c .before .before .print-log .ensures)
+    log-printed _ _ _ (c .before .before .before .before .before .before .before .before .before .before .before .check-table .ensures) _ _ _
+    (c .before .before .before .before .before .before .before .before .before .before .if1 .left) _
+    (c .before .before .before .before .before .before .before .before .before .form-of .ensures)
+    (c .before .before .before .before .before .before .before .before .if2 .left) _ (c .before .before .before .before .before .before .derive .ensures)
+    (form-places (c .before .before .before .before .before .before .before .before .before)) (last-places (c .before .before .before .before .before .before)) (c .before .before .print-log .ensures)
 
 pub print-shortened-spec : {M : Type 1} → statement M
 print-shortened-spec =

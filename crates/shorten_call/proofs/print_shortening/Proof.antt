@@ -1,87 +1,22 @@
--- `shorten_call::print_shortening` meets its contract, test by test. Assumes nothing.
-use native.Mathlib.Omega.{arith}
+use Rattle.printer_call.specs.Answers.{printingOf}
+use Rattle.shorten_call.proofs.Calls.{answer-refused, answer-printed}
 use borrow.Author.Needs.{needs}
-use Rattle.shorten_call.proofs.Calls.{short-memory, nothing-there, table-cut, parts-printed}
 use Rattle.shorten_call.proofs.print_shortening.Statement.{statement}
 use Rattle.shorten_call.proofs.print_shortening.Tie as tie
 
 returns : tie.Need-returns
-returns c = short-memory _ _ (c .if1 .taken)
+unfolding printingOf
+returns c = answer-refused _ _ (c .if1 .taken)
 
-print-refusal-requires : tie.Need-print-refusal-requires
-print-refusal-requires c κs = search needs
+print-input-requires : tie.Need-print-input-requires
+print-input-requires c κs = search needs
 
 same-length : tie.Need-same-length
 same-length c = search needs
 
 returns-2 : tie.Need-returns-2
-returns-2 c = nothing-there _ _ _ _ (c .before .before .before .before .before .if1 .left) (c .before .before .before .before .if2 .taken) (c .before .before .print-refusal .ensures)
-
-shared-slice-read-k : tie.Need-shared-slice-read-k
-shared-slice-read-k c = search needs
-
-cast-k : tie.Need-cast-k
-cast-k c = omega (arith, (c .shared-slice-known2 .given) 0)
-
-add-k : tie.Need-add-k
-add-k c = omega (arith, (c .shared-slice-known2 .given) 0)
-
-print-refusal-requires-2 : tie.Need-print-refusal-requires-2
-print-refusal-requires-2 c κs = search needs
-
-same-length-2 : tie.Need-same-length-2
-same-length-2 c = search needs
-
-returns-3 : tie.Need-returns-3
-returns-3 c =
-    let w = c .before .before .before .before in
-    table-cut _ _ _ _ (w .before .before .before .if1 .left) (w .before .before .if2 .left) (w .if3 .taken) (c .before .before .print-refusal2 .ensures)
-
-sub-print-shortened : tie.Need-sub-print-shortened
-sub-print-shortened c = search needs
-
-part-print-shortened-start : tie.Need-part-print-shortened-start
-part-print-shortened-start c = search needs
-
-part-print-shortened-end : tie.Need-part-print-shortened-end
-part-print-shortened-end c = search needs
-
-part-print-shortened-start-2 : tie.Need-part-print-shortened-start-2
-part-print-shortened-start-2 c = search needs
-
-part-print-shortened-end-2 : tie.Need-part-print-shortened-end-2
-part-print-shortened-end-2 c = search needs
-
-print-shortened-requires : tie.Need-print-shortened-requires
-print-shortened-requires c κs = search needs
-
-same-length-3 : tie.Need-same-length-3
-same-length-3 c = search needs
-
-returns-4 : tie.Need-returns-4
-returns-4 c =
-    let w = c .before .before .before .before .before .before in
-    parts-printed _ _ _ _ (w .before .before .before .if1 .left) (w .if3 .left) (c .before .before .print-shortened .ensures)
+unfolding printingOf
+returns-2 c = answer-printed _ _ _ _ (c .before .before .before .before .if1 .left) (c .before .before .print-input .ensures)
 
 pub print-shortening-spec : {M : Type 1} → statement M
-print-shortening-spec =
-    tie.close
-    (tie.spec
-    returns
-    print-refusal-requires
-    same-length
-    returns-2
-    shared-slice-read-k
-    cast-k
-    add-k
-    print-refusal-requires-2
-    same-length-2
-    returns-3
-    sub-print-shortened
-    part-print-shortened-start
-    part-print-shortened-end
-    part-print-shortened-start-2
-    part-print-shortened-end-2
-    print-shortened-requires
-    same-length-3
-    returns-4)
+print-shortening-spec = tie.close (tie.spec returns print-input-requires same-length returns-2)

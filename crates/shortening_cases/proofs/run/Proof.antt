@@ -1,4 +1,4 @@
--- `shortening_cases::run` is safe and ends. Assumes nothing.
+-- `shortening_cases::run`. The loop: nothing is to be kept; each case ends behind where it began, so the bytes left become fewer. Assumes nothing.
 use mathlib.Core.Path.{_≡_, refl, _∙_}
 use Prim.Native.Nat.{_-_}
 use native.Mathlib.Omega.{arith}

@@ -40,26 +40,26 @@ coeff m = weigh (only m)
 -- ════ strictly ascending terms
 
 -- the first term, if there is one, stands behind the monomial
-abbrev pub Below : Monomial → List Term → Type 0
-Below m [] = Unit {0}
-Below m (t ∷ ts) = LtMonomial m (monomial t)
+abbrev pub BelowAll : Monomial → List Term → Type 0
+BelowAll m [] = Unit {0}
+BelowAll m (t ∷ ts) = LtMonomial m (monomial t)
 
 -- "strictly ascending"
 abbrev pub Ascending : List Term → Type 0
 Ascending [] = Unit {0}
-Ascending (t ∷ ts) = Below (monomial t) ts × Ascending ts
+Ascending (t ∷ ts) = BelowAll (monomial t) ts × Ascending ts
 
 -- no term has the monomial
 abbrev Fresh : Monomial → List Term → Type 0
 Fresh m ts = All (λ (u : Term). m ≡ monomial u → ⊥) ts
 
 -- what stands before a monomial stands before all terms behind it
-pub below-trans : (m n : Monomial) (ts : List Term) → LtMonomial m n → Below n ts → Below m ts
+pub below-trans : (m n : Monomial) (ts : List Term) → LtMonomial m n → BelowAll n ts → BelowAll m ts
 below-trans m n [] h b = tt
 below-trans m n (t ∷ ts) h b = monomial-laws .trans m n (monomial t) h b
 
 -- what stands before all terms is no term's monomial
-fresh : (m : Monomial) (ts : List Term) → Below m ts → Ascending ts → Fresh m ts
+fresh : (m : Monomial) (ts : List Term) → BelowAll m ts → Ascending ts → Fresh m ts
 fresh m [] b a = tt
 fresh m (t ∷ ts) b a =
     ((λ e. monomial-laws .irr m (subst (LtMonomial m) (sym e) b)), fresh m ts (below-trans m (monomial t) ts b (a .0)) (a .1))
@@ -70,7 +70,7 @@ coeff-fresh m [] f = refl
 coeff-fresh m (t ∷ ts) f = (λ i. t .coef *ℤ only-other m (monomial t) (f .0) i +ℤ coeff-fresh m ts (f .1) i) ∙ I.+ℤ-idr (t .coef *ℤ pos 0) ∙ I.*ℤ-zero (t .coef)
 
 -- a monomial before all terms has the coefficient 0
-pub coeff-below : (m : Monomial) (ts : List Term) → Below m ts → Ascending ts → coeff m ts ≡ pos 0
+pub coeff-below : (m : Monomial) (ts : List Term) → BelowAll m ts → Ascending ts → coeff m ts ≡ pos 0
 coeff-below m ts b a = coeff-fresh m ts (fresh m ts b a)
 
 -- the first term's monomial has the first term's coefficient
@@ -92,7 +92,7 @@ unfolding weigh
 coeff-past m t ts h =
     rw (only-other m (monomial t) (λ e. monomial-laws .irr m (subst (λ n. LtMonomial n m) (sym e) h)), I.*ℤ-zero (t .coef), I.+ℤ-idl (coeff m ts))
 
-below-at : (m : Monomial) (ts : List Term) (i : ℕ) → i < length ts → Below m ts → Ascending ts → LtMonomial m (monomial (termAt ts i))
+below-at : (m : Monomial) (ts : List Term) (i : ℕ) → i < length ts → BelowAll m ts → Ascending ts → LtMonomial m (monomial (termAt ts i))
 below-at m [] i h b a = absurd (N.not-suc-le-zero h)
 below-at m (t ∷ ts) zero h b a = b
 below-at m (t ∷ ts) (suc i) h b a = below-at m ts i (omega arith) (below-trans m (monomial t) ts b (a .0)) (a .1)

@@ -1,10 +1,10 @@
--- Form records (P3): a form in shape is read back from its record, bytes that are read are those that are written, and no record is longer than 770 bytes. Assumes nothing.
+-- Form records (P3): a form in shape is read back from its record, and bytes that are read are those that are written. Assumes nothing.
 use mathlib.Core.Path.{_≡_, refl, ap, sym, _∙_, subst}
 use mathlib.Core.Bool.{Bool, _&&_}
 use mathlib.Core.List.{List, [], _∷_, _++_, map, append-nil}
-use Prim.Native.Nat.{ℕ, zero, suc, _+_, _*_, _≤_}
+use Prim.Native.Nat.{ℕ, zero, suc, _+_, _≤_}
 use native.Mathlib.Omega.{arith}
-use lib.ListN.{length, getD, length-append}
+use lib.ListN.{length, getD}
 use lib.Seq.{append-snoc}
 use lib.Dec.{T, leb, eqb, leb→le, eqb→eq}
 use borrow.Author.Tests.{le-leb, eq-eqb}
@@ -15,7 +15,7 @@ use Rattle.specification.specs.Records.{writeTerm, writeForm, readTermAt, partF
 use Rattle.theory.specs.Tests.{is-true, and-both, and-split, given-same, past, into}
 use Rattle.theory.specs.Shape.Forms.{FormInShape}
 use Rattle.theory.specs.Records.Positions.{Spells, Bytes, spells-none, spells-cons, spells-join, spells-first, spells-rest, spells-all, spells-whole, spelled-there, spelled-byte, spelled-tail}
-use Rattle.theory.specs.Records.Terms.{term-read, term-short, term-written}
+use Rattle.theory.specs.Records.Terms.{term-read, term-written}
 
 -- ════ the order of a list that grows at its end
 
@@ -104,20 +104,6 @@ form-read s a b f h p =
       le-leb c 48 (h .count),
       r,
     )
-
-records-short : (ts : List Term) → T (all termInShape ts) → length (records ts) ≤ length ts * 16
-unfolding all joined
-records-short [] h = omega arith
-records-short (t ∷ ts) h =
-    let w = and-split (termInShape t) (all termInShape ts) h in
-    let i = records-short ts (w .1) in
-    let l = term-short t (w .0) in
-    simp length-append (omega arith)
-
--- P3: no record is longer than 770 bytes
-pub form-short : (f : Form) → FormInShape f → length (writeForm f) ≤ 770
-unfolding writeForm
-form-short f h = omega (arith, records-short (f .terms) (h .terms), h .count)
 
 -- what reading a form gives
 pub record FormRead (s : List ℕ) (a b : ℕ) (f : Form) : Type 0 where

@@ -1,7 +1,7 @@
 -- Logs: a log written from a form, steps and a form, all in shape, is read back with exactly these parts and positions; and bytes that are read as a log are such a log. Assumes nothing.
 use mathlib.Core.Path.{_≡_, refl, ap, sym, _∙_, subst}
 use mathlib.Core.Bool.{_&&_}
-use mathlib.Core.List.{List, [], _∷_, _++_, map, append-nil}
+use mathlib.Core.List.{List, [], _∷_, _++_, append-nil}
 use Prim.Native.Nat.{ℕ, zero, suc, _+_, _≤_, _<_}
 use native.Mathlib.Omega.{arith}
 use lib.ListN.{length, getD, length-append}
@@ -13,7 +13,7 @@ use Rattle.specification.specs.Results.{given}
 use Rattle.specification.specs.Terms.{Form, termInShape}
 use Rattle.specification.specs.Records.{writeTerm, writeForm, readLetters, readTermAt, readFormAt}
 use Rattle.specification.specs.Rules.{Step, isRule, ruleLetters, stepInShape}
-use Rattle.specification.specs.Logs.{Log, readStepAt, readSteps, readLog}
+use Rattle.specification.specs.Logs.{writeStep, writeSteps, writeLog, Log, readStepAt, readSteps, readLog}
 use Rattle.theory.specs.Tests.{is-true, and-both, eqb-T, given-same, past, into}
 use Rattle.theory.specs.Elements.{All}
 use Rattle.theory.specs.Shape.Forms.{FormInShape}
@@ -28,14 +28,6 @@ abbrev pub StepsInShape : List Step → Type 0
 StepsInShape steps = All (λ (st : Step). T (stepInShape st)) steps
 
 -- ════ steps
-
--- the rule number, its letters, and a term record M
-unfoldable pub writeStep : Step → List ℕ
-writeStep st = st .rule ∷ st .letters ++ writeTerm (st .m)
-
--- the records of steps, one behind the other
-unfoldable pub writeSteps : List Step → List ℕ
-writeSteps ss = joined (map writeStep ss)
 
 -- a step in shape is read back, wherever its record stands
 step-read : (s : List ℕ) (a b : ℕ) (st : Step) → T (stepInShape st) → Spells s a b (writeStep st) → readStepAt s a ≡ given (st, b)
@@ -115,10 +107,6 @@ steps-written (suc count) s before us a b bs h e =
     }
 
 -- ════ logs
-
--- "the first form, a count byte 0 to 64, the steps, the last form"
-unfoldable pub writeLog : (first : Form) (steps : List Step) (last : Form) → List ℕ
-writeLog first steps last = writeForm first ++ length steps ∷ writeSteps steps ++ writeForm last
 
 -- where the last form of such a log begins
 abbrev pub lastStartOf : (first : Form) (steps : List Step) → ℕ
@@ -202,7 +190,8 @@ log-one-record s log bs e =
         let counted : Spells s a b (length steps ∷ writeSteps steps) = rw (count, ← byte) (spells-cons s a b (writeSteps steps) there spelled) in
         let whole : Spells s 0 (length s) (writeForm first ++ (length steps ∷ writeSteps steps) ++ writeForm last) =
         subst (λ (n : ℕ). Spells s 0 n (writeForm first ++ (length steps ∷ writeSteps steps) ++ writeForm last)) ends
-        (spells-join s 0 b end (writeForm first ++ length steps ∷ writeSteps steps) (writeForm last) (spells-join s 0 a b (writeForm first) (length steps ∷ writeSteps steps) (r₁ .spelled) counted) (r₃ .spelled)) in
+        (spells-join s 0 b end (writeForm first ++ length steps ∷ writeSteps steps) (writeForm last)
+        (spells-join s 0 a b (writeForm first) (length steps ∷ writeSteps steps) (r₁ .spelled) counted) (r₃ .spelled)) in
         record {
           inShape = record {
             firstForm = r₁ .inShape;

@@ -13,12 +13,12 @@ use Rattle.specification.specs.Letters.{testTable, goodTable}
 use Rattle.specification.specs.Terms.{Term, Form, compareTerms}
 use Rattle.specification.specs.Records.{writeForm, testTerms}
 use Rattle.specification.specs.Rules.{Step, takeStep, testStepLetters}
-use Rattle.specification.specs.Logs.{Log, sameCoef, sameTerms, sameForm, Checked, refusedAt, accepted, atStep, readLog, stepsLetters, replay, checkCall}
+use Rattle.specification.specs.Logs.{Log, sameCoef, sameTerms, sameForm, Checked, refusedAt, accepted, atStep, readLog, stepsLetters, replay, checkCall, writeLog, takeSteps}
 use Rattle.theory.specs.Tests.{is-true, holds, and-split, given-same, tested, into}
 use Rattle.theory.specs.Shape.Letters.{table-good}
 use Rattle.theory.specs.Order.{compareTerms-eq, eq-compareTerms}
 use Rattle.theory.specs.Records.Positions.{Bytes}
-use Rattle.theory.specs.Records.Logs.{writeLog, lastStartOf, logOf, LogInShape, LogRead, log-read-back, log-one-record}
+use Rattle.theory.specs.Records.Logs.{lastStartOf, logOf, LogInShape, LogRead, log-read-back, log-one-record}
 
 -- ════ the same form
 
@@ -68,13 +68,6 @@ unfolding sameForm
 sameForm-same f = simp (eq-eqb (f .kind) (f .kind) refl, sameTerms-same)
 
 -- ════ a derivation
-
--- the form that steps reach, taken one after the other
-unfoldable pub takeSteps : (f : Form) (steps : List Step) → Result Form
-takeSteps f [] = given f
-takeSteps f (s ∷ ss) = do
-  g ← takeStep f s
-  takeSteps g ss
 
 -- the letters of steps
 unfoldable pub testSteps : (table : List ℕ) (steps : List Step) → Test

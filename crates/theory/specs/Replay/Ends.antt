@@ -8,14 +8,14 @@ use lib.ListN.{length, take, drop, length-append}
 use lib.Seq.{take-at, drop-append-seam}
 use borrow.Author.Tests.{eq-eqb, le-leb}
 use Rattle.specification.specs.Results.{Result, given}
-use Rattle.specification.specs.Values.{Vec}
 use Rattle.specification.specs.Letters.{testTable, goodTable}
 use Rattle.specification.specs.Terms.{Form}
 use Rattle.specification.specs.Records.{writeForm, readForm, testTerms}
 use Rattle.specification.specs.Rules.{Step, takeStep, testStepLetters}
 use Rattle.specification.specs.Evaluation.{value, assignment}
-use Rattle.specification.specs.Logs.{accepted, checkCall}
-use Rattle.specification.specs.Decision.{Decision, holds, differs, undecided, takeTwoForms, decideTested, DecidedBy, Decided}
+use Rattle.specification.specs.Logs.{accepted, checkCall, writeSteps, writeLog, takeSteps}
+use Rattle.specification.specs.Promises.{EndsAgree, EndsRead, AcceptedEnds}
+use Rattle.specification.specs.Decision.{bufferBytes, workBytes, Decision, holds, differs, undecided, takeTwoForms, decideTested, DecidedBy, Decided}
 use Rattle.theory.specs.Tests.{is-true, given-same, tested, bound}
 use Rattle.theory.specs.Shape.Forms.{FormInShape}
 use Rattle.theory.specs.Shape.Letters.{AllKnown, terms-known}
@@ -23,8 +23,8 @@ use Rattle.theory.specs.Reduction.Products.{Denotes}
 use Rattle.theory.specs.Rules.Steps.{step-keeps}
 use Rattle.theory.specs.Records.Positions.{Bytes}
 use Rattle.theory.specs.Records.Forms.{form-read-back}
-use Rattle.theory.specs.Records.Logs.{StepsInShape, writeSteps, writeLog, lastStartOf}
-use Rattle.theory.specs.Replay.Accepted.{takeSteps, testSteps, Derives, Accepted, accepted-derives}
+use Rattle.theory.specs.Records.Logs.{StepsInShape, lastStartOf}
+use Rattle.theory.specs.Replay.Accepted.{testSteps, Derives, Accepted, accepted-derives}
 
 -- ════ equal values
 
@@ -41,11 +41,6 @@ steps-keep table f (s ∷ ss) g shape known shapes tests e =
     let rest = steps-keep table (r .0) ss g (d .inShape) (d .known) (shapes .1) (t .1) (r .2) in
     record { kindIs = rest .kindIs ∙ d .kindIs; inShape = rest .inShape; known = rest .known; valueIs = λ σ. rest .valueIs σ ∙ d .valueIs σ }
 
--- what the ends of a log have in common
-pub record EndsAgree (first last : Form) : Type 0 where
-  pub sameKind : first .kind ≡ last .kind
-  pub sameValue : (σ : ℕ → Vec) → value σ first ≡ value σ last
-
 -- P5: the ends of a derivation have equal values under every assignment, and the same kind
 pub derivation-ends : (table : List ℕ) (first : Form) (steps : List Step) (last : Form) → Derives table first steps last → EndsAgree first last
 derivation-ends table first steps last d =
@@ -53,11 +48,6 @@ derivation-ends table first steps last d =
     record { sameKind = sym (k .kindIs); sameValue = λ σ. sym (k .valueIs σ) }
 
 -- ════ the ends as parts of the log
-
--- the first form's bytes are those up to the position reported, the last form's those from the position reported on
-pub record EndsRead (s : List ℕ) (a b : ℕ) (first last : Form) : Type 0 where
-  pub firstIs : readForm (take a s) ≡ given first
-  pub lastIs : readForm (drop b s) ≡ given last
 
 ends-read : (table s : List ℕ) (a b n : ℕ) (r : Accepted table s a b n) → EndsRead s a b (r .first) (r .last)
 unfolding writeLog
@@ -73,13 +63,6 @@ ends-read table s a b n r =
       lastIs = ap readForm back ∙ form-read-back (r .last) (r .derives .inShape .lastForm);
     }
 
--- the ends of an accepted log, read as its parts
-pub record AcceptedEnds (s : List ℕ) (a b : ℕ) : Type 0 where
-  pub first : Form
-  pub last : Form
-  pub areRead : EndsRead s a b first last
-  pub agree : EndsAgree first last
-
 -- P7: an accepted log's first and last forms, read as parts of the log, have equal values under every assignment
 pub accepted-ends : (table s : List ℕ) (a b n : ℕ) → Bytes s → checkCall table s ≡ accepted a b n → AcceptedEnds s a b
 accepted-ends table s a b n bs e =
@@ -93,14 +76,14 @@ two-taken : (table s t : List ℕ) (f g : Form) → readForm s ≡ given f → r
 unfolding takeTwoForms
 two-taken table s t f g hs ht hf hg k = simp (hs, ht, hf, hg, eq-eqb (f .kind) (g .kind) k)
 
-decide-tested : (table s t buffer work : List ℕ) (p : Form × Form) → goodTable table ≡ true → 72 ≤ length buffer → 55296 ≤ length work
+decide-tested : (table s t buffer work : List ℕ) (p : Form × Form) → goodTable table ≡ true → bufferBytes ≤ length buffer → workBytes ≤ length work
     → takeTwoForms table s t ≡ given p → decideTested table s t buffer work ≡ given p
 unfolding decideTested testTable
-decide-tested table s t buffer work p ht hb hw e = simp (ht, le-leb 72 (length buffer) hb, le-leb 55296 (length work) hw, e)
+decide-tested table s t buffer work p ht hb hw e = simp (ht, le-leb bufferBytes (length buffer) hb, le-leb workBytes (length work) hw, e)
 
 -- P7: the ends of an accepted log, whoever wrote it, decide "holds", where buffer and work bytes are long enough
 pub ends-hold : (table log : List ℕ) (a b n : ℕ) → Bytes log → checkCall table log ≡ accepted a b n
-    → (buffer work buffer′ work′ : List ℕ) (answer : Decision) → 72 ≤ length buffer → 55296 ≤ length work
+    → (buffer work buffer′ work′ : List ℕ) (answer : Decision) → bufferBytes ≤ length buffer → workBytes ≤ length work
     → Decided table (take a log) (drop b log) buffer work answer buffer′ work′ → answer ≡ holds
 unfolding Decided DecidedBy
 ends-hold table log a b n bs e buffer work buffer′ work′ answer hb hw d =

@@ -34,7 +34,7 @@ module _ (table : List ℕ) (good : T (goodTable table)) where
 
   -- and each is a scalar or a vector
   pub good-kind : (n : ℕ) → kindOf table n ≤ 1
-  unfolding goodTable all isKind
+  unfolding goodTable all isKind kindOf
   good-kind n = go table n (and-split (leb 1 (length table) && leb (length table) 24) (all isKind table) good .1)
     where
       go : (kinds : List ℕ) (n : ℕ) → T (all isKind kinds) → kindOf kinds n ≤ 1

@@ -26,19 +26,19 @@ use Rattle.theory.specs.Rules.Table.{relabel}
 -- ════ signs
 
 -- the sign that tidying leaves
-unfoldable pub signOf : Term → ℤ
-signOf t = factorsSign (t .factors) *ℤ exchangeSign (t .part)
+unfoldable pub termSign : Term → ℤ
+termSign t = factorsSign (t .factors) *ℤ exchangeSign (t .part)
 
 -- the factors as tidying has them
 abbrev tidied : List (List ℕ) → List (List ℕ)
 tidied fs = sorted compareLetters (map (sorted order) fs)
 
 -- a term that is tidied and does not vanish has the sign 1
-tidy-sign : (t : Term) → NonZero (signOf t) → signOf (tidy t) ≡ pos 1
-unfolding tidy signOf
+tidy-sign : (t : Term) → NonZero (termSign t) → termSign (tidy t) ≡ pos 1
+unfolding tidy termSign
 tidy-sign t h =
-    sym (R.one-*ℤ (signOf (tidy t)))
-    ∙ ap (λ (u : Term). u .coef) (in-order-tidy (withCoef (pos 1) (tidy t)) (tidy-in-order (withCoef (pos 1) t) (λ z. h (sym (R.one-*ℤ (signOf t)) ∙ z))))
+    sym (R.one-*ℤ (termSign (tidy t)))
+    ∙ ap (λ (u : Term). u .coef) (in-order-tidy (withCoef (pos 1) (tidy t)) (tidy-in-order (withCoef (pos 1) t) (λ z. h (sym (R.one-*ℤ (termSign t)) ∙ z))))
 
 signs-append : (k l : List (List ℕ)) → factorsSign (k ++ l) ≡ factorsSign k *ℤ factorsSign l
 unfolding factorsSign
@@ -92,16 +92,16 @@ module _ (f : ℕ → ℕ) where
     abbrev put : Term → Term
     put t = timesTerm m (relabel f t)
 
-    sign-put : (t : Term) → signOf t *ℤ signOf (put t) ≡ signOf (tidy t) *ℤ signOf (put (tidy t))
-    unfolding timesTerm tidy signOf
+    sign-put : (t : Term) → termSign t *ℤ termSign (put t) ≡ termSign (tidy t) *ℤ termSign (put (tidy t))
+    unfolding timesTerm tidy termSign
     sign-put t =
         spread t ∙ (λ i. factorsSign (m .factors) *ℤ (both-tidied (t .factors) i *ℤ signs-reordered f (m .part) (reordered-sorted order (t .part)) i))
         ∙ sym (spread (tidy t))
       where
-        spread : (t : Term) → signOf t *ℤ signOf (put t) ≡ factorsSign (m .factors) *ℤ (both (t .factors) *ℤ (exchangeSign (t .part) *ℤ exchangeSign (m .part ++ map f (t .part))))
+        spread : (t : Term) → termSign t *ℤ termSign (put t) ≡ factorsSign (m .factors) *ℤ (both (t .factors) *ℤ (exchangeSign (t .part) *ℤ exchangeSign (m .part ++ map f (t .part))))
         spread t =
-            unfold timesTerm signOf in
-            (ap (λ (z : ℤ). signOf t *ℤ (z *ℤ exchangeSign (m .part ++ map f (t .part)))) (signs-append (m .factors) (map (map f) (t .factors)))
+            unfold timesTerm termSign in
+            (ap (λ (z : ℤ). termSign t *ℤ (z *ℤ exchangeSign (m .part ++ map f (t .part)))) (signs-append (m .factors) (map (map f) (t .factors)))
             ∙ regroup (factorsSign (t .factors)) (exchangeSign (t .part)) (factorsSign (m .factors)) (factorsSign (map (map f) (t .factors))) (exchangeSign (m .part ++ map f (t .part))))
 
     each-put : (fs : List (List ℕ)) → map (sorted order) (map (map f) fs) ≡ map (sorted order) (map (map f) (map (sorted order) fs))
@@ -115,12 +115,12 @@ module _ (f : ℕ → ℕ) where
         (sorted-reordered letters-laws (reordered-behind (s (m .factors)) (reordered-map (sorted order) (reordered-map (map f) (reordered-sorted compareLetters (s fs))))))
 
     -- tidying before changes nothing
-    tidy-put : (t : Term) → natAbs (signOf t) ≡ 1 → tidy (put t) ≡ tidy (put (tidy t))
-    unfolding timesTerm tidy signOf
+    tidy-put : (t : Term) → natAbs (termSign t) ≡ 1 → tidy (put t) ≡ tidy (put (tidy t))
+    unfolding timesTerm tidy termSign
     tidy-put t h =
         λ i. record {
-          coef = coefs (m .coef) (t .coef) (signOf t) (signOf (put t)) (signOf (put (tidy t))) (unit-square (signOf t) h)
-              (sign-put t ∙ ap (λ (z : ℤ). z *ℤ signOf (put (tidy t))) (tidy-sign t (unit-nonzero (signOf t) h)) ∙ R.one-*ℤ (signOf (put (tidy t)))) i;
+          coef = coefs (m .coef) (t .coef) (termSign t) (termSign (put t)) (termSign (put (tidy t))) (unit-square (termSign t) h)
+              (sign-put t ∙ ap (λ (z : ℤ). z *ℤ termSign (put (tidy t))) (tidy-sign t (unit-nonzero (termSign t) h)) ∙ R.one-*ℤ (termSign (put (tidy t)))) i;
           factors = factors-put (t .factors) i;
           part = sorted-reordered nat-laws (reordered-behind (m .part) (reordered-map f (reordered-sorted order (t .part)))) i;
         }
@@ -153,24 +153,24 @@ module _ (f : ℕ → ℕ) where
       added-shares [] = refl
       added-shares (t ∷ ts) = λ i. sym (share-term t) i +ℤ added-shares ts i
 
-      added-gathered : (ts : List Term) → All (λ (t : Term). natAbs (signOf t) ≡ 1) ts → added ts ≡ weigh share (gather ts)
+      added-gathered : (ts : List Term) → All (λ (t : Term). natAbs (termSign t) ≡ 1) ts → added ts ≡ weigh share (gather ts)
       added-gathered ts h =
           added-shares ts
           ∙ sym (weigh-gather share ts ∙ weigh-tidied share ts
-          (all-implies (λ (t : Term). natAbs (signOf t) ≡ 1) (λ (t : Term). weight share (tidy t) ≡ weight share t)
+          (all-implies (λ (t : Term). natAbs (termSign t) ≡ 1) (λ (t : Term). weight share (tidy t) ≡ weight share t)
           (λ t u. share-term (tidy t) ∙ sym (ap (weight (only n)) (tidy-put t u)) ∙ sym (share-term t)) ts h))
 
 -- ════ the theorem
 
 -- no term vanishes
 unfoldable pub unitSigns : List Term → Bool
-unitSigns ts = all (λ t. eqb (natAbs (signOf t)) 1) ts
+unitSigns ts = all (λ t. eqb (natAbs (termSign t)) 1) ts
 
-signs-are-units : (ts : List Term) → T (unitSigns ts) → All (λ (t : Term). natAbs (signOf t) ≡ 1) ts
+signs-are-units : (ts : List Term) → T (unitSigns ts) → All (λ (t : Term). natAbs (termSign t) ≡ 1) ts
 unfolding unitSigns
 signs-are-units ts h =
-    all-implies (λ (t : Term). T (eqb (natAbs (signOf t)) 1)) (λ (t : Term). natAbs (signOf t) ≡ 1) (λ t. eqb→eq (natAbs (signOf t)) 1) ts
-    (all-T (λ t. eqb (natAbs (signOf t)) 1) ts h)
+    all-implies (λ (t : Term). T (eqb (natAbs (termSign t)) 1)) (λ (t : Term). natAbs (termSign t) ≡ 1) (λ t. eqb→eq (natAbs (termSign t)) 1) ts
+    (all-T (λ t. eqb (natAbs (termSign t)) 1) ts h)
 
 -- terms that gather to the same but for a factor e add e times as much
 pub added-turned : (e : ℤ) (ts us : List Term) → T (unitSigns ts) → T (unitSigns us) → gather ts ≡ map (scaled e) (gather us)

@@ -29,7 +29,7 @@ use Rattle.theory.specs.Gathering.Weights.{scaled}
 use Rattle.theory.specs.Gathering.Coefficients.{coeff}
 use Rattle.theory.specs.Rules.Table.{positions, relabel, by-rule, ruleTerms}
 use Rattle.theory.specs.Replay.Accepted.{sameTerms-eq}
-use Rattle.theory.specs.Shortening.Relabelled.{signOf, unitSigns, added-turned}
+use Rattle.theory.specs.Shortening.Relabelled.{termSign, unitSigns, added-turned}
 use Rattle.theory.specs.Shortening.Candidates.{blockSize, inRuleOrder, blockIsFirst}
 
 -- ════ a rule with its letters in blocks
@@ -84,7 +84,7 @@ exchange (suc i) (suc j) = suc (exchange i j)
 
 -- neighbours in the block, and neighbours behind it, turn the sign
 neighbours-turn : (r : ℕ) → T (isRule r) → T (each (ruleLetters r - 1) (λ i. eqb (suc i) (blockSize r) || turns r (negsuc 0) (exchange i)))
-unfolding computing ruleTerms inRuleOrder blockSize turns exchange unitSigns signOf
+unfolding computing ruleTerms inRuleOrder blockSize turns exchange unitSigns termSign
 neighbours-turn = by-rule (λ (r : ℕ). T (each (ruleLetters r - 1) (λ i. eqb (suc i) (blockSize r) || turns r (negsuc 0) (exchange i)))) tt tt tt tt tt
 
 -- the triples of rule 5
@@ -92,7 +92,7 @@ abbrev triples : ℕ → ℕ
 triples i = getD (3 ∷ 4 ∷ 5 ∷ 0 ∷ 1 ∷ 2 ∷ []) i 0
 
 triples-stay : T (turns 5 (pos 1) triples)
-unfolding computing ruleTerms inRuleOrder turns unitSigns signOf
+unfolding computing ruleTerms inRuleOrder turns unitSigns termSign
 triples-stay = tt
 
 -- ════ one exchange
@@ -162,7 +162,8 @@ module _ (r : ℕ) (rule : T (isRule r)) where
   exchange-turns : {i : ℕ} {w v : List ℕ} → Exchange i w v → length w ≡ ruleLetters r → (suc i ≡ blockSize r → ⊥) → Times r (negsuc 0) w v
   exchange-turns {i} {w} {v} e long inside =
       turned r rule (negsuc 0) (exchange i)
-      (other (eqb (suc i) (blockSize r)) (turns r (negsuc 0) (exchange i)) (eqb→eq (suc i) (blockSize r)) (each-T _ (ruleLetters r - 1) (neighbours-turn r rule) i (omega (arith, exchange-inside e)))) w v
+      (other (eqb (suc i) (blockSize r)) (turns r (negsuc 0) (exchange i)) (eqb→eq (suc i) (blockSize r))
+      (each-T _ (ruleLetters r - 1) (neighbours-turn r rule) i (omega (arith, exchange-inside e)))) w v
       (in-blocks r rule v ∙ (λ k. map (relabel (λ j. exchange-at e j k)) (base r)) ∙ in-blocks-twice r rule (λ j. getD w j 0) (exchange i))
     where
       other : (a b : Bool) → (T a → suc i ≡ blockSize r) → T (a || b) → T b

@@ -4,8 +4,7 @@ use Prim.Native.Nat.{_≤_}
 use native.Mathlib.Omega.{arith}
 use lib.ListN.{length, take}
 use Rattle.polynomials.specs.Memory.{summands}
-use Rattle.decision.proofs.Choices.{Choosing, choose-starts, choose-on, choose-ends, choose-falls, fallOf, letter-there, most-six, fits, number-small}
-use Rattle.decision.proofs.Choices.{byte-there}
+use Rattle.decision.proofs.Choices.{Choosing, choose-starts, choose-on, choose-ends, choose-falls, fallOf, letter-there, most-six, fits, number-small, byte-there}
 use Rattle.decision.proofs.elimination.eliminate.Statement.{statement}
 use Rattle.decision.proofs.elimination.eliminate.Tie as tie
 

@@ -1,10 +1,12 @@
+-- `marks::marking::factors_mark`. The loop: the sum is the mark of the factors from factor i on, and leaves room for those before. Assumes nothing.
 use mathlib.Core.Path.{_≡_, subst}
-use Prim.Native.Nat.{ℕ, _+_, _*_, _-_, _≤_}
+use Prim.Native.Nat.{ℕ, _+_, _*_, _-_, _≤_, _<_}
 use mathlib.Core.List.{map}
 use native.Mathlib.Omega.{arith}
 use denote.Ref.{now}
 use lib.ListN.{length, take, drop}
 use Rattle.terms.specs.Numbers.{lettersOf}
+use Rattle.terms.proofs.Arrays.{all-at}
 use Rattle.marks.specs.Marks.{factorsMark}
 use Rattle.marks.proofs.MarkSizes.{from-none, from-more}
 use Rattle.marks.proofs.marking.factors_mark.Statement.{statement}
@@ -32,7 +34,9 @@ element-copy-out-factor-mark : tie.Need-element-copy-out-factor-mark Inv-loop μ
 element-copy-out-factor-mark c = let w = c .before .before in omega (arith, w .pre .0, w .pre .1)
 
 factor-mark-requires : tie.Need-factor-mark-requires Inv-loop μ-loop
-factor-mark-requires c κs = tt
+factor-mark-requires c κs =
+    let w = c .before .before .before in
+    all-at (λ (k : ℕ). k < 16843008) (now (w .args .f)) (w .args .n) _ 0 (few w) (omega (arith, c .before .before .loop .inv .0, c .before .loop-test .taken)) (w .pre .2)
 
 add-a : tie.Need-add-a Inv-loop μ-loop
 add-a c = omega (arith, c .factor-mark .ensures .1, c .before .before .before .loop .inv .1 .1, c .before .before .before .before .pre .0)
@@ -46,7 +50,8 @@ loop-again c = let v = c .before .before .before .loop in
     let next : v .i ≡ v .i - 1 + 1 = omega (arith, c .before .before .loop-test .taken) in (
       omega (arith, v .inv .0),
       from-more (now (w .args .f)) (w .args .n) (few w) (v .i - 1) (v .a) _ (omega (arith, v .inv .0, c .before .before .loop-test .taken))
-          (subst (λ (k : ℕ). (v .a ≡ factorsMark (map lettersOf (drop k (take (w .args .n) (now (w .args .f)))))) × (v .a + 15625000 * k ≤ 15625000 * w .args .n)) next (v .inv .1)) (c .factor-mark .ensures),
+          (subst (λ (k : ℕ). (v .a ≡ factorsMark (map lettersOf (drop k (take (w .args .n) (now (w .args .f)))))) × (v .a + 15625000 * k ≤ 15625000 * w .args .n)) next
+          (v .inv .1)) (c .factor-mark .ensures),
     )
 
 returns : tie.Need-returns Inv-loop μ-loop

@@ -3,14 +3,10 @@ use native.Mathlib.Omega.{arith}
 use borrow.Author.Needs.{needs}
 use Rattle.operators.proofs.limits.coefs_fit.Statement.{statement}
 use Rattle.operators.proofs.limits.coefs_fit.Tie as tie
-use Rattle.operators.proofs.limits.coefs_fit.Reads as reads
-use Rattle.operators.proofs.limits.coefs_fit.Lts as lts
 
--- src/limits.rt:83:5
 mul-result : tie.Need-mul-result
 mul-result c = omega (arith, mul-le-mul ((c .before .before .pre .0 .size)) ((c .before .before .pre .1 .size)))
 
--- src/limits.rt:79:1
 returns : tie.Need-returns
 returns c = search needs
 

@@ -2,15 +2,11 @@ use Rattle.operators.specs.Limits.{larger}
 use borrow.Author.Tests.{lt-ltb, le-ltb}
 use Rattle.operators.proofs.limits.larger.Statement.{statement}
 use Rattle.operators.proofs.limits.larger.Tie as tie
-use Rattle.operators.proofs.limits.larger.Reads as reads
-use Rattle.operators.proofs.limits.larger.Lts as lts
 
--- src/limits.rt:23:1
 returns : tie.Need-returns
 unfolding larger
 returns c = rw (lt-ltb _ _ (c .if1 .taken))
 
--- src/limits.rt:23:1
 returns-2 : tie.Need-returns-2
 unfolding larger
 returns-2 c = rw (le-ltb _ _ (c .if1 .left))

@@ -3,22 +3,16 @@ use Rattle.operators.proofs.Largest.{vectors-many, vectors-few}
 use borrow.Author.Needs.{needs}
 use Rattle.operators.proofs.limits.letters_fit.Statement.{statement}
 use Rattle.operators.proofs.limits.letters_fit.Tie as tie
-use Rattle.operators.proofs.limits.letters_fit.Reads as reads
-use Rattle.operators.proofs.limits.letters_fit.Lts as lts
 
--- src/limits.rt:72:8
 add-if1 : tie.Need-add-if1
 add-if1 c = search needs
 
--- src/limits.rt:73:9
 returns : tie.Need-returns
 returns c = vectors-many _ (c .before .before .before .args .a .scalars + c .before .before .before .args .b .scalars) (c .if1 .taken)
 
--- src/limits.rt:75:5
 add-result : tie.Need-add-result
 add-result c = search needs
 
--- src/limits.rt:68:1
 returns-2 : tie.Need-returns-2
 returns-2 c = vectors-few _ (c .before .before .before .before .before .args .a .scalars + c .before .before .before .before .before .args .b .scalars) (c .before .before .if1 .left)
 

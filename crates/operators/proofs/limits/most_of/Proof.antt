@@ -1,3 +1,4 @@
+-- `operators::limits::most_of`. The loop: the largest numbers are those of the terms from term i on. Assumes nothing.
 use Rattle.operators.specs.Limits.{MostOf}
 use Rattle.terms.specs.Abstraction.{formOf}
 use lib.ListN.{length, length-map, drop}
@@ -8,9 +9,6 @@ use native.Mathlib.Omega.{arith}
 use Rattle.operators.proofs.Largest.{most-none, most-more, most-all, again, form-size}
 use Rattle.operators.proofs.limits.most_of.Statement.{statement}
 use Rattle.operators.proofs.limits.most_of.Tie as tie
-use Rattle.operators.proofs.limits.most_of.Reads as reads
-use Rattle.operators.proofs.limits.most_of.Lts as lts
-use Rattle.operators.proofs.limits.with_term.Reads as with-term-reads
 
 abbrev Inv-loop : tie.InvT-loop
 Inv-loop f m₀ i₀ m i = (i ≤ i₀) × MostOf (drop i (formOf f .terms)) m
@@ -24,35 +22,37 @@ places c = sym (length-map (c .args .t1 .terms) _) ∙ c .good .0 .1 .1 .1 .1 .0
 few : (c : tie.Start Inv-loop μ-loop) → c .args .t1 .count ≤ length (c .args .t1 .terms)
 few c = omega (arith, places c, c .pre .few)
 
--- src/limits.rt:57:5
 loop-holds : tie.Need-loop-holds Inv-loop μ-loop
 loop-holds c = (omega arith, most-none (formOf (c .args .t1) .terms) (c .args .t1 .count) (omega (arith, form-length (c .args .t1) (few c))))
 
--- src/limits.rt:58:9
 sub-i : tie.Need-sub-i Inv-loop μ-loop
 sub-i c = omega arith
 
--- src/limits.rt:59:17
 mul-t : tie.Need-mul-t Inv-loop μ-loop
 mul-t c = omega (arith, (c .before .loop .inv .0), (c .before .before .pre .few))
 
--- src/limits.rt:59:17
 element-copy-out-t : tie.Need-element-copy-out-t Inv-loop μ-loop
 element-copy-out-t c = omega (arith, (c .before .loop .inv .0), (c .before .before .pre .few))
 
--- src/limits.rt:60:9
 with-term-requires : tie.Need-with-term-requires Inv-loop μ-loop
-with-term-requires c κs = let w = (c .before .before .before) in let k : c .before .before .loop .i - 1 < w .args .t1 .count = omega (arith, (c .before .before .loop .inv .0)) in (form-counted (w .args .t1) (c .before .before .loop .i - 1) (w .pre) (few w) k, form-size (w .args .t1) (c .before .before .loop .i - 1) (w .pre) (few w) k)
+with-term-requires c κs =
+    let w = (c .before .before .before) in
+    let k : c .before .before .loop .i - 1 < w .args .t1 .count = omega (arith, (c .before .before .loop .inv .0)) in
+    (form-counted (w .args .t1) (c .before .before .loop .i - 1) (w .pre) (few w) k, form-size (w .args .t1) (c .before .before .loop .i - 1) (w .pre) (few w) k)
 
--- src/limits.rt:57:5
 loop-less : tie.Need-loop-less Inv-loop μ-loop
 loop-less c = omega arith
 
--- src/limits.rt:57:5
 loop-again : tie.Need-loop-again Inv-loop μ-loop
-loop-again c = let w = (c .before .before .before .before) in let k : c .before .before .before .loop .i - 1 < w .args .t1 .count = omega (arith, (c .before .before .before .loop .inv .0)) in (omega (arith, (c .before .before .before .loop .inv .0)), most-more _ _ _ _ _ (form-rest (w .args .t1) (c .before .before .before .loop .i - 1) (few w) k ∙ again (w .args .t1) (c .before .before .before .loop .i) (c .before .before .loop-test .taken)) (c .before .before .before .loop .inv .1) (c .with-term .ensures))
+loop-again c =
+    let w = (c .before .before .before .before) in
+    let k : c .before .before .before .loop .i - 1 < w .args .t1 .count = omega (arith, (c .before .before .before .loop .inv .0)) in (
+      omega (arith, (c .before .before .before .loop .inv .0)),
+      most-more _ _ _ _ _
+          (form-rest (w .args .t1) (c .before .before .before .loop .i - 1) (few w) k ∙ again (w .args .t1) (c .before .before .before .loop .i) (c .before .before .loop-test .taken))
+          (c .before .before .before .loop .inv .1) (c .with-term .ensures),
+    )
 
--- src/limits.rt:47:1
 returns : tie.Need-returns Inv-loop μ-loop
 returns c = most-all _ _ _ (c .loop-test .left) (c .before .loop .inv .1)
 

@@ -11,11 +11,6 @@ use Rattle.operators.proofs.Largest.{Limited, form-limited, most-small,
 use borrow.Author.Needs.{needs}
 use Rattle.operators.proofs.limits.test_pairs.Statement.{statement}
 use Rattle.operators.proofs.limits.test_pairs.Tie as tie
-use Rattle.operators.proofs.limits.test_pairs.Reads as reads
-use Rattle.operators.proofs.limits.test_pairs.Lts as lts
-use Rattle.operators.proofs.limits.coefs_fit.Reads as coefs-fit-reads
-use Rattle.operators.proofs.limits.letters_fit.Reads as letters-fit-reads
-use Rattle.operators.proofs.limits.most_of.Reads as most-of-reads
 
 few-f : (c : tie.Start) → c .args .f .count ≤ length (c .args .f .terms)
 few-f c = let e : length (c .args .f .terms) ≡ 48 = sym (length-map (c .args .f .terms) _) ∙ c .good .0 .1 .1 .1 .1 .0 .1 .0 .1 in omega (arith, e, c .pre .0 .few)
@@ -33,41 +28,49 @@ limits-f c = form-limited (formOf (c .args .f)) (c .pre .0 .inShape)
 limits-g : (c : tie.Start) → All Limited (formOf (c .args .g) .terms)
 limits-g c = form-limited (formOf (c .args .g)) (c .pre .1 .inShape)
 
--- src/limits.rt:93:8
 mul-if1 : tie.Need-mul-if1
 mul-if1 c = omega (arith, mul-le-mul (c .pre .0 .few) (c .pre .1 .few))
 
--- src/limits.rt:94:9
 returns : tie.Need-returns
 returns c = seven _ _ (subst (λ (n : ℕ). 48 < n) (sym (pairs (c .before))) (c .if1 .taken))
 
--- src/limits.rt:96:9
 most-of-requires : tie.Need-most-of-requires
 most-of-requires c κs = search needs
 
--- src/limits.rt:97:9
 most-of-requires-2 : tie.Need-most-of-requires-2
 most-of-requires-2 c κs = search needs
 
--- src/limits.rt:98:9
 letters-fit-requires : tie.Need-letters-fit-requires
 letters-fit-requires c κs = (most-small _ _ (limits-f (c .before .before .before)) (c .before .most-of .ensures), most-small _ _ (limits-g (c .before .before .before)) (c .most-of2 .ensures))
 
--- src/limits.rt:99:9
 coefs-fit-requires : tie.Need-coefs-fit-requires
-coefs-fit-requires c κs = (most-small _ _ (limits-f (c .before .before .before .before)) (c .before .before .most-of .ensures), most-small _ _ (limits-g (c .before .before .before .before)) (c .before .most-of2 .ensures))
+coefs-fit-requires c κs = (
+  most-small _ _ (limits-f (c .before .before .before .before)) (c .before .before .most-of .ensures),
+  most-small _ _ (limits-g (c .before .before .before .before)) (c .before .most-of2 .ensures),
+)
 
--- src/limits.rt:101:9
 returns-2 : tie.Need-returns-2
-returns-2 c = eight _ _ (limits-f (c .before .before .before .before .before .before)) (limits-g (c .before .before .before .before .before .before)) _ _ (c .before .before .before .before .most-of .ensures) (c .before .before .before .most-of2 .ensures) _ (subst (λ (n : ℕ). n ≤ 48) (sym (pairs (c .before .before .before .before .before .before))) (c .before .before .before .before .before .if1 .left)) (c .before .before .letters-fit .ensures) (not-true _ (c .if2 .taken))
+returns-2 c =
+    eight _ _ (limits-f (c .before .before .before .before .before .before)) (limits-g (c .before .before .before .before .before .before)) _ _
+    (c .before .before .before .before .most-of .ensures) (c .before .before .before .most-of2 .ensures) _
+    (subst (λ (n : ℕ). n ≤ 48) (sym (pairs (c .before .before .before .before .before .before))) (c .before .before .before .before .before .if1 .left))
+    (c .before .before .letters-fit .ensures) (not-true _ (c .if2 .taken))
 
--- src/limits.rt:104:9
 returns-3 : tie.Need-returns-3
-returns-3 c = nine _ _ (limits-f (c .before .before .before .before .before .before .before)) (limits-g (c .before .before .before .before .before .before .before)) _ _ (c .before .before .before .before .before .most-of .ensures) (c .before .before .before .before .most-of2 .ensures) _ _ (subst (λ (n : ℕ). n ≤ 48) (sym (pairs (c .before .before .before .before .before .before .before))) (c .before .before .before .before .before .before .if1 .left)) (c .before .before .before .letters-fit .ensures) (c .before .before .coefs-fit .ensures) (not-false _ (c .before .if2 .left)) (not-true _ (c .if3 .taken))
+returns-3 c =
+    nine _ _ (limits-f (c .before .before .before .before .before .before .before)) (limits-g (c .before .before .before .before .before .before .before)) _ _
+    (c .before .before .before .before .before .most-of .ensures) (c .before .before .before .before .most-of2 .ensures) _ _
+    (subst (λ (n : ℕ). n ≤ 48) (sym (pairs (c .before .before .before .before .before .before .before)))
+    (c .before .before .before .before .before .before .if1 .left)) (c .before .before .before .letters-fit .ensures) (c .before .before .coefs-fit .ensures)
+    (not-false _ (c .before .if2 .left)) (not-true _ (c .if3 .taken))
 
--- src/limits.rt:87:1
 returns-4 : tie.Need-returns-4
-returns-4 c = all-fit _ _ (limits-f (c .before .before .before .before .before .before .before)) (limits-g (c .before .before .before .before .before .before .before)) _ _ (c .before .before .before .before .before .most-of .ensures) (c .before .before .before .before .most-of2 .ensures) _ _ (subst (λ (n : ℕ). n ≤ 48) (sym (pairs (c .before .before .before .before .before .before .before))) (c .before .before .before .before .before .before .if1 .left)) (c .before .before .before .letters-fit .ensures) (c .before .before .coefs-fit .ensures) (not-false _ (c .before .if2 .left)) (not-false _ (c .if3 .left))
+returns-4 c =
+    all-fit _ _ (limits-f (c .before .before .before .before .before .before .before)) (limits-g (c .before .before .before .before .before .before .before)) _ _
+    (c .before .before .before .before .before .most-of .ensures) (c .before .before .before .before .most-of2 .ensures) _ _
+    (subst (λ (n : ℕ). n ≤ 48) (sym (pairs (c .before .before .before .before .before .before .before)))
+    (c .before .before .before .before .before .before .if1 .left)) (c .before .before .before .letters-fit .ensures) (c .before .before .coefs-fit .ensures)
+    (not-false _ (c .before .if2 .left)) (not-false _ (c .if3 .left))
 
 pub test-pairs-spec : {M : Type 1} → statement M
 test-pairs-spec =

@@ -2,10 +2,7 @@ use Rattle.terms.specs.Abstraction.{termOf, partOf}
 use borrow.Author.Needs.{needs}
 use Rattle.operators.proofs.parts.alone.Statement.{statement}
 use Rattle.operators.proofs.parts.alone.Tie as tie
-use Rattle.operators.proofs.parts.alone.Reads as reads
-use Rattle.operators.proofs.parts.alone.Lts as lts
 
--- src/parts.rt:33:1
 returns : tie.Need-returns
 unfolding termOf partOf
 returns c = search needs

@@ -6,46 +6,32 @@ use Rattle.operators.proofs.Few.{at-nothing, at-letter, at-wedge}
 use borrow.Author.Needs.{needs}
 use Rattle.operators.proofs.parts.dot_parts.Statement.{statement}
 use Rattle.operators.proofs.parts.dot_parts.Tie as tie
-use Rattle.operators.proofs.parts.dot_parts.Reads as reads
-use Rattle.operators.proofs.parts.dot_parts.Lts as lts
-use Rattle.operators.proofs.parts.dot_letter.Reads as dot-letter-reads
-use Rattle.operators.proofs.parts.dot_wedge.Reads as dot-wedge-reads
-use Rattle.operators.proofs.parts.none.Reads as none-reads
 
--- src/parts.rt:176:26
 enum-told : tie.Need-enum-told
 enum-told c = search needs
 
--- src/parts.rt:176:26
 none-requires : tie.Need-none-requires
 none-requires c κs = search needs
 
--- src/parts.rt:177:22
 enum-known-p : tie.Need-enum-known-p
 enum-known-p c = search needs
 
--- src/parts.rt:177:28
 dot-letter-requires : tie.Need-dot-letter-requires
 dot-letter-requires c κs = search needs
 
--- src/parts.rt:178:21
 enum-known-p-2 : tie.Need-enum-known-p-2
 enum-known-p-2 c = search needs
 
--- src/parts.rt:178:30
 dot-wedge-requires : tie.Need-dot-wedge-requires
 dot-wedge-requires c κs = search needs
 
--- src/parts.rt:172:1
 returns : tie.Need-returns
 unfolding dotParts
 returns c = at-nothing (λ (p : List ℕ). dotParts p (partOf (c .before .before .before .args .q))) _ _ (c .before .enum-told .given .1) (c .none .ensures)
 
--- src/parts.rt:172:1
 returns-2 : tie.Need-returns-2
 returns-2 c = at-letter (λ (p : List ℕ). dotParts p (partOf (c .before .before .before .before .args .q))) _ _ _ (c .before .before .p .given .1) (c .dot-letter .ensures)
 
--- src/parts.rt:172:1
 returns-3 : tie.Need-returns-3
 returns-3 c = at-wedge (λ (p : List ℕ). dotParts p (partOf (c .before .before .before .before .args .q))) _ _ _ _ (c .before .before .p2 .given .1) (c .dot-wedge .ensures)
 

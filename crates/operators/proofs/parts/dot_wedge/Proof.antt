@@ -4,47 +4,33 @@ use Rattle.operators.proofs.Few.{at-nothing, at-letter, at-wedge}
 use borrow.Author.Needs.{needs}
 use Rattle.operators.proofs.parts.dot_wedge.Statement.{statement}
 use Rattle.operators.proofs.parts.dot_wedge.Tie as tie
-use Rattle.operators.proofs.parts.dot_wedge.Reads as reads
-use Rattle.operators.proofs.parts.dot_wedge.Lts as lts
-use Rattle.operators.proofs.parts.dot_wedges.Reads as dot-wedges-reads
-use Rattle.operators.proofs.parts.none.Reads as none-reads
-use Rattle.operators.proofs.parts.triple_alone.Reads as triple-alone-reads
 
--- src/parts.rt:165:26
 enum-told : tie.Need-enum-told
 enum-told c = search needs
 
--- src/parts.rt:165:26
 none-requires : tie.Need-none-requires
 none-requires c κs = search needs
 
--- src/parts.rt:166:22
 enum-known-q : tie.Need-enum-known-q
 enum-known-q c = search needs
 
--- src/parts.rt:166:28
 triple-alone-requires : tie.Need-triple-alone-requires
 triple-alone-requires c κs = search needs
 
--- src/parts.rt:167:21
 enum-known-q-2 : tie.Need-enum-known-q-2
 enum-known-q-2 c = search needs
 
--- src/parts.rt:167:30
 dot-wedges-requires : tie.Need-dot-wedges-requires
 dot-wedges-requires c κs = search needs
 
--- src/parts.rt:161:1
 returns : tie.Need-returns
 unfolding dotParts
 returns c = at-nothing (dotParts ((c .before .before .before .args .a) ∷ (c .before .before .before .args .b) ∷ [])) _ _ (c .before .enum-told .given .1) (c .none .ensures)
 
--- src/parts.rt:161:1
 returns-2 : tie.Need-returns-2
 unfolding dotParts
 returns-2 c = at-letter (dotParts ((c .before .before .before .before .args .a) ∷ (c .before .before .before .before .args .b) ∷ [])) _ _ _ (c .before .before .q .given .1) (c .triple-alone .ensures)
 
--- src/parts.rt:161:1
 returns-3 : tie.Need-returns-3
 unfolding dotParts
 returns-3 c = at-wedge (dotParts ((c .before .before .before .before .args .a) ∷ (c .before .before .before .before .args .b) ∷ [])) _ _ _ _ (c .before .before .q2 .given .1) (c .dot-wedges .ensures)

@@ -2,15 +2,10 @@ use Rattle.operators.specs.Parts.{listOf}
 use borrow.Author.Needs.{needs}
 use Rattle.operators.proofs.parts.none.Statement.{statement}
 use Rattle.operators.proofs.parts.none.Tie as tie
-use Rattle.operators.proofs.parts.none.Reads as reads
-use Rattle.operators.proofs.parts.none.Lts as lts
-use Rattle.operators.proofs.parts.alone.Reads as alone-reads
 
--- src/parts.rt:82:9
 alone-requires : tie.Need-alone-requires
 alone-requires c κs = search needs
 
--- src/parts.rt:78:1
 returns : tie.Need-returns
 unfolding listOf
 returns c = search needs

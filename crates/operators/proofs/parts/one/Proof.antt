@@ -3,10 +3,7 @@ use Rattle.terms.specs.Abstraction.{termOf}
 use borrow.Author.Needs.{needs}
 use Rattle.operators.proofs.parts.one.Statement.{statement}
 use Rattle.operators.proofs.parts.one.Tie as tie
-use Rattle.operators.proofs.parts.one.Reads as reads
-use Rattle.operators.proofs.parts.one.Lts as lts
 
--- src/parts.rt:91:1
 returns : tie.Need-returns
 unfolding listOf termOf
 returns c = search needs

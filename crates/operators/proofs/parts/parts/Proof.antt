@@ -3,47 +3,33 @@ use Rattle.operators.proofs.Few.{together-times, by-operation}
 use borrow.Author.Needs.{needs}
 use Rattle.operators.proofs.parts.parts.Statement.{statement}
 use Rattle.operators.proofs.parts.parts.Tie as tie
-use Rattle.operators.proofs.parts.parts.Reads as reads
-use Rattle.operators.proofs.parts.parts.Lts as lts
-use Rattle.operators.proofs.parts.dot_parts.Reads as dot-parts-reads
-use Rattle.operators.proofs.parts.times_parts.Reads as times-parts-reads
-use Rattle.operators.proofs.parts.wedge_parts.Reads as wedge-parts-reads
 
--- src/parts.rt:238:29
 enum-told : tie.Need-enum-told
 enum-told c = search needs
 
--- src/parts.rt:238:29
 times-parts-requires : tie.Need-times-parts-requires
 times-parts-requires c κs = together-times _ _ _ (c .enum-told .given .1) (c .before .before .pre)
 
--- src/parts.rt:239:27
 enum-told-2 : tie.Need-enum-told-2
 enum-told-2 c = search needs
 
--- src/parts.rt:239:27
 dot-parts-requires : tie.Need-dot-parts-requires
 dot-parts-requires c κs = search needs
 
--- src/parts.rt:240:29
 enum-told-3 : tie.Need-enum-told-3
 enum-told-3 c = search needs
 
--- src/parts.rt:240:29
 wedge-parts-requires : tie.Need-wedge-parts-requires
 wedge-parts-requires c κs = search needs
 
--- src/parts.rt:233:1
 returns : tie.Need-returns
 unfolding partsOf
 returns c = by-operation _ _ _ _ _ (c .before .enum-told .given .1) (c .times-parts .ensures)
 
--- src/parts.rt:233:1
 returns-2 : tie.Need-returns-2
 unfolding partsOf
 returns-2 c = by-operation _ _ _ _ _ (c .before .enum-told2 .given .1) (c .dot-parts .ensures)
 
--- src/parts.rt:233:1
 returns-3 : tie.Need-returns-3
 unfolding partsOf
 returns-3 c = by-operation _ _ _ _ _ (c .before .enum-told3 .given .1) (c .wedge-parts .ensures)

@@ -3,10 +3,7 @@ use Rattle.terms.specs.Abstraction.{termOf}
 use borrow.Author.Needs.{needs}
 use Rattle.operators.proofs.parts.two.Statement.{statement}
 use Rattle.operators.proofs.parts.two.Tie as tie
-use Rattle.operators.proofs.parts.two.Reads as reads
-use Rattle.operators.proofs.parts.two.Lts as lts
 
--- src/parts.rt:103:1
 returns : tie.Need-returns
 unfolding listOf termOf
 returns c = search needs

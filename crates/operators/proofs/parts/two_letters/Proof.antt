@@ -3,24 +3,16 @@ use Rattle.operators.proofs.Few.{two-made}
 use borrow.Author.Needs.{needs}
 use Rattle.operators.proofs.parts.two_letters.Statement.{statement}
 use Rattle.operators.proofs.parts.two_letters.Tie as tie
-use Rattle.operators.proofs.parts.two_letters.Reads as reads
-use Rattle.operators.proofs.parts.two_letters.Lts as lts
-use Rattle.operators.proofs.parts.two.Reads as two-reads
-use Rattle.operators.proofs.parts.with_factor.Reads as with-factor-reads
 
--- src/parts.rt:137:9
 with-factor-requires : tie.Need-with-factor-requires
 with-factor-requires c κs = search needs
 
--- src/parts.rt:137:31
 with-factor-requires-2 : tie.Need-with-factor-requires-2
 with-factor-requires-2 c κs = search needs
 
--- src/parts.rt:137:5
 two-requires : tie.Need-two-requires
 two-requires c κs = search needs
 
--- src/parts.rt:131:1
 returns : tie.Need-returns
 unfolding partOf
 returns c = two-made _ _ _ _ _ (c .before .before .with-factor .ensures) (c .before .with-factor2 .ensures) (c .two .ensures)

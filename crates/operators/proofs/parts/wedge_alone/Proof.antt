@@ -3,20 +3,13 @@ use Rattle.operators.proofs.Few.{one-made}
 use borrow.Author.Needs.{needs}
 use Rattle.operators.proofs.parts.wedge_alone.Statement.{statement}
 use Rattle.operators.proofs.parts.wedge_alone.Tie as tie
-use Rattle.operators.proofs.parts.wedge_alone.Reads as reads
-use Rattle.operators.proofs.parts.wedge_alone.Lts as lts
-use Rattle.operators.proofs.parts.alone.Reads as alone-reads
-use Rattle.operators.proofs.parts.one.Reads as one-reads
 
--- src/parts.rt:187:9
 alone-requires : tie.Need-alone-requires
 alone-requires c κs = search needs
 
--- src/parts.rt:187:5
 one-requires : tie.Need-one-requires
 one-requires c κs = search needs
 
--- src/parts.rt:183:1
 returns : tie.Need-returns
 unfolding partOf
 returns c = one-made _ _ _ (c .before .alone .ensures) (c .one .ensures)

@@ -1,63 +1,47 @@
 use Rattle.specification.specs.Reduction.{wedgeParts}
 use mathlib.Core.List.{[], _∷_}
-use Rattle.operators.proofs.Few.{two-factors}
-use Rattle.operators.proofs.Few.{at-nothing, at-letter, at-wedge}
+use Rattle.operators.proofs.Few.{two-factors, at-nothing, at-letter, at-wedge}
 use borrow.Author.Needs.{needs}
 use Rattle.operators.proofs.parts.wedge_letter.Statement.{statement}
 use Rattle.operators.proofs.parts.wedge_letter.Tie as tie
-use Rattle.operators.proofs.parts.wedge_letter.Reads as reads
-use Rattle.operators.proofs.parts.wedge_letter.Lts as lts
-use Rattle.operators.proofs.parts.none.Reads as none-reads
-use Rattle.operators.proofs.parts.two_letters.Reads as two-letters-reads
-use Rattle.operators.proofs.parts.wedge_alone.Reads as wedge-alone-reads
-use Rattle.terms.proofs.factors.dot_number.Reads as dot-number-reads
 
--- src/parts.rt:195:26
 enum-told : tie.Need-enum-told
 enum-told c = search needs
 
--- src/parts.rt:195:26
 none-requires : tie.Need-none-requires
 none-requires c κs = search needs
 
--- src/parts.rt:196:22
 enum-known-q : tie.Need-enum-known-q
 enum-known-q c = search needs
 
--- src/parts.rt:196:28
 wedge-alone-requires : tie.Need-wedge-alone-requires
 wedge-alone-requires c κs = search needs
 
--- src/parts.rt:197:21
 enum-known-q-2 : tie.Need-enum-known-q-2
 enum-known-q-2 c = search needs
 
--- src/parts.rt:197:42
 dot-number-requires : tie.Need-dot-number-requires
 dot-number-requires c κs = search needs
 
--- src/parts.rt:197:63
 dot-number-requires-2 : tie.Need-dot-number-requires-2
 dot-number-requires-2 c κs = search needs
 
--- src/parts.rt:197:30
 two-letters-requires : tie.Need-two-letters-requires
 two-letters-requires c κs = search needs
 
--- src/parts.rt:191:1
 returns : tie.Need-returns
 unfolding wedgeParts
 returns c = at-nothing (wedgeParts ((c .before .before .before .args .a) ∷ [])) _ _ (c .before .enum-told .given .1) (c .none .ensures)
 
--- src/parts.rt:191:1
 returns-2 : tie.Need-returns-2
 unfolding wedgeParts
 returns-2 c = at-letter (wedgeParts ((c .before .before .before .before .args .a) ∷ [])) _ _ _ (c .before .before .q .given .1) (c .wedge-alone .ensures)
 
--- src/parts.rt:191:1
 returns-3 : tie.Need-returns-3
 unfolding wedgeParts
-returns-3 c = at-wedge (wedgeParts ((c .before .before .before .before .before .before .args .a) ∷ [])) _ _ _ _ (c .before .before .before .before .q2 .given .1) (two-factors _ _ _ _ _ _ _ (c .before .before .dot-number .ensures) (c .before .dot-number2 .ensures) (c .two-letters .ensures))
+returns-3 c =
+    at-wedge (wedgeParts ((c .before .before .before .before .before .before .args .a) ∷ [])) _ _ _ _ (c .before .before .before .before .q2 .given .1)
+    (two-factors _ _ _ _ _ _ _ (c .before .before .dot-number .ensures) (c .before .dot-number2 .ensures) (c .two-letters .ensures))
 
 pub wedge-letter-spec : {M : Type 1} → statement M
 wedge-letter-spec =

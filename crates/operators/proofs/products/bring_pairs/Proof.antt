@@ -1,3 +1,4 @@
+-- `operators::products::bring_pairs`. The loop: the sum and the terms that wait are the products of the first k pairs. Assumes nothing.
 use mathlib.Core.Path.{_≡_, refl, sym, _∙_}
 use Prim.Native.Nat.{_+_, _*_, _-_, _≤_}
 use native.Mathlib.Omega.{arith}
@@ -40,25 +41,54 @@ loop-again : tie.Need-loop-again Inv-loop μ-loop
 loop-again c = let v = c .before .before .before .loop in (v .inv .0, listed-brought _ _ _ (v .k) (v .s) _ (v .ts) (v .count) (v .inv .1) (c .bring-all .ensures))
 
 div-t : tie.Need-div-t Inv-loop μ-loop
-div-t c = omega (arith, some (c .before .before .before .before .before .args .t2 .count) (c .before .before .before .before .before .args .t3 .count) (c .before .before .loop .k) (c .before .loop-test .taken))
+div-t c = let w = c .before .before .before .before .before in omega (arith, some (w .args .t2 .count) (w .args .t3 .count) (c .before .before .loop .k) (c .before .loop-test .taken))
 
 mul-t : tie.Need-mul-t Inv-loop μ-loop
-mul-t c = omega (arith, left-place (c .before .before .before .before .before .args .t2 .count) (c .before .before .before .before .before .args .t3 .count) (c .before .before .loop .k) (c .before .loop-test .taken), c .before .before .before .before .before .pre .0 .few)
+mul-t c =
+    let w = c .before .before .before .before .before in
+    omega (
+      arith,
+      left-place (w .args .t2 .count) (w .args .t3 .count) (c .before .before .loop .k) (c .before .loop-test .taken),
+      c .before .before .before .before .before .pre .0 .few,
+    )
 
 element-copy-out-t : tie.Need-element-copy-out-t Inv-loop μ-loop
-element-copy-out-t c = omega (arith, left-place (c .before .before .before .before .before .args .t2 .count) (c .before .before .before .before .before .args .t3 .count) (c .before .before .loop .k) (c .before .loop-test .taken), c .before .before .before .before .before .pre .0 .few)
+element-copy-out-t c =
+    let w = c .before .before .before .before .before in
+    omega (
+      arith,
+      left-place (w .args .t2 .count) (w .args .t3 .count) (c .before .before .loop .k) (c .before .loop-test .taken),
+      c .before .before .before .before .before .pre .0 .few,
+    )
 
 rem-u : tie.Need-rem-u Inv-loop μ-loop
-rem-u c = omega (arith, some (c .before .before .before .before .before .before .args .t2 .count) (c .before .before .before .before .before .before .args .t3 .count) (c .before .before .before .loop .k) (c .before .before .loop-test .taken))
+rem-u c =
+    let w = c .before .before .before .before .before .before in
+    omega (arith, some (w .args .t2 .count) (w .args .t3 .count) (c .before .before .before .loop .k) (c .before .before .loop-test .taken))
 
 mul-u : tie.Need-mul-u Inv-loop μ-loop
-mul-u c = omega (arith, right-place (c .before .before .before .before .before .before .args .t2 .count) (c .before .before .before .before .before .before .args .t3 .count) (c .before .before .before .loop .k) (c .before .before .loop-test .taken), c .before .before .before .before .before .before .pre .1 .few)
+mul-u c =
+    let w = c .before .before .before .before .before .before in
+    omega (
+      arith,
+      right-place (w .args .t2 .count) (w .args .t3 .count) (c .before .before .before .loop .k) (c .before .before .loop-test .taken),
+      c .before .before .before .before .before .before .pre .1 .few,
+    )
 
 element-copy-out-u : tie.Need-element-copy-out-u Inv-loop μ-loop
-element-copy-out-u c = omega (arith, right-place (c .before .before .before .before .before .before .args .t2 .count) (c .before .before .before .before .before .before .args .t3 .count) (c .before .before .before .loop .k) (c .before .before .loop-test .taken), c .before .before .before .before .before .before .pre .1 .few)
+element-copy-out-u c =
+    let w = c .before .before .before .before .before .before in
+    omega (
+      arith,
+      right-place (w .args .t2 .count) (w .args .t3 .count) (c .before .before .before .loop .k) (c .before .before .loop-test .taken),
+      c .before .before .before .before .before .before .pre .1 .few,
+    )
 
 pair-terms-requires : tie.Need-pair-terms-requires Inv-loop μ-loop
-pair-terms-requires c κs = let w = c .before .before .before .before .before .before .before in pair-fits _ (w .args .t2) (w .args .t3) (w .pre .0) (w .pre .1) (few-f w) (few-g w) (c .before .before .before .before .loop .k) (c .before .before .before .loop-test .taken) (w .pre .2)
+pair-terms-requires c κs =
+    let w = c .before .before .before .before .before .before .before in
+    pair-fits _ (w .args .t2) (w .args .t3) (w .pre .0) (w .pre .1) (few-f w) (few-g w) (c .before .before .before .before .loop .k)
+    (c .before .before .before .loop-test .taken) (w .pre .2)
 
 mul-ts : tie.Need-mul-ts Inv-loop μ-loop
 mul-ts c = omega arith
@@ -85,13 +115,23 @@ loop-less-2 : tie.Need-loop-less-2 Inv-loop μ-loop
 loop-less-2 c = omega (arith, c .before .before .before .pair-terms .ensures .few)
 
 loop-again-2 : tie.Need-loop-again-2 Inv-loop μ-loop
-loop-again-2 c = let w = c .before .before .before .before .before .before .before .before .before .before .before in let v = c .before .before .before .before .before .before .before .before .loop in (omega arith, listed-more _ (w .args .t2) (w .args .t3) (w .pre .0) (w .pre .1) (few-f w) (few-g w) (v .k) (c .before .before .before .before .before .before .before .loop-test .taken) (v .s) (v .ts) (v .count) _ (c .before .before .before .before .before .before .if1 .left) (v .inv .1) (c .before .before .before .pair-terms .ensures))
+loop-again-2 c =
+    let w = c .before .before .before .before .before .before .before .before .before .before .before in
+    let v = c .before .before .before .before .before .before .before .before .loop in (
+      omega arith,
+      listed-more _ (w .args .t2) (w .args .t3) (w .pre .0) (w .pre .1) (few-f w) (few-g w) (v .k)
+          (c .before .before .before .before .before .before .before .loop-test .taken) (v .s) (v .ts) (v .count) _
+          (c .before .before .before .before .before .before .if1 .left) (v .inv .1) (c .before .before .before .pair-terms .ensures),
+    )
 
 bring-all-requires-2 : tie.Need-bring-all-requires-2 Inv-loop μ-loop
 bring-all-requires-2 c κs = let v = c .before .loop .inv in (v .1 .valid, omega (arith, v .0, v .1 .few, c .before .before .before .before .pre .2 .count), v .1 .room, v .1 .bringable)
 
 returns : tie.Need-returns Inv-loop μ-loop
-returns c = let w = c .before .before .before .before .before in let v = c .before .before .loop in listed-all _ (w .args .t2) (w .args .t3) (v .s) _ (v .k) _ _ (few-f w) (few-g w) (c .before .loop-test .left) (v .inv .1) (c .bring-all2 .ensures)
+returns c =
+    let w = c .before .before .before .before .before in
+    let v = c .before .before .loop in
+    listed-all _ (w .args .t2) (w .args .t3) (v .s) _ (v .k) _ _ (few-f w) (few-g w) (c .before .loop-test .left) (v .inv .1) (c .bring-all2 .ensures)
 
 pub bring-pairs-spec : {M : Type 1} → statement M
 bring-pairs-spec =

@@ -2,10 +2,7 @@ use Rattle.terms.specs.Abstraction.{termOf, partOf}
 use borrow.Author.Needs.{needs}
 use Rattle.operators.proofs.products.scalars.Statement.{statement}
 use Rattle.operators.proofs.products.scalars.Tie as tie
-use Rattle.operators.proofs.products.scalars.Reads as reads
-use Rattle.operators.proofs.products.scalars.Lts as lts
 
--- src/products.rt:28:1
 returns : tie.Need-returns
 unfolding termOf partOf
 returns c = search needs

@@ -1,48 +1,38 @@
--- `polynomials::expansion::block_of` meets its contract. Assumes nothing.
-use borrow.Author.Needs.{needs}
+-- `polynomials::expansion::block_of` meets its contract: by the factor's case. Assumes nothing.
 use Rattle.polynomials.proofs.Pieces.{block-one, block-two, block-three}
+use borrow.Author.Needs.{needs}
 use Rattle.polynomials.proofs.expansion.block_of.Statement.{statement}
 use Rattle.polynomials.proofs.expansion.block_of.Tie as tie
 
-low-requires : tie.Need-low-requires
-low-requires c κs = search needs
+letters-of-requires : tie.Need-letters-of-requires
+letters-of-requires c κs = search needs
+
+enum-known-f : tie.Need-enum-known-f
+enum-known-f c = search needs
+
+enum-known-f-2 : tie.Need-enum-known-f-2
+enum-known-f-2 c = search needs
+
+enum-known-f-3 : tie.Need-enum-known-f-3
+enum-known-f-3 c = search needs
 
 returns : tie.Need-returns
-returns c = block-one _ _ (c .before .if1 .taken) (c .low .ensures)
-
-low-requires-2 : tie.Need-low-requires-2
-low-requires-2 c κs = search needs
-
-low-requires-3 : tie.Need-low-requires-3
-low-requires-3 c κs = search needs
+returns c = block-one _ _ (c .before .before .before .letters-of .ensures) _ (c .before .f .given .1)
 
 returns-2 : tie.Need-returns-2
-returns-2 c = block-two _ _ _ (c .before .before .before .if1 .left) (c .before .before .if2 .taken) (c .before .low2 .ensures) (c .low3 .ensures)
-
-low-requires-4 : tie.Need-low-requires-4
-low-requires-4 c κs = search needs
-
-low-requires-5 : tie.Need-low-requires-5
-low-requires-5 c κs = search needs
-
-low-requires-6 : tie.Need-low-requires-6
-low-requires-6 c κs = search needs
+returns-2 c = block-two _ _ (c .before .before .before .letters-of .ensures) _ _ (c .before .f2 .given .1)
 
 returns-3 : tie.Need-returns-3
-returns-3 c =
-    block-three _ _ _ _ (c .before .before .before .if2 .left) (c .before .before .before .before .before .pre) (c .before .before .low4 .ensures)
-    (c .before .low5 .ensures) (c .low6 .ensures)
+returns-3 c = block-three _ _ (c .before .before .before .letters-of .ensures) _ _ _ (c .before .f3 .given .1)
 
 pub block-of-spec : {M : Type 1} → statement M
 block-of-spec =
     tie.close
     (tie.spec
-    low-requires
+    letters-of-requires
+    enum-known-f
+    enum-known-f-2
+    enum-known-f-3
     returns
-    low-requires-2
-    low-requires-3
     returns-2
-    low-requires-4
-    low-requires-5
-    low-requires-6
     returns-3)

@@ -27,11 +27,11 @@ add-digit-4 c = search needs
 digit-requires-2 : tie.Need-digit-requires-2
 digit-requires-2 c κs = search needs
 
-sign-of-requires : tie.Need-sign-of-requires
-sign-of-requires c κs = search needs
+piece-sign-requires : tie.Need-piece-sign-requires
+piece-sign-requires c κs = search needs
 
 returns : tie.Need-returns
-returns c = cross-is _ _ _ _ _ _ _ _ (c .before .before .digit .ensures) (c .before .digit2 .ensures) (back-is (record { sfits = c .sign-of .ok }) ∙ c .sign-of .ensures)
+returns c = cross-is _ _ _ _ _ _ _ _ (c .before .before .digit .ensures) (c .before .digit2 .ensures) (back-is (record { sfits = c .piece-sign .ok }) ∙ c .piece-sign .ensures)
 
 pub cross-piece-spec : {M : Type 1} → statement M
 cross-piece-spec =
@@ -44,5 +44,5 @@ cross-piece-spec =
     mul-digit
     add-digit-4
     digit-requires-2
-    sign-of-requires
+    piece-sign-requires
     returns)

@@ -1,8 +1,7 @@
 -- `polynomials::expansion::piece_at` meets its contract. Assumes nothing.
 use native.Mathlib.Omega.{arith}
 use borrow.Author.Needs.{needs}
-use Rattle.polynomials.proofs.Pieces.{small-single, small-cross, few-dot, few-triple, few-cross, piece-zero, piece-one, piece-single, piece-dot}
-use Rattle.polynomials.proofs.Pieces.{piece-triple, piece-cross}
+use Rattle.polynomials.proofs.Pieces.{small-single, small-cross, few-dot, few-triple, few-cross, piece-zero, piece-one, piece-single, piece-dot, piece-triple, piece-cross}
 use Rattle.polynomials.proofs.expansion.piece_at.Statement.{statement}
 use Rattle.polynomials.proofs.expansion.piece_at.Tie as tie
 

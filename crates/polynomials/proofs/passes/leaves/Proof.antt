@@ -23,19 +23,19 @@ abbrev μ-loop : tie.MeasureT-loop
 returns : tie.Need-returns Inv-loop μ-loop
 returns c = none-some _ _ _ _ (c .if1 .taken)
 
-reduced-at-requires : tie.Need-reduced-at-requires Inv-loop μ-loop
-reduced-at-requires c κs = let w = c .before .before in (omega (arith, w .pre .0), w .pre .1 .digit, w .pre .1 .number, first-small _ _ _ _ (w .pre .0) (c .if1 .left) (w .pre .1))
+substituted-at-requires : tie.Need-substituted-at-requires Inv-loop μ-loop
+substituted-at-requires c κs = let w = c .before .before in (omega (arith, w .pre .0), w .pre .1 .digit, w .pre .1 .number, first-small _ _ _ _ (w .pre .0) (c .if1 .left) (w .pre .1))
 
 loop-holds : tie.Need-loop-holds Inv-loop μ-loop
 loop-holds c =
     let w = c .before .before .before .before in (
       omega arith,
-      pass-starts _ _ _ _ (w .pre .0) (c .before .before .if1 .left) (w .pre .1) _ _ (c .before .reduced-at .ensures)
+      pass-starts _ _ _ _ (w .pre .0) (c .before .before .if1 .left) (w .pre .1) _ _ (c .before .substituted-at .ensures)
           (back-is (record { sfits = c .struct-told .given .1 .0 .1 })),
     )
 
-reduced-at-requires-2 : tie.Need-reduced-at-requires-2 Inv-loop μ-loop
-reduced-at-requires-2 c κs =
+substituted-at-requires-2 : tie.Need-substituted-at-requires-2 Inv-loop μ-loop
+substituted-at-requires-2 c κs =
     let w = c .before .before .before .before .before .before in (
       omega (arith, w .pre .0),
       w .pre .1 .digit,
@@ -49,7 +49,7 @@ add-i c = omega arith
 add-requires : tie.Need-add-requires Inv-loop μ-loop
 add-requires c κs =
     sum-asks _ _ _ _ (c .before .before .before .before .before .before .before .before .before .before .pre .0) _ (c .before .before .before .before .loop-test .taken)
-    [] _ _ (c .before .before .before .before .before .loop .inv .1) _ (c .before .before .before .reduced-at2 .ensures) _
+    [] _ _ (c .before .before .before .before .before .loop .inv .1) _ (c .before .before .before .substituted-at2 .ensures) _
     (back-is (record { sfits = c .before .before .struct-told2 .given .1 .0 .1 }))
 
 loop-less : tie.Need-loop-less Inv-loop μ-loop
@@ -60,7 +60,7 @@ loop-again c = (
   omega arith,
   turn-like _ _ _ _ (c .before .before .before .before .before .before .before .before .before .before .before .pre .0) _
       (c .before .before .before .before .before .loop-test .taken) [] _ _ (c .before .before .before .before .before .before .loop .inv .1) _
-      (c .before .before .before .before .reduced-at2 .ensures) _ (back-is (record { sfits = c .before .before .before .struct-told2 .given .1 .0 .1 })) _
+      (c .before .before .before .before .substituted-at2 .ensures) _ (back-is (record { sfits = c .before .before .before .struct-told2 .given .1 .0 .1 })) _
       (c .before .if2 .taken) (back-is (record { sfits = c .add .ok }) ∙ c .add .ensures),
 )
 
@@ -71,7 +71,7 @@ returns-2 : tie.Need-returns-2 Inv-loop μ-loop
 returns-2 c =
     turn-some _ _ _ _ (c .before .before .before .before .before .before .before .before .before .before .before .before .pre .0) _
     (c .before .before .before .before .before .before .loop-test .taken) [] _ _ (c .before .before .before .before .before .before .before .loop .inv .1) _
-    (c .before .before .before .before .before .reduced-at2 .ensures) _ (back-is (record { sfits = c .before .before .before .before .struct-told2 .given .1 .0 .1 }))
+    (c .before .before .before .before .before .substituted-at2 .ensures) _ (back-is (record { sfits = c .before .before .before .before .struct-told2 .given .1 .0 .1 }))
     (c .before .before .if2 .left) (sym (c .before .is-zero .ensures) ∙ not-true _ (c .if3 .taken)) refl
 
 loop-less-2 : tie.Need-loop-less-2 Inv-loop μ-loop
@@ -82,7 +82,7 @@ loop-again-2 c = (
   omega arith,
   turn-zero _ _ _ _ (c .before .before .before .before .before .before .before .before .before .before .before .before .pre .0) _
       (c .before .before .before .before .before .before .loop-test .taken) [] _ _ (c .before .before .before .before .before .before .before .loop .inv .1) _
-      (c .before .before .before .before .before .reduced-at2 .ensures) _ (back-is (record { sfits = c .before .before .before .before .struct-told2 .given .1 .0 .1 }))
+      (c .before .before .before .before .before .substituted-at2 .ensures) _ (back-is (record { sfits = c .before .before .before .before .struct-told2 .given .1 .0 .1 }))
       (c .before .before .if2 .left) (sym (c .before .is-zero .ensures) ∙ not-false _ (c .if3 .left)),
 )
 
@@ -101,9 +101,9 @@ leaves-spec =
     Inv-loop
     μ-loop
     returns
-    reduced-at-requires
+    substituted-at-requires
     loop-holds
-    reduced-at-requires-2
+    substituted-at-requires-2
     add-i
     add-requires
     loop-less

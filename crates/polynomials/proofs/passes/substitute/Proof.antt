@@ -7,8 +7,7 @@ use mir.Val.{toZ}
 use mir.Syntax.{w64}
 use Rattle.integers.proofs.Machine.{back-is}
 use Rattle.polynomials.specs.Memory.{summands}
-use Rattle.polynomials.proofs.Turns.{Writing, write-none, write-starts, first-small, pass-starts, read-there, read-small, write-asks, write-like}
-use Rattle.polynomials.proofs.Turns.{place-there, write-apart, write-ends}
+use Rattle.polynomials.proofs.Turns.{Writing, write-none, write-starts, first-small, pass-starts, read-there, read-small, write-asks, write-like, place-there, write-apart, write-ends}
 use Rattle.polynomials.proofs.passes.substitute.Statement.{statement}
 use Rattle.polynomials.proofs.passes.substitute.Tie as tie
 
@@ -21,20 +20,20 @@ abbrev μ-loop : tie.MeasureT-loop
 returns : tie.Need-returns Inv-loop μ-loop
 returns c = write-none _ _ _ _ (c .if1 .taken)
 
-reduced-at-requires : tie.Need-reduced-at-requires Inv-loop μ-loop
-reduced-at-requires c κs = let w = c .before .before .before in (omega (arith, w .pre .0), w .pre .1 .digit, w .pre .1 .number, first-small _ _ _ _ (w .pre .0) (c .before .if1 .left) (w .pre .1))
+substituted-at-requires : tie.Need-substituted-at-requires Inv-loop μ-loop
+substituted-at-requires c κs = let w = c .before .before .before in (omega (arith, w .pre .0), w .pre .1 .digit, w .pre .1 .number, first-small _ _ _ _ (w .pre .0) (c .before .if1 .left) (w .pre .1))
 
 loop-holds : tie.Need-loop-holds Inv-loop μ-loop
 loop-holds c =
     let w = c .before .before .before .before .before in (
       refl,
       write-starts _ _ _ _ _ _ (c .before .before .before .if1 .left)
-          (pass-starts _ _ _ _ (w .pre .0) (c .before .before .before .if1 .left) (w .pre .1) _ _ (c .before .reduced-at .ensures)
+          (pass-starts _ _ _ _ (w .pre .0) (c .before .before .before .if1 .left) (w .pre .1) _ _ (c .before .substituted-at .ensures)
           (back-is (record { sfits = c .struct-told .given .1 .0 .1 }))),
     )
 
-reduced-at-requires-2 : tie.Need-reduced-at-requires-2 Inv-loop μ-loop
-reduced-at-requires-2 c κs =
+substituted-at-requires-2 : tie.Need-substituted-at-requires-2 Inv-loop μ-loop
+substituted-at-requires-2 c κs =
     let w = c .before .before .before .before .before .before .before .before in (
       read-there _ _ _ _ _ (c .before .before .before .before .before .before .before .before .pre .0) _ _ _ _ (c .before .before .loop .inv .1)
           (c .before .loop-test .taken),
@@ -51,7 +50,7 @@ add-requires : tie.Need-add-requires Inv-loop μ-loop
 add-requires c κs =
     write-asks _ _ _ _ _ (c .before .before .before .before .before .before .before .before .before .before .before .before .pre .0) _ _ _ _
     (c .before .before .before .before .before .before .loop .inv .1) (c .before .before .before .before .before .loop-test .taken) _
-    (c .before .before .before .reduced-at2 .ensures) _ (back-is (record { sfits = c .before .before .struct-told2 .given .1 .0 .1 }))
+    (c .before .before .before .substituted-at2 .ensures) _ (back-is (record { sfits = c .before .before .struct-told2 .given .1 .0 .1 }))
 
 loop-less : tie.Need-loop-less Inv-loop μ-loop
 loop-less c = omega arith
@@ -61,7 +60,7 @@ loop-again c = (
   c .before .before .before .before .before .before .before .loop .inv .0,
   write-like _ _ _ _ _ (c .before .before .before .before .before .before .before .before .before .before .before .before .before .pre .0) _ _ _ _
       (c .before .before .before .before .before .before .before .loop .inv .1) (c .before .before .before .before .before .before .loop-test .taken) _
-      (c .before .before .before .before .reduced-at2 .ensures) _ (back-is (record { sfits = c .before .before .before .struct-told2 .given .1 .0 .1 })) _
+      (c .before .before .before .before .substituted-at2 .ensures) _ (back-is (record { sfits = c .before .before .before .struct-told2 .given .1 .0 .1 })) _
       (c .before .if2 .taken) (back-is (record { sfits = c .add .ok }) ∙ c .add .ensures),
 )
 
@@ -79,7 +78,7 @@ loop-again-2 c = (
   write-apart _ _ _ _ _ (c .before .before .before .before .before .before .before .before .before .before .before .before .before .before .before .before .pre .0) _
       _ _ _ (c .before .before .before .before .before .before .before .before .before .before .loop .inv .1)
       (c .before .before .before .before .before .before .before .before .before .loop-test .taken) _
-      (c .before .before .before .before .before .before .before .reduced-at2 .ensures) _
+      (c .before .before .before .before .before .before .before .substituted-at2 .ensures) _
       (back-is (record { sfits = c .before .before .before .before .before .before .struct-told2 .given .1 .0 .1 })) _ _ (c .before .before .before .before .if2 .left)
       (c .before .before .keep .ensures),
 )
@@ -104,9 +103,9 @@ substitute-spec =
     Inv-loop
     μ-loop
     returns
-    reduced-at-requires
+    substituted-at-requires
     loop-holds
-    reduced-at-requires-2
+    substituted-at-requires-2
     add-i
     add-requires
     loop-less

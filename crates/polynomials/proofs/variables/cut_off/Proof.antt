@@ -1,8 +1,7 @@
 -- `polynomials::variables::cut_off` meets its contract: so much is cut, and the digits `k` are left. Assumes nothing.
 use mathlib.Core.Logic.{⊎-elim}
 use native.Mathlib.Omega.{arith}
-use Rattle.polynomials.proofs.Digits.{Cutting, cut-starts, cut-none, cut-same, cut-other, cut-last, cut-kept, count-few, product-most, place-most}
-use Rattle.polynomials.proofs.Digits.{counted-as}
+use Rattle.polynomials.proofs.Digits.{Cutting, cut-starts, cut-none, cut-same, cut-other, cut-last, cut-kept, count-few, product-most, place-most, counted-as}
 use Rattle.polynomials.proofs.variables.cut_off.Statement.{statement}
 use Rattle.polynomials.proofs.variables.cut_off.Tie as tie
 

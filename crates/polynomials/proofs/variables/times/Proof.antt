@@ -3,8 +3,8 @@ use mathlib.Core.Path.{_∙_}
 use Prim.Native.Nat.{_-_, _/_}
 use native.Mathlib.Omega.{arith}
 use Rattle.polynomials.specs.Keys.{placed}
-use Rattle.polynomials.proofs.Digits.{Put, put-starts, put-more, put-none, put-ends, ends-256, ends-sum, ends-product, goes-product, goes-sum}
-use Rattle.polynomials.proofs.Digits.{goes-place, put-goes, put-last, last-product, times-none, times-some, whole-small, nonzero}
+use Rattle.polynomials.proofs.Digits.{Put, put-starts, put-more, put-none, put-ends, ends-256, ends-sum, ends-product, goes-product, goes-sum, goes-place}
+use Rattle.polynomials.proofs.Digits.{put-goes, put-last, last-product, times-none, times-some, whole-small, nonzero}
 use Rattle.polynomials.proofs.variables.times.Statement.{statement}
 use Rattle.polynomials.proofs.variables.times.Tie as tie
 

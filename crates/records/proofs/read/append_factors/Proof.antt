@@ -1,3 +1,4 @@
+-- `records::read::append_factors`. The loop: the first i factors of the record stand behind those that were there, and the position is behind them. Assumes nothing.
 use mathlib.Core.Path.{_≡_}
 use Prim.Native.Nat.{_+_, _-_, _*_, _≤_}
 use native.Mathlib.Omega.{arith}
@@ -43,7 +44,13 @@ loop-less : tie.Need-loop-less Inv-loop μ-loop
 loop-less c = omega arith
 
 loop-again : tie.Need-loop-again Inv-loop μ-loop
-loop-again c = let inv = c .before .before .loop .inv in (omega arith, omega (arith, inv .1, suc-mul (c .before .before .loop .i) (c .before .before .before .before .args .size), add-one (c .before .before .loop .i)), search needs, listed-turn _ _ _ _ _ _ _ _ _ (inv .1) (c .factor-at .ensures) (omega arith) (inv .2) (inv .3))
+loop-again c =
+    let inv = c .before .before .loop .inv in (
+      omega arith,
+      omega (arith, inv .1, suc-mul (c .before .before .loop .i) (c .before .before .before .before .args .size), add-one (c .before .before .loop .i)),
+      search needs,
+      listed-turn _ _ _ _ _ _ _ _ _ (inv .1) (c .factor-at .ensures) (omega arith) (inv .2) (inv .3),
+    )
 
 returns : tie.Need-returns Inv-loop μ-loop
 returns c = let inv = c .before .loop .inv in let e : c .before .loop .i ≡ (c .before .before .before .args .count) = omega arith in (rw e at (inv .3), inv .2)

@@ -5,7 +5,6 @@ use Rattle.records.specs.Reading.{readOf}
 use Rattle.records.proofs.read.begin.Statement.{statement}
 use Rattle.records.proofs.read.begin.Tie as tie
 
--- src/read.rt:50:1
 returns : tie.Need-returns
 unfolding readOf termOf partOf
 returns c = (refl, record { few = omega arith; small = tt }, refl)

@@ -7,32 +7,26 @@ use borrow.Author.Needs.{needs}
 use Rattle.records.proofs.read.part_at.Statement.{statement}
 use Rattle.records.proofs.read.part_at.Tie as tie
 
--- src/read.rt:200:9
 returns : tie.Need-returns
 unfolding partOf
 returns c = let e = c .if1 .taken in rw e
 
--- src/read.rt:202:13
 shared-slice-read-x : tie.Need-shared-slice-read-x
 shared-slice-read-x c = search needs
 
--- src/read.rt:204:9
 returns-2 : tie.Need-returns-2
 unfolding partOf
 returns-2 c = let e = c .if2 .taken in rw (e, one-at (now (c .before .before .before .args .s)) (c .before .before .before .args .at) (omega arith))
 
--- src/read.rt:206:15
 add-y : tie.Need-add-y
 add-y c = search needs
 
--- src/read.rt:206:13
 shared-slice-read-y : tie.Need-shared-slice-read-y
 shared-slice-read-y c = search needs
 
--- src/read.rt:195:1
 returns-3 : tie.Need-returns-3
 unfolding partOf
-returns-3 c = let e : (c .before .before .before .before .args .n) ≡ 2 = omega arith in rw (e, two-at (now (c .before .before .before .before .args .s)) (c .before .before .before .before .args .at) (omega arith))
+returns-3 c = let w = c .before .before .before .before in let e : (w .args .n) ≡ 2 = omega arith in rw (e, two-at (now (w .args .s)) (w .args .at) (omega arith))
 
 pub part-at-spec : {M : Type 1} → statement M
 part-at-spec =

@@ -5,23 +5,18 @@ use borrow.Author.Needs.{needs}
 use Rattle.records.proofs.read.part_size.Statement.{statement}
 use Rattle.records.proofs.read.part_size.Tie as tie
 
--- src/read.rt:258:8
 bit-stands-requires : tie.Need-bit-stands-requires
 bit-stands-requires c κs = search needs
 
--- src/read.rt:259:9
 returns : tie.Need-returns
 returns c = (size-one _ (sym (c .before .bit-stands .ensures) ∙ c .if1 .taken), omega arith)
 
--- src/read.rt:261:8
 bit-stands-requires-2 : tie.Need-bit-stands-requires-2
 bit-stands-requires-2 c κs = search needs
 
--- src/read.rt:262:9
 returns-2 : tie.Need-returns-2
 returns-2 c = (size-two _ (sym (c .before .before .before .bit-stands .ensures) ∙ c .before .before .if1 .left) (sym (c .before .bit-stands2 .ensures) ∙ c .if2 .taken), omega arith)
 
--- src/read.rt:255:1
 returns-3 : tie.Need-returns-3
 returns-3 c = (size-none _ (sym (c .before .before .before .bit-stands .ensures) ∙ c .before .before .if1 .left) (sym (c .before .bit-stands2 .ensures) ∙ c .if2 .left), omega arith)
 

@@ -5,49 +5,48 @@ use borrow.Author.Needs.{needs}
 use Rattle.records.proofs.read.read_term.Statement.{statement}
 use Rattle.records.proofs.read.read_term.Tie as tie
 
--- src/read.rt:312:23
 begin-requires : tie.Need-begin-requires
 begin-requires c κs = search needs
 
--- src/read.rt:312:9
 refuse-requires : tie.Need-refuse-requires
 refuse-requires c κs = search needs
 
--- src/read.rt:312:9
 returns : tie.Need-returns
 returns c = record { is = c .refuse .ensures .0 ∙ term-behind _ _ (c .before .before .if1 .taken); counted = rw (c .refuse .ensures .1) (c .before .begin .ensures .1) }
 
--- src/read.rt:314:13
 shared-slice-read-m : tie.Need-shared-slice-read-m
 shared-slice-read-m c = search needs
 
--- src/read.rt:315:9
 bits-fit-requires : tie.Need-bits-fit-requires
 bits-fit-requires c κs = search needs
 
--- src/read.rt:316:23
 begin-requires-2 : tie.Need-begin-requires-2
 begin-requires-2 c κs = search needs
 
--- src/read.rt:316:9
 refuse-requires-2 : tie.Need-refuse-requires-2
 refuse-requires-2 c κs = search needs
 
--- src/read.rt:316:9
 returns-2 : tie.Need-returns-2
-returns-2 c = record { is = c .refuse2 .ensures .0 ∙ term-bad-bits _ _ (c .before .before .before .before .before .if1 .left) (sym (c .before .before .before .bits-fit .ensures) ∙ not-true _ (c .before .before .if2 .taken)); counted = rw (c .refuse2 .ensures .1) (c .before .begin2 .ensures .1) }
+returns-2 c =
+    record {
+      is = c .refuse2 .ensures .0 ∙ term-bad-bits _ _ (c .before .before .before .before .before .if1 .left)
+          (sym (c .before .before .before .bits-fit .ensures) ∙ not-true _ (c .before .before .if2 .taken));
+      counted = rw (c .refuse2 .ensures .1) (c .before .begin2 .ensures .1);
+    }
 
--- src/read.rt:318:20
 add-read-fields : tie.Need-add-read-fields
 add-read-fields c = search needs
 
--- src/read.rt:318:5
 read-fields-requires : tie.Need-read-fields-requires
 read-fields-requires c κs = search needs
 
--- src/read.rt:308:1
 returns-3 : tie.Need-returns-3
-returns-3 c = record { is = c .read-fields .ensures .is ∙ term-fields _ _ (c .before .before .before .before .if1 .left) (sym (c .before .before .bits-fit .ensures) ∙ not-false _ (c .before .if2 .left)); counted = c .read-fields .ensures .counted }
+returns-3 c =
+    record {
+      is = c .read-fields .ensures .is ∙ term-fields _ _ (c .before .before .before .before .if1 .left)
+          (sym (c .before .before .bits-fit .ensures) ∙ not-false _ (c .before .if2 .left));
+      counted = c .read-fields .ensures .counted;
+    }
 
 pub read-term-spec : {M : Type 1} → statement M
 read-term-spec =

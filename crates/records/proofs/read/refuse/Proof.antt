@@ -3,7 +3,6 @@ use Rattle.records.specs.Reading.{readOf}
 use Rattle.records.proofs.read.refuse.Statement.{statement}
 use Rattle.records.proofs.read.refuse.Tie as tie
 
--- src/read.rt:69:1
 returns : tie.Need-returns
 unfolding readOf
 returns c = (refl, refl)

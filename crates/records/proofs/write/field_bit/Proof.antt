@@ -1,5 +1,5 @@
 -- `records::field_bit` meets its contract: a field is there exactly where the position moved. Assumes nothing.
-use Rattle.records.proofs.Letters.{moved-bit, still-bit}
+use Rattle.records.proofs.Bits.{moved-bit, still-bit}
 use Rattle.records.proofs.write.field_bit.Statement.{statement}
 use Rattle.records.proofs.write.field_bit.Tie as tie
 

@@ -1,7 +1,7 @@
 -- `records::part_bit` meets its contract: a bit for each kind of vector part. Assumes nothing.
 use borrow.Author.Needs.{needs}
 use Rattle.specification.specs.Records.{partBit}
-use Rattle.records.proofs.Letters.{nothing-is, letter-is, wedge-is}
+use Rattle.terms.proofs.Letters.{nothing-is, letter-is, wedge-is}
 use Rattle.records.proofs.write.part_bit.Statement.{statement}
 use Rattle.records.proofs.write.part_bit.Tie as tie
 

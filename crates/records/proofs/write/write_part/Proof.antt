@@ -5,7 +5,7 @@ use native.Mathlib.Omega.{arith}
 use native.Mathlib.Numerals.{towards-suc}
 use lib.ListN.{length, length-set}
 use borrow.Author.Needs.{needs}
-use Rattle.records.proofs.Letters.{nothing-is, letter-is, wedge-is}
+use Rattle.terms.proofs.Letters.{nothing-is, letter-is, wedge-is}
 use Rattle.records.proofs.Writes.{written-none, written-stores}
 use Rattle.records.proofs.write.write_part.Statement.{statement}
 use Rattle.records.proofs.write.write_part.Tie as tie

@@ -3,7 +3,7 @@ use mathlib.Core.Path.{_≡_, _∙_}
 use native.Mathlib.Omega.{arith}
 use lib.ListN.{length, length-set}
 use Rattle.terms.specs.Abstraction.{partOf}
-use Rattle.records.proofs.Letters.{part-bit-small}
+use Rattle.records.proofs.Bits.{part-bit-small}
 use Rattle.records.proofs.Terms.{fields-short, term-written}
 use Rattle.records.proofs.write.write_term.Statement.{statement}
 use Rattle.records.proofs.write.write_term.Tie as tie

@@ -4,51 +4,41 @@ use Rattle.reduction.proofs.Single.{constant-back, constant-nine, const
 use borrow.Author.Needs.{needs}
 use Rattle.reduction.proofs.leaves.constant.Statement.{statement}
 use Rattle.reduction.proofs.leaves.constant.Tie as tie
-use Rattle.reduction.proofs.leaves.constant.Reads as reads
-use Rattle.reduction.proofs.leaves.constant.Lts as lts
-use Rattle.integers.proofs.is_zero.Reads as is-zero-reads
-use Rattle.integers.proofs.within.Reads as within-reads
-use Rattle.operators.proofs.answers.refuse.Reads as refuse-reads
-use Rattle.reduction.proofs.leaves.alone.Reads as alone-reads
-use Rattle.reduction.proofs.leaves.bare.Reads as bare-reads
 
--- src/leaves.rt:77:9
 within-requires : tie.Need-within-requires
 within-requires c κs = search needs
 
--- src/leaves.rt:78:9
 refuse-requires : tie.Need-refuse-requires
 refuse-requires c κs = search needs
 
--- src/leaves.rt:78:9
 returns : tie.Need-returns
 returns c = constant-back _ _ (c .before .before .before .fits .k) (constant-nine _ _ _ (c .before .before .within .ensures) (not-true _ (c .before .if1 .taken)) (c .refuse .ensures))
 
--- src/leaves.rt:81:9
 bare-requires : tie.Need-bare-requires
 bare-requires c κs = search needs
 
--- src/leaves.rt:82:8
 is-zero-requires : tie.Need-is-zero-requires
 is-zero-requires c κs = search needs
 
--- src/leaves.rt:83:9
 alone-requires : tie.Need-alone-requires
 alone-requires c κs = search needs
 
--- src/leaves.rt:83:9
 returns-2 : tie.Need-returns-2
 unfolding partOf
-returns-2 c = constant-back _ _ (c .before .before .before .before .before .before .fits .k) (constant-zero _ _ _ (c .before .before .before .before .before .within .ensures) (not-false _ (c .before .before .before .before .if1 .left)) (c .before .before .is-zero .ensures) _ _ (c .before .if2 .taken) (c .before .before .before .bare .ensures) (c .alone .ensures))
+returns-2 c =
+    constant-back _ _ (c .before .before .before .before .before .before .fits .k)
+    (constant-zero _ _ _ (c .before .before .before .before .before .within .ensures) (not-false _ (c .before .before .before .before .if1 .left))
+    (c .before .before .is-zero .ensures) _ _ (c .before .if2 .taken) (c .before .before .before .bare .ensures) (c .alone .ensures))
 
--- src/leaves.rt:85:5
 alone-requires-2 : tie.Need-alone-requires-2
 alone-requires-2 c κs = search needs
 
--- src/leaves.rt:74:1
 returns-3 : tie.Need-returns-3
 unfolding partOf
-returns-3 c = constant-back _ _ (c .before .before .before .before .before .before .fits .k) (constant-one _ _ _ (c .before .before .before .before .before .within .ensures) (not-false _ (c .before .before .before .before .if1 .left)) (c .before .before .is-zero .ensures) _ _ (c .before .if2 .left) (c .before .before .before .bare .ensures) (c .alone2 .ensures))
+returns-3 c =
+    constant-back _ _ (c .before .before .before .before .before .before .fits .k)
+    (constant-one _ _ _ (c .before .before .before .before .before .within .ensures) (not-false _ (c .before .before .before .before .if1 .left))
+    (c .before .before .is-zero .ensures) _ _ (c .before .if2 .left) (c .before .before .before .bare .ensures) (c .alone2 .ensures))
 
 pub constant-spec : {M : Type 1} → statement M
 constant-spec =

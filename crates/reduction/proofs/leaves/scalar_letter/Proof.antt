@@ -5,19 +5,13 @@ use native.Mathlib.Omega.{arith}
 use borrow.Author.Needs.{needs}
 use Rattle.reduction.proofs.leaves.scalar_letter.Statement.{statement}
 use Rattle.reduction.proofs.leaves.scalar_letter.Tie as tie
-use Rattle.reduction.proofs.leaves.scalar_letter.Reads as reads
-use Rattle.reduction.proofs.leaves.scalar_letter.Lts as lts
-use Rattle.terms.proofs.factors.scalar_number.Reads as scalar-number-reads
 
--- src/leaves.rt:39:12
 scalar-number-requires : tie.Need-scalar-number-requires
 scalar-number-requires c κs = search needs
 
--- src/leaves.rt:39:5
 array-write-f : tie.Need-array-write-f
 array-write-f c = search needs
 
--- src/leaves.rt:35:1
 returns : tie.Need-returns
 unfolding termOf partOf
 returns c = record { is = λ i. plus ((c .scalar-number .ensures .letters) i ∷ []) []; counted = record { few = omega arith; small = ((c .scalar-number .ensures .small), tt) } }

@@ -2,31 +2,22 @@ use Rattle.reduction.proofs.Heads.{no-token, no-bytes, all-bytes}
 use borrow.Author.Needs.{needs}
 use Rattle.reduction.proofs.tokens.test_bytes.Statement.{statement}
 use Rattle.reduction.proofs.tokens.test_bytes.Tie as tie
-use Rattle.reduction.proofs.tokens.test_bytes.Reads as reads
-use Rattle.reduction.proofs.tokens.test_bytes.Lts as lts
-use Rattle.reduction.proofs.tokens.token_bytes.Reads as token-bytes-reads
 
--- src/tokens.rt:40:9
 returns : tie.Need-returns
 returns c = no-token _ _ (c .if1 .taken)
 
--- src/tokens.rt:42:25
 shared-slice-read-token-bytes : tie.Need-shared-slice-read-token-bytes
 shared-slice-read-token-bytes c = search needs
 
--- src/tokens.rt:42:9
 token-bytes-requires : tie.Need-token-bytes-requires
 token-bytes-requires c κs = search needs
 
--- src/tokens.rt:43:8
 sub-if2 : tie.Need-sub-if2
 sub-if2 c = search needs
 
--- src/tokens.rt:44:9
 returns-2 : tie.Need-returns-2
 returns-2 c = no-bytes _ _ _ (c .before .before .before .if1 .left) (c .before .token-bytes .ensures .0) (c .if2 .taken)
 
--- src/tokens.rt:35:1
 returns-3 : tie.Need-returns-3
 returns-3 c = all-bytes _ _ _ (c .before .before .before .if1 .left) (c .before .token-bytes .ensures .0) (c .if2 .left)
 

@@ -1,14 +1,10 @@
 use Rattle.reduction.proofs.Heads.{in-table, not-in-table}
 use Rattle.reduction.proofs.tokens.test_in_table.Statement.{statement}
 use Rattle.reduction.proofs.tokens.test_in_table.Tie as tie
-use Rattle.reduction.proofs.tokens.test_in_table.Reads as reads
-use Rattle.reduction.proofs.tokens.test_in_table.Lts as lts
 
--- src/tokens.rt:54:9
 returns : tie.Need-returns
 returns c = in-table _ _ (c .if1 .taken)
 
--- src/tokens.rt:50:1
 returns-2 : tie.Need-returns-2
 returns-2 c = not-in-table _ _ (c .if1 .left)
 

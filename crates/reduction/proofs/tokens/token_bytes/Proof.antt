@@ -2,22 +2,16 @@ use native.Mathlib.Omega.{arith}
 use Rattle.reduction.proofs.Heads.{bytes-letter, bytes-constant, bytes-operator}
 use Rattle.reduction.proofs.tokens.token_bytes.Statement.{statement}
 use Rattle.reduction.proofs.tokens.token_bytes.Tie as tie
-use Rattle.reduction.proofs.tokens.token_bytes.Reads as reads
-use Rattle.reduction.proofs.tokens.token_bytes.Lts as lts
 
--- src/tokens.rt:12:1
 returns : tie.Need-returns
 returns c = bytes-letter _ (c .match .keys1)
 
--- src/tokens.rt:12:1
 returns-2 : tie.Need-returns-2
 returns-2 c = bytes-constant _ (c .match .keys2)
 
--- src/tokens.rt:12:1
 returns-3 : tie.Need-returns-3
 returns-3 c = bytes-operator _ (λ e. omega (arith, c .match .keys3)) (λ e. omega (arith, c .match .keys3))
 
--- src/tokens.rt:12:1
 returns-4 : tie.Need-returns-4
 returns-4 c = bytes-operator _ (c .match .rest .0 .0 .1) (c .match .rest .0 .1)
 

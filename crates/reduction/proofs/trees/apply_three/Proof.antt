@@ -2,30 +2,28 @@ use Rattle.reduction.specs.Trees.{Sound}
 use Rattle.reduction.proofs.Levels.{first-refused, second-refused, third-refused, triple-worked}
 use Rattle.reduction.proofs.trees.apply_three.Statement.{statement}
 use Rattle.reduction.proofs.trees.apply_three.Tie as tie
-use Rattle.reduction.proofs.trees.apply_three.Reads as reads
-use Rattle.reduction.proofs.trees.apply_three.Lts as lts
-use Rattle.operators.proofs.products.triple.Reads as triple-reads
 
--- src/trees.rt:108:9
 returns : tie.Need-returns
 returns c = first-refused _ _ _ (c .if1 .taken)
 
--- src/trees.rt:111:9
 returns-2 : tie.Need-returns-2
 returns-2 c = second-refused _ _ _ (c .before .before .if1 .left) (c .if2 .taken)
 
--- src/trees.rt:114:9
 returns-3 : tie.Need-returns-3
 returns-3 c = third-refused _ _ _ (c .before .before .before .before .if1 .left) (c .before .before .if2 .left) (c .if3 .taken)
 
--- src/trees.rt:119:5
 triple-requires : tie.Need-triple-requires
 unfolding Sound
-triple-requires c κs = ((c .before .before .before .before .before .before .before .before .before .pre .0) (c .before .before .before .before .before .before .before .if1 .left), (c .before .before .before .before .before .before .before .before .before .pre .1) (c .before .before .before .before .before .if2 .left), (c .before .before .before .before .before .before .before .before .before .pre .2) (c .before .before .before .if3 .left))
+triple-requires c κs = (
+  (c .before .before .before .before .before .before .before .before .before .pre .0) (c .before .before .before .before .before .before .before .if1 .left),
+  (c .before .before .before .before .before .before .before .before .before .pre .1) (c .before .before .before .before .before .if2 .left),
+  (c .before .before .before .before .before .before .before .before .before .pre .2) (c .before .before .before .if3 .left),
+)
 
--- src/trees.rt:103:1
 returns-4 : tie.Need-returns-4
-returns-4 c = triple-worked _ _ _ _ (c .before .before .before .before .before .before .before .before .if1 .left) (c .before .before .before .before .before .before .if2 .left) (c .before .before .before .before .if3 .left) (c .triple .ensures)
+returns-4 c =
+    triple-worked _ _ _ _ (c .before .before .before .before .before .before .before .before .if1 .left) (c .before .before .before .before .before .before .if2 .left)
+    (c .before .before .before .before .if3 .left) (c .triple .ensures)
 
 pub apply-three-spec : {M : Type 1} → statement M
 apply-three-spec = tie.close (tie.spec returns returns-2 returns-3 triple-requires returns-4)

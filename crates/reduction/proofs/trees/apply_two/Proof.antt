@@ -2,24 +2,20 @@ use Rattle.reduction.specs.Trees.{Sound}
 use Rattle.reduction.proofs.Levels.{left-refused, right-refused, both-worked}
 use Rattle.reduction.proofs.trees.apply_two.Statement.{statement}
 use Rattle.reduction.proofs.trees.apply_two.Tie as tie
-use Rattle.reduction.proofs.trees.apply_two.Reads as reads
-use Rattle.reduction.proofs.trees.apply_two.Lts as lts
-use Rattle.reduction.proofs.trees.operate.Reads as operate-reads
 
--- src/trees.rt:92:9
 returns : tie.Need-returns
 returns c = left-refused _ _ _ (c .if1 .taken)
 
--- src/trees.rt:95:9
 returns-2 : tie.Need-returns-2
 returns-2 c = right-refused _ _ _ (c .before .before .if1 .left) (c .if2 .taken)
 
--- src/trees.rt:99:5
 operate-requires : tie.Need-operate-requires
 unfolding Sound
-operate-requires c κs = ((c .before .before .before .before .before .before .pre .0) (c .before .before .before .before .if1 .left), (c .before .before .before .before .before .before .pre .1) (c .before .before .if2 .left))
+operate-requires c κs = (
+  (c .before .before .before .before .before .before .pre .0) (c .before .before .before .before .if1 .left),
+  (c .before .before .before .before .before .before .pre .1) (c .before .before .if2 .left),
+)
 
--- src/trees.rt:87:1
 returns-3 : tie.Need-returns-3
 returns-3 c = both-worked _ _ _ _ (c .before .before .before .before .before .if1 .left) (c .before .before .before .if2 .left) (c .operate .ensures)
 

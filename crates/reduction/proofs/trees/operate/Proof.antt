@@ -3,62 +3,46 @@ use Rattle.reduction.proofs.Levels.{either-way, operates-sum, operates-
 use borrow.Author.Needs.{needs}
 use Rattle.reduction.proofs.trees.operate.Statement.{statement}
 use Rattle.reduction.proofs.trees.operate.Tie as tie
-use Rattle.reduction.proofs.trees.operate.Reads as reads
-use Rattle.reduction.proofs.trees.operate.Lts as lts
-use Rattle.operators.proofs.answers.refuse.Reads as refuse-reads
-use Rattle.operators.proofs.products.dot.Reads as dot-reads
-use Rattle.operators.proofs.products.times.Reads as times-reads
-use Rattle.operators.proofs.products.wedge.Reads as wedge-reads
-use Rattle.operators.proofs.sums.difference.Reads as difference-reads
-use Rattle.operators.proofs.sums.sum.Reads as sum-reads
 
--- src/trees.rt:61:14
 sum-requires : tie.Need-sum-requires
 sum-requires c κs = search needs
 
--- src/trees.rt:62:14
 difference-requires : tie.Need-difference-requires
 difference-requires c κs = search needs
 
--- src/trees.rt:63:14
 times-requires : tie.Need-times-requires
 times-requires c κs = search needs
 
--- src/trees.rt:64:14
 dot-requires : tie.Need-dot-requires
 dot-requires c κs = search needs
 
--- src/trees.rt:65:14
 wedge-requires : tie.Need-wedge-requires
 wedge-requires c κs = search needs
 
--- src/trees.rt:66:32
 refuse-requires : tie.Need-refuse-requires
 refuse-requires c κs = search needs
 
--- src/trees.rt:56:1
 returns : tie.Need-returns
 returns c = operates-sum _ _ _ _ (c .before .match .keys1) (c .sum .ensures)
 
--- src/trees.rt:56:1
 returns-2 : tie.Need-returns-2
 returns-2 c = operates-difference _ _ _ _ (c .before .match .keys2) (c .difference .ensures)
 
--- src/trees.rt:56:1
 returns-3 : tie.Need-returns-3
 returns-3 c = operates-times _ _ _ _ (c .before .match .keys3) (c .times .ensures)
 
--- src/trees.rt:56:1
 returns-4 : tie.Need-returns-4
 returns-4 c = operates-dot _ _ _ _ (c .before .match .keys4) (c .dot .ensures)
 
--- src/trees.rt:56:1
 returns-5 : tie.Need-returns-5
 returns-5 c = operates-wedge _ _ _ _ (c .before .match .keys5) (c .wedge .ensures)
 
--- src/trees.rt:56:1
 returns-6 : tie.Need-returns-6
-returns-6 c = either-way (c .before .match .came) (λ k. operates-none _ _ _ _ (λ e. omega (arith, k .keys6)) (λ e. omega (arith, k .keys6)) (λ e. omega (arith, k .keys6)) (λ e. omega (arith, k .keys6)) (λ e. omega (arith, k .keys6)) (c .refuse .ensures)) (λ k. operates-none _ _ _ _ (k .rest .0 .0 .0 .0 .0 .1) (k .rest .0 .0 .0 .0 .1) (k .rest .0 .0 .0 .1) (k .rest .0 .0 .1) (k .rest .0 .1) (c .refuse .ensures))
+returns-6 c =
+    either-way (c .before .match .came)
+    (λ k. operates-none _ _ _ _ (λ e. omega (arith, k .keys6)) (λ e. omega (arith, k .keys6)) (λ e. omega (arith, k .keys6)) (λ e. omega (arith, k .keys6))
+    (λ e. omega (arith, k .keys6)) (c .refuse .ensures))
+    (λ k. operates-none _ _ _ _ (k .rest .0 .0 .0 .0 .0 .1) (k .rest .0 .0 .0 .0 .1) (k .rest .0 .0 .0 .1) (k .rest .0 .0 .1) (k .rest .0 .1) (c .refuse .ensures))
 
 pub operate-spec : {M : Type 1} → statement M
 operate-spec =

@@ -5,7 +5,7 @@ use native.Mathlib.Omega.{arith}
 use lib.ListN.{length, take, drop}
 use denote.Ref.{now}
 use borrow.Author.Needs.{needs}
-use Rattle.records.specs.Tested.{testOf}
+use Rattle.letters.specs.Tested.{testOf}
 use Rattle.specification.specs.Letters.{vector, testLetters}
 use Rattle.rules.proofs.Alone.{letters-stop, letters-pass, letters-end}
 use Rattle.rules.proofs.admissible.test_rule_letters.Statement.{statement}
@@ -30,7 +30,11 @@ test-letter-requires : tie.Need-test-letter-requires Inv-loop μ-loop
 test-letter-requires c κs = tt
 
 returns : tie.Need-returns Inv-loop μ-loop
-returns c = letters-stop (now (c .before .before .before .before .before .args .table)) (c .before .before .before .before .before .args .t2) (c .before .before .before .before .before .args .n) (c .before .before .before .loop .i) (omega (arith, long (c .before .before .before .before .before), c .before .before .before .before .before .pre)) _ (c .before .before .loop-test .taken) (c .before .test-letter .ensures) (c .if1 .taken) ∙ sym (c .before .before .before .loop .inv .1)
+returns c =
+    let w = c .before .before .before .before .before in
+    letters-stop (now (w .args .table)) (w .args .t2) (w .args .n) (c .before .before .before .loop .i)
+    (omega (arith, long (c .before .before .before .before .before), c .before .before .before .before .before .pre)) _ (c .before .before .loop-test .taken)
+    (c .before .test-letter .ensures) (c .if1 .taken) ∙ sym (c .before .before .before .loop .inv .1)
 
 add-i : tie.Need-add-i Inv-loop μ-loop
 add-i c = omega arith
@@ -39,11 +43,21 @@ loop-less : tie.Need-loop-less Inv-loop μ-loop
 loop-less c = omega arith
 
 loop-again : tie.Need-loop-again Inv-loop μ-loop
-loop-again c = (omega arith, c .before .before .before .loop .inv .1 ∙ letters-pass (now (c .before .before .before .before .before .args .table)) (c .before .before .before .before .before .args .t2) (c .before .before .before .before .before .args .n) (c .before .before .before .loop .i) (omega (arith, long (c .before .before .before .before .before), c .before .before .before .before .before .pre)) _ (c .before .before .loop-test .taken) (c .before .test-letter .ensures) (c .if1 .left))
+loop-again c =
+    let w = c .before .before .before .before .before in (
+      omega arith,
+      c .before .before .before .loop .inv .1 ∙ letters-pass (now (w .args .table)) (w .args .t2) (w .args .n) (c .before .before .before .loop .i)
+          (omega (arith, long (c .before .before .before .before .before), c .before .before .before .before .before .pre)) _ (c .before .before .loop-test .taken)
+          (c .before .test-letter .ensures) (c .if1 .left),
+    )
 
 returns-2 : tie.Need-returns-2 Inv-loop μ-loop
 unfolding testOf
-returns-2 c = sym (letters-end (now (c .before .before .before .args .table)) (c .before .before .before .args .t2) (c .before .before .before .args .n) (c .before .loop .i) (omega (arith, long (c .before .before .before), c .before .before .before .pre)) (c .loop-test .left)) ∙ sym (c .before .loop .inv .1)
+returns-2 c =
+    let w = c .before .before .before in
+    sym
+    (letters-end (now (w .args .table)) (w .args .t2) (w .args .n) (c .before .loop .i)
+    (omega (arith, long (c .before .before .before), c .before .before .before .pre)) (c .loop-test .left)) ∙ sym (c .before .loop .inv .1)
 
 pub test-rule-letters-spec : {M : Type 1} → statement M
 test-rule-letters-spec =

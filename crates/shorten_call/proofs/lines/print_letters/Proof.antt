@@ -9,7 +9,7 @@ use borrow.Author.Needs.{needs}
 use Rattle.specification.specs.Printing.{printLetter}
 use Rattle.terms.proofs.Arrays.{all-at}
 use Rattle.records.proofs.Writes.{written-stores}
-use Rattle.printing.proofs.Progress.{UnderWay, begins, goes-on, ended}
+use Rattle.symbols.proofs.Progress.{UnderWay, begins, goes-on, ended}
 use Rattle.shorten_call.proofs.Texts.{lettersFrom, letter-next, letters-end}
 use Rattle.shorten_call.proofs.lines.print_letters.Statement.{statement}
 use Rattle.shorten_call.proofs.lines.print_letters.Tie as tie

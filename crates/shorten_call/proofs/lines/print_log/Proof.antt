@@ -5,22 +5,23 @@ use native.Mathlib.Omega.{arith}
 use lib.ListN.{length, take}
 use borrow.Rule.Slice.PartMut.{mid-len, same-len-mid}
 use borrow.Author.Needs.{needs}
-use Rattle.shortening.specs.Writing.{stepsOf}
-use Rattle.shortening.proofs.WrittenLogs.{taken-few}
+use Rattle.specification.specs.Printing.{lineBytes}
+use Rattle.logs.specs.Steps.{stepsOf}
+use Rattle.logs.proofs.WrittenLogs.{taken-few}
 use Rattle.shorten_call.proofs.Texts.{line-short, steps-short, log-written}
 use Rattle.shorten_call.proofs.lines.print_log.Statement.{statement}
 use Rattle.shorten_call.proofs.lines.print_log.Tie as tie
 
 -- the start, as seen from behind the first form
 abbrev from-first : tie.After-print-line → tie.Start
-from-first c = c .before .before .before .before
+from-first c = c .before .before .before
 
 -- and from behind the steps
 abbrev from-steps : tie.After-print-steps → tie.Start
 from-steps c = from-first (c .before .before .before .before)
 
--- the line of the first form ends within 1393 bytes
-first-end : (c : tie.After-print-line) → c .print-line .result ≤ 1393
+-- the line of the first form ends within the bytes of a line
+first-end : (c : tie.After-print-line) → c .print-line .result ≤ lineBytes
 first-end c = let s = from-first c in omega (arith, c .print-line .ensures .ends, line-short (s .args .f) (s .pre .0 .valid))
 
 -- neither call changes the length
@@ -32,22 +33,22 @@ end : (c : tie.After-print-steps) → c .print-steps .result ≤ 4033
 unfolding stepsOf
 end c =
     let s = from-steps c in
-    let d = s .args .d in
+    let q = s .args .q in
     omega (
       arith,
       first-end (c .before .before .before .before),
       c .print-steps .ensures .ends,
-      steps-short (take (d .count) (d .steps)) (s .pre .1 .steps),
-      taken-few (d .count) (d .steps),
+      steps-short (take (q .count) (q .steps)) (s .pre .1 .steps),
+      taken-few (q .count) (q .steps),
       s .pre .1 .few,
     )
 
 -- and leave room for the last form
-room : (c : tie.After-print-steps) → c .print-steps .result + 1393 ≤ length (c .print-steps .last .0)
+room : (c : tie.After-print-steps) → c .print-steps .result + lineBytes ≤ length (c .print-steps .last .0)
 room c = omega (arith, end c, steps-kept c, from-steps c .pre .3)
 
 print-line-requires : tie.Need-print-line-requires
-print-line-requires c κs = let s = c .before .before .before in (s .pre .0, omega (arith, s .pre .3))
+print-line-requires c κs = let s = c .before .before in (s .pre .0, omega (arith, s .pre .3))
 
 print-steps-requires : tie.Need-print-steps-requires
 print-steps-requires c κs =
@@ -74,7 +75,7 @@ add-result : tie.Need-add-result
 add-result c =
     let w = c .before .before .before .before .before .before in
     let s = from-steps w in
-    omega (arith, c .before .before .print-line2 .ensures .ends, line-short (s .args .d .last) (s .pre .2 .valid), end w)
+    omega (arith, c .before .before .print-line2 .ensures .ends, line-short (s .args .g) (s .pre .2 .valid), end w)
 
 same-length : tie.Need-same-length
 same-length c =

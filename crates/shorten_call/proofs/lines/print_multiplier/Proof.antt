@@ -9,7 +9,7 @@ use borrow.Author.Needs.{needs}
 use Rattle.terms.specs.Abstraction.{termOf}
 use Rattle.records.specs.Written.{Written}
 use Rattle.records.proofs.Writes.{written-stores}
-use Rattle.shorten_call.specs.Text.{printMultiplier}
+use Rattle.specification.specs.Printing.{printMultiplier}
 use Rattle.shorten_call.proofs.Texts.{multiplier-written}
 use Rattle.shorten_call.proofs.lines.print_multiplier.Statement.{statement}
 use Rattle.shorten_call.proofs.lines.print_multiplier.Tie as tie

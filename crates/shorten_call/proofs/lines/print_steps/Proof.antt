@@ -1,12 +1,11 @@
 -- `shorten_call::lines::print_steps` meets its contract: before each turn the steps from i on are left, with 55 bytes of room for each. Assumes nothing.
-use mathlib.Core.Path.{_≡_, sym, _∙_}
 use Prim.Native.Nat.{_+_, _-_, _*_, _≤_}
 use native.Mathlib.Omega.{arith}
-use lib.ListN.{length, length-map, getD}
+use lib.ListN.{length, getD}
 use Rattle.terms.proofs.Arrays.{all-at}
-use Rattle.checker.proofs.StepRecords.{noStep}
-use Rattle.shortening.specs.Writing.{stepsOf}
-use Rattle.printing.proofs.Progress.{UnderWay, begins, goes-on, ended}
+use Rattle.logs.proofs.StepRecords.{noStep}
+use Rattle.logs.specs.Steps.{stepsOf}
+use Rattle.symbols.proofs.Progress.{UnderWay, begins, goes-on, ended}
 use Rattle.shorten_call.specs.Printed.{StepPrintable}
 use Rattle.shorten_call.proofs.Texts.{stepsFrom, step-text-short, step-next, steps-end}
 use Rattle.shorten_call.proofs.lines.print_steps.Statement.{statement}
@@ -18,13 +17,9 @@ Inv-loop out₀ at d n next₀ i₀ out next i = (next + 55 * (n - i) ≤ length
 abbrev μ-loop : tie.MeasureT-loop
 μ-loop out₀ at d n next₀ i₀ out next i = n - i
 
--- there are 48 places
-places : (c : tie.Start Inv-loop μ-loop) → length (c .args .t3 .steps) ≡ 48
-places c = sym (length-map (c .args .t3 .steps) _) ∙ c .good .1 .1 .0 .1 .1 .1 .0 .1 .0 .1
-
--- so that the steps are among them
+-- the steps are among the places
 few : (c : tie.Start Inv-loop μ-loop) → c .args .t3 .count ≤ length (c .args .t3 .steps)
-few c = omega (arith, places c, c .pre .0 .few)
+few c = omega (arith, c .pre .0 .long, c .pre .0 .few)
 
 loop-holds : tie.Need-loop-holds Inv-loop μ-loop
 loop-holds c = (omega (arith, c .before .pre .1), begins _ _ _)

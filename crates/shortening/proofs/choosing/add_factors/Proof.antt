@@ -1,3 +1,4 @@
+-- `shortening::choosing::add_factors`. The loop: the letters of the factors from factor i on are in the pool. Assumes nothing.
 use Rattle.shortening.proofs.choosing.add_factors.Statement.{statement}
 use Rattle.shortening.proofs.choosing.add_factors.Tie as tie
 use native.Mathlib.Omega.{arith}
@@ -34,7 +35,10 @@ element-copy-out-add-factor : tie.Need-element-copy-out-add-factor Inv-loop μ-l
 element-copy-out-add-factor c = let w = c .before .before .before in omega (arith, w .pre .2, w .pre .3)
 
 add-factor-requires : tie.Need-add-factor-requires Inv-loop μ-loop
-add-factor-requires c κs = let v = c .before .before .before .loop in let w = c .before .before .before .before in (v .inv .1 .few, v .inv .1 .places, all-at (λ k. k < 16843008) (now (w .args .f)) (w .args .count) _ 0 (few w) (omega (arith, v .inv .0)) (w .pre .4))
+add-factor-requires c κs =
+    let v = c .before .before .before .loop in
+    let w = c .before .before .before .before in
+    (v .inv .1 .few, v .inv .1 .places, all-at (λ k. k < 16843008) (now (w .args .f)) (w .args .count) _ 0 (few w) (omega (arith, v .inv .0)) (w .pre .4))
 
 loop-less : tie.Need-loop-less Inv-loop μ-loop
 loop-less c = omega arith
@@ -45,11 +49,17 @@ loop-again c = let v = c .before .before .before .before .loop in
     let next : v .i ≡ v .i - 1 + 1 = omega (arith, c .before .before .before .loop-test .taken) in (
       omega (arith, v .inv .0),
       factors-more (now (w .args .f)) (w .args .count) (v .i - 1) (few w) (omega (arith, v .inv .0, c .before .before .before .loop-test .taken))
-          (subst (λ (n : ℕ). Adds (joined (map lettersOf (drop n (take (w .args .count) (now (w .args .f)))))) (now (w .args .pool)) (w .args .n) (v .pool) (v .c)) next (v .inv .1)) (c .add-factor .ensures),
+          (subst (λ (n : ℕ). Adds (joined (map lettersOf (drop n (take (w .args .count) (now (w .args .f)))))) (now (w .args .pool)) (w .args .n) (v .pool) (v .c)) next
+          (v .inv .1)) (c .add-factor .ensures),
     )
 
 returns : tie.Need-returns Inv-loop μ-loop
-returns c = let v = c .before .loop in let w = c .before .before in let none : v .i ≡ 0 = omega (arith, c .loop-test .left) in subst (λ (n : ℕ). Adds (joined (map lettersOf (drop n (take (w .args .count) (now (w .args .f)))))) (now (w .args .pool)) (w .args .n) (v .pool) (v .c)) none (v .inv .1)
+returns c =
+    let v = c .before .loop in
+    let w = c .before .before in
+    let none : v .i ≡ 0 = omega (arith, c .loop-test .left) in
+    subst (λ (n : ℕ). Adds (joined (map lettersOf (drop n (take (w .args .count) (now (w .args .f)))))) (now (w .args .pool)) (w .args .n) (v .pool) (v .c)) none
+    (v .inv .1)
 
 pub add-factors-spec : {M : Type 1} → statement M
 add-factors-spec =

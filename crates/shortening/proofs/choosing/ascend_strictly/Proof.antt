@@ -1,3 +1,4 @@
+-- `shortening::choosing::ascend_strictly`. The loop: the numbers ascend strictly exactly if those from number i on do. Assumes nothing.
 use Rattle.shortening.proofs.choosing.ascend_strictly.Statement.{statement}
 use Rattle.shortening.proofs.choosing.ascend_strictly.Tie as tie
 use native.Mathlib.Omega.{arith}
@@ -40,7 +41,10 @@ element-copy-out-if1-2 : tie.Need-element-copy-out-if1-2 Inv-loop μ-loop
 element-copy-out-if1-2 c = let w = c .before .before .before in omega (arith, w .pre .0, w .pre .1)
 
 returns : tie.Need-returns Inv-loop μ-loop
-returns c = let w = c .before .before .before .before .before in let v = c .before .before .before .before .loop in sym (sym (v .inv .1) ∙ ascend-stops (now (w .args .f)) (w .args .n) (v .i) (few w) (c .before .before .before .loop-test .taken) (c .if1 .taken))
+returns c =
+    let w = c .before .before .before .before .before in
+    let v = c .before .before .before .before .loop in
+    sym (sym (v .inv .1) ∙ ascend-stops (now (w .args .f)) (w .args .n) (v .i) (few w) (c .before .before .before .loop-test .taken) (c .if1 .taken))
 
 add-i : tie.Need-add-i Inv-loop μ-loop
 add-i c = omega (arith, c .before .before .before .before .loop .inv .0)
@@ -49,7 +53,12 @@ loop-less : tie.Need-loop-less Inv-loop μ-loop
 loop-less c = omega (arith, c .before .before .before .loop-test .taken)
 
 loop-again : tie.Need-loop-again Inv-loop μ-loop
-loop-again c = let w = c .before .before .before .before .before in let v = c .before .before .before .before .loop in (omega (arith, c .before .before .before .loop-test .taken, w .pre .0), sym (ascend-more (now (w .args .f)) (w .args .n) (v .i) (few w) (c .before .before .before .loop-test .taken) (c .if1 .left)) ∙ v .inv .1)
+loop-again c =
+    let w = c .before .before .before .before .before in
+    let v = c .before .before .before .before .loop in (
+      omega (arith, c .before .before .before .loop-test .taken, w .pre .0),
+      sym (ascend-more (now (w .args .f)) (w .args .n) (v .i) (few w) (c .before .before .before .loop-test .taken) (c .if1 .left)) ∙ v .inv .1,
+    )
 
 returns-2 : tie.Need-returns-2 Inv-loop μ-loop
 returns-2 c = let w = c .before .before in let v = c .before .loop in sym (ascend-ends (now (w .args .f)) (w .args .n) (v .i) (few w) (c .loop-test .left)) ∙ v .inv .1

@@ -1,3 +1,4 @@
+-- `shortening::choosing::take_by_mask`. The loop: the numbers taken are those of the first i at which the mask has a 1. Assumes nothing.
 use Rattle.shortening.proofs.choosing.take_by_mask.Statement.{statement}
 use Rattle.shortening.proofs.choosing.take_by_mask.Tie as tie
 use native.Mathlib.Omega.{arith}
@@ -54,7 +55,11 @@ loop-again c = let w = c .before .before .before in
     )
 
 returns : tie.Need-returns Inv-loop μ-loop
-returns c = let w = c .before .before in let v = c .before .loop in under-all (now (w .args .from)) (w .args .n) (w .args .mask) (few w) (w .pre .0) (v .to) (v .b) (v .c) (v .i) (omega (arith, c .loop-test .left, v .inv .0)) (v .inv .1)
+returns c =
+    let w = c .before .before in
+    let v = c .before .loop in
+    under-all (now (w .args .from)) (w .args .n) (w .args .mask) (few w) (w .pre .0) (v .to) (v .b) (v .c) (v .i) (omega (arith, c .loop-test .left, v .inv .0))
+    (v .inv .1)
 
 pub take-by-mask-spec : {M : Type 1} → statement M
 take-by-mask-spec =

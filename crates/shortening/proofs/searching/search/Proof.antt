@@ -1,3 +1,4 @@
+-- `shortening::searching::search`. The loop: no place passed so far, from the first on, is a step to fewer terms. Assumes nothing.
 use Rattle.shortening.proofs.searching.search.Statement.{statement}
 use Rattle.shortening.proofs.searching.search.Tie as tie
 use native.Mathlib.Omega.{arith}
@@ -43,26 +44,50 @@ element-copy-out-t : tie.Need-element-copy-out-t Inv-loop μ-loop
 element-copy-out-t c = omega (arith, c .before .before .before .before .pre .0 .few, c .loop-test .taken)
 
 next-candidate-requires : tie.Need-next-candidate-requires Inv-loop μ-loop
-next-candidate-requires c κs = let w = c .before .before .before .before .before .before in (c .before .before .before .before .mark-form .ensures .1, term-valid (w .args .t2) (w .pre .0) (places w) (c .before .before .before .loop .at / 40960) (omega (arith, c .before .before .loop-test .taken)), omega arith)
+next-candidate-requires c κs =
+    let w = c .before .before .before .before .before .before in (
+      c .before .before .before .before .mark-form .ensures .1,
+      term-valid (w .args .t2) (w .pre .0) (places w) (c .before .before .before .loop .at / 40960) (omega (arith, c .before .before .loop-test .taken)),
+      omega arith,
+    )
 
 mul-at-2 : tie.Need-mul-at-2 Inv-loop μ-loop
 mul-at-2 c = omega (arith, c .before .before .before .before .before .before .before .pre .0 .few, c .before .before .before .loop-test .taken)
 
 add-at : tie.Need-add-at Inv-loop μ-loop
-add-at c = omega (arith, c .before .before .before .before .before .before .before .before .pre .0 .few, c .before .before .before .before .loop-test .taken, c .before .next-candidate .ensures .inside)
+add-at c =
+    omega (
+      arith,
+      c .before .before .before .before .before .before .before .before .pre .0 .few,
+      c .before .before .before .before .loop-test .taken,
+      c .before .next-candidate .ensures .inside,
+    )
 
 step-at-requires : tie.Need-step-at-requires Inv-loop μ-loop
 step-at-requires c κs = (c .before .before .before .before .before .before .before .before .before .before .pre .0, c .before .before .before .next-candidate .ensures .counted)
 
 place-in-requires : tie.Need-place-in-requires Inv-loop μ-loop
-place-in-requires c κs = let w = c .before .before .before .before .before .before .before .before .before .before .before .before .before .before .before .before in (c .before .before .before .before .before .step-at .ensures .valid (c .before .before .if2 .taken), term-valid (w .args .t2) (w .pre .0) (places w) (c .before .before .before .before .before .before .before .before .before .before .before .before .before .loop .at / 40960) (omega (arith, c .before .before .before .before .before .before .before .before .before .before .before .before .loop-test .taken)) .counted)
+place-in-requires c κs =
+    let w = c .before .before .before .before .before .before .before .before .before .before .before .before .before .before .before .before in (
+      c .before .before .before .before .before .step-at .ensures .valid (c .before .before .if2 .taken),
+      term-valid (w .args .t2) (w .pre .0) (places w)
+          (c .before .before .before .before .before .before .before .before .before .before .before .before .before .loop .at / 40960)
+          (omega (arith, c .before .before .before .before .before .before .before .before .before .before .before .before .loop-test .taken)) .counted,
+    )
 
 returns : tie.Need-returns Inv-loop μ-loop
 unfolding SearchedBy
-returns c = let w = c .before .before .before .before .before .before .before .before .before .before .before .before .before .before .before .before .before in shorter (now (w .args .table)) (w .args .t2) (w .pre .0) (places w) _ _ (c .before .before .before .before .before .before .step-at .ensures) (c .before .before .before .if2 .taken) (reached-places (c .before .before .before .before .before .before)) (c .before .if3 .taken) (c .before .before .before .before .before .before .before .before .before .before .next-candidate .ensures .counted) _ (c .place-in .ensures)
+returns c =
+    let w = c .before .before .before .before .before .before .before .before .before .before .before .before .before .before .before .before .before in
+    shorter (now (w .args .table)) (w .args .t2) (w .pre .0) (places w) _ _ (c .before .before .before .before .before .before .step-at .ensures)
+    (c .before .before .before .if2 .taken) (reached-places (c .before .before .before .before .before .before)) (c .before .if3 .taken)
+    (c .before .before .before .before .before .before .before .before .before .before .next-candidate .ensures .counted) _ (c .place-in .ensures .inside)
 
 loop-less : tie.Need-loop-less Inv-loop μ-loop
-loop-less c = let n = c .before .before .before .before .before .before .before .before .before .next-candidate .ensures in let v = c .before .before .before .before .before .before .before .before .before .before .before .before .before .loop in omega (arith, c .before .before .before .before .before .before .before .before .before .before .before .before .loop-test .taken, n .forward, n .inside)
+loop-less c =
+    let n = c .before .before .before .before .before .before .before .before .before .next-candidate .ensures in
+    let v = c .before .before .before .before .before .before .before .before .before .before .before .before .before .loop in
+    omega (arith, c .before .before .before .before .before .before .before .before .before .before .before .before .loop-test .taken, n .forward, n .inside)
 
 loop-again : tie.Need-loop-again Inv-loop μ-loop
 unfolding formOf
@@ -71,12 +96,20 @@ loop-again c = let w = c .before .before .before .before .before .before .before
     let v = c .before .before .before .before .before .before .before .before .before .before .before .before .before .loop in
     let marks = c .before .before .before .before .before .before .before .before .before .before .before .before .before .before .mark-form .result in
     let inside : v .at / 40960 < f .count = omega (arith, c .before .before .before .before .before .before .before .before .before .before .before .before .loop-test .taken) in
-    row-more marks (now (w .args .table)) (formOf f) (w .args .first) (v .at) (v .at / 40960) (c .before .before .before .before .before .before .before .before .before .next-candidate .result) (w .pre .0 .inShape) (c .before .before .before .before .before .before .before .before .before .before .before .before .before .before .mark-form .ensures .0) refl (v .inv)
-    (subst (λ (t : S.Term). NextPlace marks (f .kind) t (v .at % 40960) (c .before .before .before .before .before .before .before .before .before .next-candidate .result)) (term-is f (w .pre .0) (places w) (v .at / 40960) inside) (c .before .before .before .before .before .before .before .before .before .next-candidate .ensures))
-    (long-useless (now (w .args .table)) f (w .pre .0) (places w) _ _ (c .before .before .before .before .before .step-at .ensures) (c .before .before .if2 .taken) (reached-places (c .before .before .before .before .before)) _ (c .if3 .left))
+    row-more marks (now (w .args .table)) (formOf f) (w .args .first) (v .at) (v .at / 40960)
+    (c .before .before .before .before .before .before .before .before .before .next-candidate .result) (w .pre .0 .inShape)
+    (c .before .before .before .before .before .before .before .before .before .before .before .before .before .before .mark-form .ensures .0) refl (v .inv)
+    (subst
+    (λ (t : S.Term). NextPlace marks (f .kind) t (v .at % 40960) (c .before .before .before .before .before .before .before .before .before .next-candidate .result))
+    (term-is f (w .pre .0) (places w) (v .at / 40960) inside) (c .before .before .before .before .before .before .before .before .before .next-candidate .ensures))
+    (long-useless (now (w .args .table)) f (w .pre .0) (places w) _ _ (c .before .before .before .before .before .step-at .ensures) (c .before .before .if2 .taken)
+    (reached-places (c .before .before .before .before .before)) _ (c .if3 .left))
 
 loop-less-2 : tie.Need-loop-less-2 Inv-loop μ-loop
-loop-less-2 c = let n = c .before .before .before .before .before .before .before .next-candidate .ensures in let v = c .before .before .before .before .before .before .before .before .before .before .before .loop in omega (arith, c .before .before .before .before .before .before .before .before .before .before .loop-test .taken, n .forward, n .inside)
+loop-less-2 c =
+    let n = c .before .before .before .before .before .before .before .next-candidate .ensures in
+    let v = c .before .before .before .before .before .before .before .before .before .before .before .loop in
+    omega (arith, c .before .before .before .before .before .before .before .before .before .before .loop-test .taken, n .forward, n .inside)
 
 loop-again-2 : tie.Need-loop-again-2 Inv-loop μ-loop
 unfolding formOf
@@ -85,12 +118,17 @@ loop-again-2 c = let w = c .before .before .before .before .before .before .befo
     let v = c .before .before .before .before .before .before .before .before .before .before .before .loop in
     let marks = c .before .before .before .before .before .before .before .before .before .before .before .before .mark-form .result in
     let inside : v .at / 40960 < f .count = omega (arith, c .before .before .before .before .before .before .before .before .before .before .loop-test .taken) in
-    row-more marks (now (w .args .table)) (formOf f) (w .args .first) (v .at) (v .at / 40960) (c .before .before .before .before .before .before .before .next-candidate .result) (w .pre .0 .inShape) (c .before .before .before .before .before .before .before .before .before .before .before .before .mark-form .ensures .0) refl (v .inv)
-    (subst (λ (t : S.Term). NextPlace marks (f .kind) t (v .at % 40960) (c .before .before .before .before .before .before .before .next-candidate .result)) (term-is f (w .pre .0) (places w) (v .at / 40960) inside) (c .before .before .before .before .before .before .before .next-candidate .ensures))
+    row-more marks (now (w .args .table)) (formOf f) (w .args .first) (v .at) (v .at / 40960)
+    (c .before .before .before .before .before .before .before .next-candidate .result) (w .pre .0 .inShape)
+    (c .before .before .before .before .before .before .before .before .before .before .before .before .mark-form .ensures .0) refl (v .inv)
+    (subst (λ (t : S.Term). NextPlace marks (f .kind) t (v .at % 40960) (c .before .before .before .before .before .before .before .next-candidate .result))
+    (term-is f (w .pre .0) (places w) (v .at / 40960) inside) (c .before .before .before .before .before .before .before .next-candidate .ensures))
     (refused-useless (now (w .args .table)) f (w .pre .0) (places w) _ _ (c .before .before .before .step-at .ensures) _ (c .if2 .left))
 
 loop-less-3 : tie.Need-loop-less-3 Inv-loop μ-loop
-loop-less-3 c = let n = c .before .before .next-candidate .ensures in let v = c .before .before .before .before .before .before .loop in omega (arith, c .before .before .before .before .before .loop-test .taken, n .forward, n .inside)
+loop-less-3 c =
+    let n = c .before .before .next-candidate .ensures in
+    let v = c .before .before .before .before .before .before .loop in omega (arith, c .before .before .before .before .before .loop-test .taken, n .forward, n .inside)
 
 loop-again-3 : tie.Need-loop-again-3 Inv-loop μ-loop
 unfolding formOf
@@ -99,8 +137,10 @@ loop-again-3 c = let w = c .before .before .before .before .before .before .befo
     let v = c .before .before .before .before .before .before .loop in
     let marks = c .before .before .before .before .before .before .before .mark-form .result in
     let inside : v .at / 40960 < f .count = omega (arith, c .before .before .before .before .before .loop-test .taken) in
-    row-more marks (now (w .args .table)) (formOf f) (w .args .first) (v .at) (v .at / 40960) (c .before .before .next-candidate .result) (w .pre .0 .inShape) (c .before .before .before .before .before .before .before .mark-form .ensures .0) refl (v .inv)
-    (subst (λ (t : S.Term). NextPlace marks (f .kind) t (v .at % 40960) (c .before .before .next-candidate .result)) (term-is f (w .pre .0) (places w) (v .at / 40960) inside) (c .before .before .next-candidate .ensures))
+    row-more marks (now (w .args .table)) (formOf f) (w .args .first) (v .at) (v .at / 40960) (c .before .before .next-candidate .result) (w .pre .0 .inShape)
+    (c .before .before .before .before .before .before .before .mark-form .ensures .0) refl (v .inv)
+    (subst (λ (t : S.Term). NextPlace marks (f .kind) t (v .at % 40960) (c .before .before .next-candidate .result))
+    (term-is f (w .pre .0) (places w) (v .at / 40960) inside) (c .before .before .next-candidate .ensures))
     (not-found (now (w .args .table)) (formOf f) _ _ (c .if1 .left))
 
 no-step-requires : tie.Need-no-step-requires Inv-loop μ-loop
@@ -108,7 +148,10 @@ no-step-requires c κs = tt
 
 returns-2 : tie.Need-returns-2 Inv-loop μ-loop
 unfolding SearchedBy
-returns-2 c = let w = c .before .before .before .before .before in row-searched (w .args .t2) (w .pre .0) (places w) (now (w .args .table)) (w .args .first) (c .before .before .loop .at) _ refl (c .before .loop-test .left) (c .before .before .loop .inv)
+returns-2 c =
+    let w = c .before .before .before .before .before in
+    row-searched (w .args .t2) (w .pre .0) (places w) (now (w .args .table)) (w .args .first) (c .before .before .loop .at) _ refl (c .before .loop-test .left)
+    (c .before .before .loop .inv)
 
 pub search-spec : {M : Type 1} → statement M
 search-spec =

@@ -3,27 +3,21 @@ use borrow.Author.Needs.{needs}
 use Rattle.terms.proofs.factors.dot_number.Statement.{statement}
 use Rattle.terms.proofs.factors.dot_number.Tie as tie
 
--- src/factors.rt:24:17
 wide-requires : tie.Need-wide-requires
 wide-requires c κs = search needs
 
--- src/factors.rt:24:11
 mul-result : tie.Need-mul-result
 mul-result c = search needs
 
--- src/factors.rt:24:5
 add-result : tie.Need-add-result
 add-result c = search needs
 
--- src/factors.rt:24:27
 wide-requires-2 : tie.Need-wide-requires-2
 wide-requires-2 c κs = search needs
 
--- src/factors.rt:24:5
 add-result-2 : tie.Need-add-result-2
 add-result-2 c = search needs
 
--- src/factors.rt:21:1
 returns : tie.Need-returns
 returns c = two-letters _ _ _ _ (c .before .wide .ensures) (c .wide2 .ensures)
 

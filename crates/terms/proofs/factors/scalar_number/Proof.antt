@@ -3,11 +3,9 @@ use borrow.Author.Needs.{needs}
 use Rattle.terms.proofs.factors.scalar_number.Statement.{statement}
 use Rattle.terms.proofs.factors.scalar_number.Tie as tie
 
--- src/factors.rt:17:5
 wide-requires : tie.Need-wide-requires
 wide-requires c κs = search needs
 
--- src/factors.rt:14:1
 returns : tie.Need-returns
 returns c = one-letter _ _ (c .wide .ensures)
 

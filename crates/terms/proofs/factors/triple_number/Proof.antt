@@ -3,39 +3,30 @@ use borrow.Author.Needs.{needs}
 use Rattle.terms.proofs.factors.triple_number.Statement.{statement}
 use Rattle.terms.proofs.factors.triple_number.Tie as tie
 
--- src/factors.rt:31:21
 wide-requires : tie.Need-wide-requires
 wide-requires c κs = search needs
 
--- src/factors.rt:31:13
 mul-result : tie.Need-mul-result
 mul-result c = search needs
 
--- src/factors.rt:31:5
 add-result : tie.Need-add-result
 add-result c = search needs
 
--- src/factors.rt:31:37
 wide-requires-2 : tie.Need-wide-requires-2
 wide-requires-2 c κs = search needs
 
--- src/factors.rt:31:31
 mul-result-2 : tie.Need-mul-result-2
 mul-result-2 c = search needs
 
--- src/factors.rt:31:5
 add-result-2 : tie.Need-add-result-2
 add-result-2 c = search needs
 
--- src/factors.rt:31:47
 wide-requires-3 : tie.Need-wide-requires-3
 wide-requires-3 c κs = search needs
 
--- src/factors.rt:31:5
 add-result-3 : tie.Need-add-result-3
 add-result-3 c = search needs
 
--- src/factors.rt:28:1
 returns : tie.Need-returns
 returns c = three-letters _ _ _ _ _ _ (c .before .before .wide .ensures) (c .before .wide2 .ensures) (c .wide3 .ensures)
 

@@ -1,3 +1,4 @@
+-- `terms::order::compare_factors`. The loop: the first k factors agree, so the first difference is among those from factor k on. Assumes nothing.
 use mathlib.Core.Path.{_≡_, refl, sym, _∙_}
 use Prim.Native.Nat.{_-_, _≤_}
 use native.Mathlib.Omega.{arith}
@@ -38,7 +39,9 @@ element-copy-out-if1-2 c = omega (arith, c .before .before .before .pre .1, c .b
 
 returns : tie.Need-returns Inv-loop μ-loop
 unfolding orderingOf
-returns c = let w = c .before .before .before .before in sym (w .loop .inv .1 ∙ first-less _ _ _ _ (len-f (w .before)) (len-g (w .before)) (c .before .before .before .loop-test .taken) (c .if1 .taken))
+returns c =
+    let w = c .before .before .before .before in
+    sym (w .loop .inv .1 ∙ first-less _ _ _ _ (len-f (w .before)) (len-g (w .before)) (c .before .before .before .loop-test .taken) (c .if1 .taken))
 
 mul-if2 : tie.Need-mul-if2 Inv-loop μ-loop
 mul-if2 c = omega arith
@@ -54,7 +57,11 @@ element-copy-out-if2-2 c = omega (arith, c .before .before .before .before .befo
 
 returns-2 : tie.Need-returns-2 Inv-loop μ-loop
 unfolding orderingOf
-returns-2 c = let w = c .before .before .before .before .before .before .before in sym (w .loop .inv .1 ∙ first-more _ _ _ _ (len-f (w .before)) (len-g (w .before)) (c .before .before .before .before .before .before .loop-test .taken) (c .if2 .taken))
+returns-2 c =
+    let w = c .before .before .before .before .before .before .before in
+    sym
+    (w .loop .inv .1 ∙ first-more _ _ _ _ (len-f (w .before)) (len-g (w .before)) (c .before .before .before .before .before .before .loop-test .taken)
+    (c .if2 .taken))
 
 add-k : tie.Need-add-k Inv-loop μ-loop
 add-k c = omega arith
@@ -63,7 +70,12 @@ loop-less : tie.Need-loop-less Inv-loop μ-loop
 loop-less c = omega arith
 
 loop-again : tie.Need-loop-again Inv-loop μ-loop
-loop-again c = let w = c .before .before .before .before .before .before .before in (omega arith, w .loop .inv .1 ∙ first-later _ _ _ _ (len-f (w .before)) (len-g (w .before)) (c .before .before .before .before .before .before .loop-test .taken) (c .if2 .left) (c .before .before .before .if1 .left))
+loop-again c =
+    let w = c .before .before .before .before .before .before .before in (
+      omega arith,
+      w .loop .inv .1 ∙ first-later _ _ _ _ (len-f (w .before)) (len-g (w .before)) (c .before .before .before .before .before .before .loop-test .taken) (c .if2 .left)
+          (c .before .before .before .if1 .left),
+    )
 
 returns-3 : tie.Need-returns-3 Inv-loop μ-loop
 unfolding orderingOf

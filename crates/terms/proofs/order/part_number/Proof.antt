@@ -3,43 +3,33 @@ use borrow.Author.Needs.{needs}
 use Rattle.terms.proofs.order.part_number.Statement.{statement}
 use Rattle.terms.proofs.order.part_number.Tie as tie
 
--- src/order.rt:27:26
 enum-told : tie.Need-enum-told
 enum-told c = search needs
 
--- src/order.rt:28:22
 enum-known-p : tie.Need-enum-known-p
 enum-known-p c = search needs
 
--- src/order.rt:28:32
 scalar-number-requires : tie.Need-scalar-number-requires
 scalar-number-requires c κs = search needs
 
--- src/order.rt:28:28
 add-result : tie.Need-add-result
 add-result c = search needs
 
--- src/order.rt:29:21
 enum-known-p-2 : tie.Need-enum-known-p-2
 enum-known-p-2 c = search needs
 
--- src/order.rt:29:34
 dot-number-requires : tie.Need-dot-number-requires
 dot-number-requires c κs = search needs
 
--- src/order.rt:29:30
 add-result-2 : tie.Need-add-result-2
 add-result-2 c = search needs
 
--- src/order.rt:23:1
 returns : tie.Need-returns
 returns c = nothing-number _ (c .enum-told .given .1)
 
--- src/order.rt:23:1
 returns-2 : tie.Need-returns-2
 returns-2 c = letter-number _ _ _ (c .scalar-number .ensures) (c .before .before .p .given .1)
 
--- src/order.rt:23:1
 returns-3 : tie.Need-returns-3
 returns-3 c = wedge-number _ _ _ _ (c .dot-number .ensures) (c .before .before .p2 .given .1)
 

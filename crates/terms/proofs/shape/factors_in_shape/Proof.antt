@@ -1,3 +1,4 @@
+-- `terms::shape::factors_in_shape`. The loop: all factors are in shape and ascend exactly if those from factor i on are and do behind the last one seen. Assumes nothing.
 use mathlib.Core.Path.{_≡_, refl, sym, _∙_}
 use Prim.Native.Nat.{_-_, _≤_}
 use native.Mathlib.Omega.{arith}
@@ -33,7 +34,11 @@ factor-in-shape-requires : tie.Need-factor-in-shape-requires Inv-loop μ-loop
 factor-in-shape-requires c κs = tt
 
 returns-2 : tie.Need-returns-2 Inv-loop μ-loop
-returns-2 c = let w = c .before .before .before .before .before in sym (shape-is _ ∙ w .loop .inv .2 ∙ shape-bad _ _ _ _ (room (w .before)) (c .before .before .before .before .loop-test .taken) (c .before .before .if1 .left) (sym (c .before .factor-in-shape .ensures) ∙ not-true (c .before .factor-in-shape .result) (c .if2 .taken)))
+returns-2 c =
+    let w = c .before .before .before .before .before in
+    sym
+    (shape-is _ ∙ w .loop .inv .2 ∙ shape-bad _ _ _ _ (room (w .before)) (c .before .before .before .before .loop-test .taken) (c .before .before .if1 .left)
+    (sym (c .before .factor-in-shape .ensures) ∙ not-true (c .before .factor-in-shape .result) (c .if2 .taken)))
 
 add-i : tie.Need-add-i Inv-loop μ-loop
 add-i c = omega arith
@@ -42,7 +47,13 @@ loop-less : tie.Need-loop-less Inv-loop μ-loop
 loop-less c = omega arith
 
 loop-again : tie.Need-loop-again Inv-loop μ-loop
-loop-again c = let w = c .before .before .before .before .before in (omega arith, w .loop .inv .1, w .loop .inv .2 ∙ shape-more _ _ _ _ (room (w .before)) (c .before .before .before .before .loop-test .taken) (c .before .before .if1 .left) (sym (c .before .factor-in-shape .ensures) ∙ not-false (c .before .factor-in-shape .result) (c .if2 .left)))
+loop-again c =
+    let w = c .before .before .before .before .before in (
+      omega arith,
+      w .loop .inv .1,
+      w .loop .inv .2 ∙ shape-more _ _ _ _ (room (w .before)) (c .before .before .before .before .loop-test .taken) (c .before .before .if1 .left)
+          (sym (c .before .factor-in-shape .ensures) ∙ not-false (c .before .factor-in-shape .result) (c .if2 .left)),
+    )
 
 returns-3 : tie.Need-returns-3 Inv-loop μ-loop
 returns-3 c = let w = c .before in sym (shape-is _ ∙ w .loop .inv .2 ∙ shape-end _ _ _ _ (room (w .before)) (c .loop-test .left))

@@ -1,3 +1,4 @@
+-- `terms::shape::letters_used`. The loop: the letters counted and those of the factors from factor i on are all letters. Assumes nothing.
 use mathlib.Core.Path.{_≡_}
 use Prim.Native.Nat.{_+_, _-_, _*_, _≤_}
 use native.Mathlib.Omega.{arith}
@@ -11,7 +12,9 @@ use Rattle.terms.proofs.shape.letters_used.Statement.{statement}
 use Rattle.terms.proofs.shape.letters_used.Tie as tie
 
 abbrev Inv-loop : tie.InvT-loop
-Inv-loop f n m vectors₀ scalars₀ i₀ vectors scalars i = (i ≤ n) × (n ≤ 7) × (vectorLettersOf (map lettersOf (take n f)) ≡ vectors + vectorLettersOf (map lettersOf (drop i (take n f)))) × (scalarLettersOf (map lettersOf (take n f)) ≡ scalars + scalarLettersOf (map lettersOf (drop i (take n f)))) × (vectors ≤ 3 * i) × (scalars ≤ i)
+Inv-loop f n m vectors₀ scalars₀ i₀ vectors scalars i =
+    (i ≤ n) × (n ≤ 7) × (vectorLettersOf (map lettersOf (take n f)) ≡ vectors + vectorLettersOf (map lettersOf (drop i (take n f))))
+    × (scalarLettersOf (map lettersOf (take n f)) ≡ scalars + scalarLettersOf (map lettersOf (drop i (take n f)))) × (vectors ≤ 3 * i) × (scalars ≤ i)
 
 abbrev μ-loop : tie.MeasureT-loop
 μ-loop f n m vectors₀ scalars₀ i₀ vectors scalars i = n - i
@@ -47,10 +50,29 @@ loop-less : tie.Need-loop-less Inv-loop μ-loop
 loop-less c = omega arith
 
 loop-again : tie.Need-loop-again Inv-loop μ-loop
-loop-again c = let w = c .before .before .before .before in let v = c .before .vector-count .ensures in let s = c .scalar-count .ensures in let t = c .before .before .before .loop-test .taken in let inv = w .loop .inv in (omega arith, inv .1, vectors-more _ _ _ (room (w .before)) t _ _ _ (v .0) (inv .2), scalars-more _ _ _ (room (w .before)) t _ _ _ (s .0) (inv .3), omega (arith, v .1, inv .4), omega (arith, s .1, inv .5))
+loop-again c =
+    let w = c .before .before .before .before in
+    let v = c .before .vector-count .ensures in
+    let s = c .scalar-count .ensures in
+    let t = c .before .before .before .loop-test .taken in
+    let inv = w .loop .inv in (
+      omega arith,
+      inv .1,
+      vectors-more _ _ _ (room (w .before)) t _ _ _ (v .0) (inv .2),
+      scalars-more _ _ _ (room (w .before)) t _ _ _ (s .0) (inv .3),
+      omega (arith, v .1, inv .4),
+      omega (arith, s .1, inv .5),
+    )
 
 returns : tie.Need-returns Inv-loop μ-loop
-returns c = let w = c .before in let inv = w .loop .inv in record { vectors = vectors-all _ _ _ (room (w .before)) (c .loop-test .left) _ _ (inv .2); scalars = scalars-all _ _ _ (room (w .before)) (c .loop-test .left) _ _ (inv .3); few = omega (arith, inv .0, inv .1, inv .4) }
+returns c =
+    let w = c .before in
+    let inv = w .loop .inv in
+    record {
+      vectors = vectors-all _ _ _ (room (w .before)) (c .loop-test .left) _ _ (inv .2);
+      scalars = scalars-all _ _ _ (room (w .before)) (c .loop-test .left) _ _ (inv .3);
+      few = omega (arith, inv .0, inv .1, inv .4);
+    }
 
 pub letters-used-spec : {M : Type 1} → statement M
 letters-used-spec =

@@ -6,29 +6,23 @@ use borrow.Author.Needs.{needs}
 use Rattle.terms.proofs.shape.part_in_shape.Statement.{statement}
 use Rattle.terms.proofs.shape.part_in_shape.Tie as tie
 
--- src/shape.rt:92:26
 enum-told : tie.Need-enum-told
 enum-told c = search needs
 
--- src/shape.rt:93:28
 enum-told-2 : tie.Need-enum-told-2
 enum-told-2 c = search needs
 
--- src/shape.rt:94:21
 enum-known-p : tie.Need-enum-known-p
 enum-known-p c = search needs
 
--- src/shape.rt:88:1
 returns : tie.Need-returns
 unfolding partInShape partOf
 returns c = sym (ap (λ (p : Part). partInShape (partOf p)) (c .enum-told .given .1))
 
--- src/shape.rt:88:1
 returns-2 : tie.Need-returns-2
 unfolding partInShape partOf
 returns-2 c = sym (ap (λ (p : Part). partInShape (partOf p)) (c .enum-told2 .given .1))
 
--- src/shape.rt:88:1
 returns-3 : tie.Need-returns-3
 unfolding partInShape partOf
 returns-3 c = sym (ap (λ (p : Part). partInShape (partOf p)) (c .before .p .given .1))

@@ -6,29 +6,23 @@ use borrow.Author.Needs.{needs}
 use Rattle.terms.proofs.shape.part_letters.Statement.{statement}
 use Rattle.terms.proofs.shape.part_letters.Tie as tie
 
--- src/shape.rt:103:26
 enum-told : tie.Need-enum-told
 enum-told c = search needs
 
--- src/shape.rt:104:28
 enum-told-2 : tie.Need-enum-told-2
 enum-told-2 c = search needs
 
--- src/shape.rt:105:30
 enum-told-3 : tie.Need-enum-told-3
 enum-told-3 c = search needs
 
--- src/shape.rt:99:1
 returns : tie.Need-returns
 unfolding partOf
 returns c = sym (ap (λ (p : Part). length (partOf p)) (c .enum-told .given .1))
 
--- src/shape.rt:99:1
 returns-2 : tie.Need-returns-2
 unfolding partOf
 returns-2 c = sym (ap (λ (p : Part). length (partOf p)) (c .enum-told2 .given .1))
 
--- src/shape.rt:99:1
 returns-3 : tie.Need-returns-3
 unfolding partOf
 returns-3 c = sym (ap (λ (p : Part). length (partOf p)) (c .enum-told3 .given .1))

@@ -1,15 +1,17 @@
-use Rattle.terms.proofs.InShape.{counted-scalar, counted-vector}
 use native.Mathlib.Omega.{arith}
+use Rattle.terms.proofs.InShape.{counted-one, counted-more}
+use borrow.Author.Needs.{needs}
 use Rattle.terms.proofs.shape.scalar_count.Statement.{statement}
 use Rattle.terms.proofs.shape.scalar_count.Tie as tie
 
--- src/shape.rt:77:1
-returns : tie.Need-returns
-returns c = (counted-scalar _ (c .if1 .taken) .1, omega arith)
+letter-count-requires : tie.Need-letter-count-requires
+letter-count-requires c κs = search needs
 
--- src/shape.rt:77:1
+returns : tie.Need-returns
+returns c = (counted-one _ _ (c .before .letter-count .ensures) (c .if1 .taken) .1, omega arith)
+
 returns-2 : tie.Need-returns-2
-returns-2 c = (counted-vector _ (c .if1 .left), omega arith)
+returns-2 c = (counted-more _ _ (c .before .letter-count .ensures) (c .if1 .left) .1, omega arith)
 
 pub scalar-count-spec : {M : Type 1} → statement M
-scalar-count-spec = tie.close (tie.spec returns returns-2)
+scalar-count-spec = tie.close (tie.spec letter-count-requires returns returns-2)

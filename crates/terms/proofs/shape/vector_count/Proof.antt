@@ -1,19 +1,18 @@
-use Rattle.terms.proofs.InShape.{counted-scalar, counted-dot, counted-triple}
 use native.Mathlib.Omega.{arith}
+use Rattle.terms.proofs.Letters.{letters-long}
+use Rattle.terms.proofs.InShape.{counted-one, counted-more}
+use borrow.Author.Needs.{needs}
 use Rattle.terms.proofs.shape.vector_count.Statement.{statement}
 use Rattle.terms.proofs.shape.vector_count.Tie as tie
 
--- src/shape.rt:68:9
+letter-count-requires : tie.Need-letter-count-requires
+letter-count-requires c κs = search needs
+
 returns : tie.Need-returns
-returns c = (counted-scalar _ (c .if1 .taken) .0, omega arith)
+returns c = (counted-one _ _ (c .before .letter-count .ensures) (c .if1 .taken) .0, omega arith)
 
--- src/shape.rt:71:9
 returns-2 : tie.Need-returns-2
-returns-2 c = (counted-dot _ (c .before .if1 .left) (c .if2 .taken) .0, omega arith)
-
--- src/shape.rt:64:1
-returns-3 : tie.Need-returns-3
-returns-3 c = (counted-triple _ (c .if2 .left) .0, omega arith)
+returns-2 c = (counted-more _ _ (c .before .letter-count .ensures) (c .if1 .left) .0, omega (arith, c .before .letter-count .ensures, letters-long (c .before .before .args .k) .1))
 
 pub vector-count-spec : {M : Type 1} → statement M
-vector-count-spec = tie.close (tie.spec returns returns-2 returns-3)
+vector-count-spec = tie.close (tie.spec letter-count-requires returns returns-2)

@@ -1,0 +1,4 @@
+-- What the contracts cite.
+pub mod Steps
+pub mod Reading
+pub mod Writing

@@ -1,0 +1,35 @@
+-- What the printers leave in the bytes lent, and the parts of a term's text. Assumes nothing.
+use mathlib.Core.Path.{_≡_}
+use mathlib.Core.Bool.{Bool, not, _&&_}
+use mathlib.Core.List.{List, [], _∷_, _++_, map}
+use Prim.Native.Nat.{ℕ, _+_}
+use lib.Dec.{eqb}
+use lib.ListN.{length}
+use Rattle.specification.specs.Lists.{joined}
+use Rattle.specification.specs.Terms.{Term}
+use Rattle.specification.specs.Printing.{printLetter, printFactor, printPart, isNothing, printStar}
+use Rattle.records.specs.Written.{Written}
+
+-- two letters with a mark between them
+abbrev pub pairText : (x mark y : ℕ) → List ℕ
+pairText x mark y = 40 ∷ printLetter x ∷ mark ∷ printLetter y ∷ 41 ∷ []
+
+-- three letters
+abbrev pub tripleText : (x y z : ℕ) → List ℕ
+tripleText x y z = 40 ∷ printLetter x ∷ printLetter y ∷ printLetter z ∷ 41 ∷ []
+
+-- the scalar part of a term
+unfoldable pub printFactors : Term → List ℕ
+printFactors t = joined (map printFactor (t .factors))
+
+-- all of a term but its coefficient
+unfoldable pub printOthers : Term → List ℕ
+printOthers t = printFactors t ++ printPart (t .part)
+
+-- a coefficient of this size is left out
+unfoldable pub isLeftOut : (size : ℕ) (others : List ℕ) → Bool
+isLeftOut size others = eqb size 1 && not (isNothing others)
+
+-- the star between a text that stands from a position on and a vector part
+pub record StarWritten (before after : List ℕ) (from at next : ℕ) (part : List ℕ) : Type 0 where
+  pub is : (text : List ℕ) → at ≡ from + length text → Written before after at next (printStar text part)
