@@ -14,6 +14,7 @@ call in its own way. Here they become numbers returned, with the tests of the ta
 import collections
 import itertools
 import pathlib
+import random
 import re
 
 import check_cases as logs
@@ -135,6 +136,8 @@ def reductions():
     wedges = bytes.fromhex("0801000801010102")
     for table, data, lent in itertools.product((TABLE, TABLE + b"\2"), (wedges, wedges[:-1], wedges[:-1] + b"\x09"), (0, ROOM - 1, ROOM + 1)):
         yield REDUCE, table, data, b"", lent, 0, 0
+    for table, data in itertools.islice(expressions.by_chance(random.Random(20261116)), 36):
+        yield REDUCE, table, data, b"", ROOM, 0, 0
 
 
 def logs_to_check():
@@ -164,6 +167,12 @@ def shortened():
     yield from spread([(SHORTEN, table, data, b"", lent, 1, 0) for table, data, lent in forms_to_shorten()], {0: 12})
     for table, data, lent, steps in itertools.product((TABLE, TABLE + b"\2"), (vector("(bcd)*a-(acd)*b+(abd)*c-(abc)*d"), b"\1"), (LENT - 1, LENT + 9), (0, 1)):
         yield SHORTEN, table, data, b"", lent, steps, 0
+    for table, data, meant, *lent in shortenings.aside():
+        lent = lent[0] if lent else LENT
+        line = shortenings.answer(table, data, lent)
+        assert meant in ("", line), (table.hex(), data.hex(), line, meant)
+        if line is not None:
+            yield SHORTEN, table, data, b"", lent, 1, 0
 
 
 def audited():

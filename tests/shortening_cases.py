@@ -280,11 +280,16 @@ def lines_to_try():
         yield TABLE, decisions.turned(line, k), "4 1"
 
 
-def each_rule():
-    """Left − right, the left side, the right side: times a factor, and beside the same of another factor."""
+def rules_with_letters():
+    """Each rule with its letters in their order and in another one."""
     chance = random.Random(7)
     for rule, count in logs.LETTERS.items():
-        orders = ["abcdef"[:count], "".join(chance.sample("abcdef", count))]
+        yield rule, ["abcdef"[:count], "".join(chance.sample("abcdef", count))]
+
+
+def each_rule():
+    """Left − right, the left side, the right side: times a factor, and beside the same of another factor."""
+    for rule, orders in rules_with_letters():
         right = 6 if rule == 5 else 3
         for letters, m in [(orders[0], "1")] + [(orders[1], m) for m in MULTIPLIERS[rule]]:
             yield TABLE, both(rule, letters, m), f"{right + 1} 0"
@@ -584,6 +589,24 @@ def by_chance():
         yield *changed_form(chance), ""
     for _ in range(32):
         yield *crowded_form(chance), ""
+
+
+def aside():
+    """Cases for which the bytes that the program reads at once have no room: call_cases.py puts them to the call for C."""
+    for rule, orders in rules_with_letters():
+        for letters, m in [(orders[0], "1")] + [(orders[1], m) for m in MULTIPLIERS[rule][:-1]]:
+            yield TABLE, side(0, rule, letters, m), "1 1"
+    yield FULL_TABLE, full(side(1, 4, "abcad")), "42 21"
+    for data, meant in ((NOTHING[1], "0 0"), (vector("(bcd)*a-(acd)*b+(abd)*c-(abc)*d"), "4 0"), (b"", "R11"), (vector("j*a"), "R5")):
+        for lent in (1, 1541, 4096):
+            yield TABLE, data, "R2" if lent < LENT else meant, lent
+    for data, lent in ((vector("0"), LENT), (side(1, 1, "abcd"), LENT), (b"", 0)):
+        yield bytes([1] * 200), data, "R1", lent
+    chance = random.Random(20261117)
+    for _ in range(60):
+        yield *random_form(chance), ""
+    for _ in range(40):
+        yield *changed_form(chance), ""
 
 
 GROUPS = (lines_to_try, each_rule, equal_letters, every_difference, some_terms, one_makes_another, unlike_sizes, among_others, quotients, blocked, nothing_to_do,
