@@ -1,14 +1,14 @@
 -- The checker's call: the table, the shape of the whole log, the letters in byte order, then the replay. Assumes nothing.
-use mathlib.Core.Path.{_≡_, ap, sym, _∙_}
-use mathlib.Core.Bool.{Bool, true, false}
-use mathlib.Core.List.{List, []}
+use mathlib.Core.Path.{_≡_, refl, ap, sym, _∙_}
+use mathlib.Core.Bool.{true, false}
+use mathlib.Core.List.{List}
 use Prim.Native.Nat.{ℕ, _+_}
 use borrow.Author.Tests.{eq-eqb, ne-eqb}
 use lib.ListN.{length}
 use Rattle.specification.specs.Results.{Test, refused, given, if_then_else_}
 use Rattle.specification.specs.Letters.{testTable}
 use Rattle.specification.specs.Records.{testTerms}
-use Rattle.specification.specs.Logs.{Log, refusedAt, accepted, atStep, readLog, stepsLetters, replay, sameForm, checkCall}
+use Rattle.specification.specs.Logs.{Log, refusedAt, accepted, atStep, readLog, stepsLetters, replay, checkCall}
 use Rattle.specification.specs.Logs as L
 use Rattle.terms.specs.declared.types.Form.{Form}
 use Rattle.terms.specs.Abstraction.{formOf, termsOf}
@@ -70,25 +70,23 @@ module _ (table s : List ℕ) (bad : ℕ) (tb : testOf bad ≡ testTable table) 
             pub last-letters : (l ≡ 0 → ⊥) → refusedAt l (n + 1) ≡ checkCall table s
             last-letters h = sym (by-last ∙ ap (λ (t : Test). atStep (n + 1) t (λ _. replay log 1 (formOf f) (stepsOf q))) (sym tl ∙ test-refused l h))
 
-            module _ (zl : l ≡ 0) (p : Replayed) (w : ReplayedAs f q p) where
-              by-replay : checkCall table s ≡ foundOf (p .number) (p .step) (replay log (q .count + 1) (formOf (p .form)) [])
-              by-replay = by-last ∙ ap (λ (t : Test). atStep (n + 1) t (λ _. replay log 1 (formOf f) (stepsOf q))) (sym tl ∙ test-passed l zl) ∙ w .is log
+            module _ (zl : l ≡ 0) (p : Replayed) (w : ReplayedAs f q g p) where
+              by-replay : checkCall table s ≡ foundOf (p .number) (p .step) (if p .same then accepted a b (length (stepsOf q)) else refusedAt 13 (q .count + 1))
+              by-replay = by-last ∙ ap (λ (t : Test). atStep (n + 1) t (λ _. replay log 1 (formOf f) (stepsOf q))) (sym tl ∙ test-passed l zl) ∙ w .is log refl
 
               pub step-taken : (p .number ≡ 0 → ⊥) → refusedAt (p .number) (p .step) ≡ checkCall table s
               unfolding foundOf
               step-taken h = sym (by-replay ∙ rw (ne-eqb (p .number) 0 h))
 
-              module _ (zp : p .number ≡ 0) (c : q .count ≡ n) (o : Bool) (eo : o ≡ sameForm (formOf g) (formOf (p .form))) where
-                by-ends : checkCall table s ≡ (if o then accepted a b (length (stepsOf q)) else refusedAt 13 (n + 1))
-                unfolding foundOf replay
-                by-ends =
-                    by-replay ∙ rw (eq-eqb (p .number) 0 zp)
-                    (λ i. if sym eo i then accepted a b (length (stepsOf q)) else refusedAt 13 (c i + 1))
+              module _ (zp : p .number ≡ 0) (c : q .count ≡ n) where
+                by-ends : checkCall table s ≡ (if p .same then accepted a b (length (stepsOf q)) else refusedAt 13 (n + 1))
+                unfolding foundOf
+                by-ends = by-replay ∙ rw (eq-eqb (p .number) 0 zp) (ap (λ (m : ℕ). if p .same then accepted a b (length (stepsOf q)) else refusedAt 13 (m + 1)) c)
 
                 -- another form was reached
-                pub not-reached : o ≡ false → refusedAt 13 (n + 1) ≡ checkCall table s
+                pub not-reached : p .same ≡ false → refusedAt 13 (n + 1) ≡ checkCall table s
                 not-reached h = sym (by-ends ∙ rw h)
 
                 -- accepted
-                pub all-accepted : o ≡ true → accepted a b n ≡ checkCall table s
+                pub all-accepted : p .same ≡ true → accepted a b n ≡ checkCall table s
                 all-accepted h = sym (by-ends ∙ rw h (ap (accepted a b) long))

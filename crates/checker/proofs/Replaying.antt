@@ -3,62 +3,30 @@ use mathlib.Core.Path.{_≡_, refl, ap, sym, subst, _∙_}
 use mathlib.Core.Bool.{Bool, true, false, _&&_}
 use mathlib.Core.List.{List, [], _∷_, map}
 use Prim.Native.Nat.{ℕ, suc, _+_, _<_, _≤_}
-use native.Mathlib.Omega.{arith}
 use borrow.Author.Tests.{eq-eqb, ne-eqb}
 use lib.Dec.{isEq}
-use lib.ListN.{length, getD, take, drop, length-map}
+use lib.IntN.{ℤ}
+use lib.ListN.{length, getD, take, drop, length-map, drop-of-length-le}
 use lib.Seq.{length-take-le}
-use Rattle.specification.specs.Results.{Result, refused, given}
+use Rattle.specification.specs.Results.{Result, refused, given, if_then_else_}
 use Rattle.specification.specs.Terms.{compareTerms}
 use Rattle.specification.specs.Terms as S
 use Rattle.specification.specs.Rules.{takeStep}
-use Rattle.specification.specs.Logs.{Log, atStep, replay, sameCoef, sameTerms, sameForm}
+use Rattle.specification.specs.Logs.{Log, refusedAt, accepted, atStep, replay, sameCoef, sameTerms, sameForm}
 use Rattle.specification.specs.Logs as L
 use Rattle.theory.specs.Tests.{and-false}
 use Rattle.terms.specs.declared.types.Term.{Term}
 use Rattle.terms.specs.declared.types.Form.{Form}
 use Rattle.terms.specs.declared.order.Order.{Order}
-use Rattle.theory.specs.Elements.{all-implies}
-use Rattle.theory.specs.Shape.Forms.{FormInShape}
-use Rattle.terms.specs.Abstraction.{termOf, formOf, orderingOf, Counted}
-use Rattle.terms.specs.Valid.{FormValid}
-use Rattle.terms.proofs.Arrays.{noTerm, rest-at, nothing-left}
-use Rattle.gathering.specs.declared.Sum.{Sum}
-use Rattle.gathering.specs.Sums.{held, sumOf, Standing, SumValid, Holding}
-use Rattle.gathering.specs.Closing.{LimitsTested}
-use Rattle.gathering.proofs.FormTerms.{settled}
+use Rattle.terms.specs.Abstraction.{termOf, formOf, orderingOf}
+use Rattle.terms.proofs.Arrays.{noTerm, rest-at, map-drop}
+use Rattle.gathering.specs.Rows.{termBy, formBy}
 use Rattle.rules.specs.declared.steps.Step.{Step}
-use Rattle.logs.specs.Steps.{foundOf}
+use Rattle.logs.specs.Steps.{stepsOf, foundOf}
 use Rattle.logs.proofs.StepLetters.{found, stepsFrom, here, one-left, none-left}
-use Rattle.checker.specs.Replaying.{sameTerm}
-
--- ════ the current form
-
--- the form that a sum stands for
-abbrev pub formBy : (kind : ℕ) → Sum → S.Form
-formBy kind g = record { kind = kind; terms = sumOf g }
-
--- a sum that stands for the current form
-pub record Current (kind : ℕ) (g : Sum) : Type 0 where
-  pub valid : SumValid g
-  pub brought : g .brought ≤ 48
-  pub inShape : FormInShape (formBy kind g)
-
--- the first form
-pub current-first : (f : Form) (g : Sum) → FormValid f → Holding f g → (formBy (f .kind) g ≡ formOf f) × Current (f .kind) g
-unfolding formOf
-current-first f g v h =
-    let e : formBy (f .kind) g ≡ formOf f = ap (λ (ts : List S.Term). record { kind = f .kind; terms = ts }) (h .is) in
-    (e, record { valid = h .valid; brought = omega (arith, h .brought, v .few); inShape = subst FormInShape (sym e) (v .inShape) })
-
--- the form that a step reached
-pub current-next : (kind : ℕ) (b : Sum) → SumValid b → LimitsTested b 0 → FormInShape (formBy kind b) → Current kind (record { brought = b .count; count = b .count; terms = b .terms })
-unfolding held sumOf
-current-next kind b v l s = record {
-  valid = settled b (l .few refl) (all-implies (Standing (b .brought)) Counted (λ t w. w .counted) (held b) (v .standing)) (s .terms) (v .ascending);
-  brought = l .few refl;
-  inShape = s;
-}
+use Rattle.logs.specs.declared.steps.Steps.{Steps}
+use Rattle.checker.specs.declared.replay.Reached.{Reached}
+use Rattle.checker.specs.Replaying.{sameTerm, ReachedAs, ReplayedAs}
 
 -- ════ steps taken
 
@@ -82,16 +50,16 @@ module _ (q : List Step) (n i : ℕ) (h : n ≤ length q) where
 
 -- ════ one form
 
--- terms are the same where coefficient and order say so
-pub term-same : (t u : Term) (b : Bool) (o : Order) → b ≡ sameCoef (t .coef) (u .coef) → b ≡ true → orderingOf o ≡ compareTerms (termOf t) (termOf u)
-    → isEq (orderingOf o) ≡ sameTerm (termOf t) (termOf u)
-unfolding sameTerm termOf
-term-same t u b o e z p = λ i. (sym z ∙ e) i && isEq (p i)
+-- a term is that of a row where coefficient and order say so
+pub row-same : (t : Term) (v u : List ℕ) (c : ℤ) (b : Bool) (o : Order) → b ≡ sameCoef (t .coef) c → b ≡ true → termBy v (t .coef) ≡ termOf t
+    → orderingOf o ≡ compareTerms (termBy v (t .coef)) (termBy u c) → isEq (orderingOf o) ≡ sameTerm (termOf t) (termBy u c)
+unfolding sameTerm termOf termBy
+row-same t v u c b o e z q p = λ i. (sym z ∙ e) i && isEq ((p ∙ ap (λ (x : S.Term). compareTerms x (termBy u c)) q) i)
 
 -- or not the same
-pub coef-other : (t u : Term) (b : Bool) → b ≡ sameCoef (t .coef) (u .coef) → b ≡ false → false ≡ sameTerm (termOf t) (termOf u)
-unfolding sameTerm termOf
-coef-other t u b e z = ap (λ (x : Bool). x && isEq (compareTerms (termOf t) (termOf u))) (sym z ∙ e)
+pub coef-other : (t : Term) (u : List ℕ) (c : ℤ) (b : Bool) → b ≡ sameCoef (t .coef) c → b ≡ false → false ≡ sameTerm (termOf t) (termBy u c)
+unfolding sameTerm termOf termBy
+coef-other t u c b e z = ap (λ (x : Bool). x && isEq (compareTerms (termOf t) (termBy u c))) (sym z ∙ e)
 
 -- lists of unlike lengths
 lengths-differ : (ts us : List S.Term) → (length ts ≡ length us → ⊥) → sameTerms ts us ≡ false
@@ -103,50 +71,69 @@ lengths-differ (t ∷ ts) (u ∷ us) h =
     ap (λ (b : Bool). (sameCoef (t .coef) (u .coef) && isEq (compareTerms t u)) && b) (lengths-differ ts us (λ e. h (ap suc e)))
     ∙ and-false (sameCoef (t .coef) (u .coef) && isEq (compareTerms t u))
 
--- the terms from a place on
-abbrev pub termsFrom : (ts : List Term) (n i : ℕ) → List S.Term
-termsFrom ts n i = map termOf (drop i (take n ts))
-
-module _ (f g : Form) where
+module _ (f : Form) (kind : ℕ) (us : List S.Term) where
   -- another kind
-  pub kind-other : (f .kind ≡ g .kind → ⊥) → false ≡ sameForm (formOf f) (formOf g)
+  pub kind-other : (f .kind ≡ kind → ⊥) → false ≡ sameForm (formOf f) (record { kind = kind; terms = us })
   unfolding sameForm formOf
-  kind-other h = rw (ne-eqb (f .kind) (g .kind) h)
+  kind-other h = rw (ne-eqb (f .kind) kind h)
 
-  module _ (k : f .kind ≡ g .kind) where
-    by-terms : sameForm (formOf f) (formOf g) ≡ sameTerms (map termOf (take (f .count) (f .terms))) (map termOf (take (g .count) (g .terms)))
+  module _ (k : f .kind ≡ kind) where
+    -- the terms decide
+    pub by-terms : sameForm (formOf f) (record { kind = kind; terms = us }) ≡ sameTerms (formOf f .terms) us
     unfolding sameForm formOf
-    by-terms = rw (eq-eqb (f .kind) (g .kind) k)
+    by-terms = rw (eq-eqb (f .kind) kind k)
 
     -- another count
-    pub count-other : f .count ≤ length (f .terms) → g .count ≤ length (g .terms) → (f .count ≡ g .count → ⊥) → false ≡ sameForm (formOf f) (formOf g)
-    count-other hf hg h =
-        sym (by-terms ∙ lengths-differ (map termOf (take (f .count) (f .terms))) (map termOf (take (g .count) (g .terms)))
-        (λ e. h (sym (long (f .count) (f .terms) hf) ∙ e ∙ long (g .count) (g .terms) hg)))
-      where
-        long : (n : ℕ) (ts : List Term) → n ≤ length ts → length (map termOf (take n ts)) ≡ n
-        long n ts h = length-map (take n ts) termOf ∙ length-take-le n ts h
+    pub count-other : (length (formOf f .terms) ≡ length us → ⊥) → false ≡ sameForm (formOf f) (record { kind = kind; terms = us })
+    count-other h = sym (by-terms ∙ lengths-differ (formOf f .terms) us h)
 
-    module _ (c : f .count ≡ g .count) where
-      -- the comparison begins at the first terms
-      pub same-from-first : sameForm (formOf f) (formOf g) ≡ sameTerms (termsFrom (f .terms) (f .count) 0) (termsFrom (g .terms) (f .count) 0)
-      same-from-first = by-terms ∙ ap (λ (n : ℕ). sameTerms (map termOf (take (f .count) (f .terms))) (map termOf (take n (g .terms)))) (sym c)
+-- as many terms as are counted
+pub form-length : (f : Form) → f .count ≤ length (f .terms) → length (formOf f .terms) ≡ f .count
+unfolding formOf
+form-length f h = length-map (take (f .count) (f .terms)) termOf ∙ length-take-le (f .count) (f .terms) h
 
-module _ (ts us : List Term) (n i : ℕ) (ht : n ≤ length ts) (hu : n ≤ length us) where
-  one-pair : i < n → sameTerms (termsFrom ts n i) (termsFrom us n i) ≡ (sameTerm (termOf (getD ts i noTerm)) (termOf (getD us i noTerm)) && sameTerms (termsFrom ts n (i + 1)) (termsFrom us n (i + 1)))
-  unfolding sameTerms sameTerm
-  one-pair g = λ j. sameTerms (map termOf (rest-at ts n i noTerm ht g j)) (map termOf (rest-at us n i noTerm hu g j))
+-- the first of those from a place on
+pub form-at : (f : Form) (i : ℕ) → f .count ≤ length (f .terms) → i < f .count → drop i (formOf f .terms) ≡ termOf (getD (f .terms) i noTerm) ∷ drop (i + 1) (formOf f .terms)
+unfolding formOf
+form-at f i h g =
+    sym (map-drop termOf i (take (f .count) (f .terms))) ∙ ap (map termOf) (rest-at (f .terms) (f .count) i noTerm h g)
+    ∙ ap (λ (l : List S.Term). termOf (getD (f .terms) i noTerm) ∷ l) (map-drop termOf (i + 1) (take (f .count) (f .terms)))
 
-  -- a pair of terms differs
-  pub pair-differs : i < n → (b : Bool) → b ≡ sameTerm (termOf (getD ts i noTerm)) (termOf (getD us i noTerm)) → b ≡ false → sameTerms (termsFrom ts n i) (termsFrom us n i) ≡ false
-  pair-differs g b e z = one-pair g ∙ ap (λ (x : Bool). x && sameTerms (termsFrom ts n (i + 1)) (termsFrom us n (i + 1))) (sym e ∙ z)
+module _ (ts us : List S.Term) (i : ℕ) where
+  module _ (t u : S.Term) (ht : drop i ts ≡ t ∷ drop (i + 1) ts) (hu : drop i us ≡ u ∷ drop (i + 1) us) where
+    one-pair : sameTerms (drop i ts) (drop i us) ≡ (sameTerm t u && sameTerms (drop (i + 1) ts) (drop (i + 1) us))
+    unfolding sameTerms sameTerm
+    one-pair = λ j. sameTerms (ht j) (hu j)
 
-  -- or the others decide
-  pub pair-same : i < n → (b : Bool) → b ≡ sameTerm (termOf (getD ts i noTerm)) (termOf (getD us i noTerm)) → b ≡ true
-      → sameTerms (termsFrom ts n i) (termsFrom us n i) ≡ sameTerms (termsFrom ts n (i + 1)) (termsFrom us n (i + 1))
-  pair-same g b e z = one-pair g ∙ ap (λ (x : Bool). x && sameTerms (termsFrom ts n (i + 1)) (termsFrom us n (i + 1))) (sym e ∙ z)
+    -- a pair of terms differs
+    pub pair-differs : (b : Bool) → b ≡ sameTerm t u → b ≡ false → sameTerms (drop i ts) (drop i us) ≡ false
+    pair-differs b e z = one-pair ∙ ap (λ (x : Bool). x && sameTerms (drop (i + 1) ts) (drop (i + 1) us)) (sym e ∙ z)
+
+    -- or the others decide
+    pub pair-same : (b : Bool) → b ≡ sameTerm t u → b ≡ true → sameTerms (drop i ts) (drop i us) ≡ sameTerms (drop (i + 1) ts) (drop (i + 1) us)
+    pair-same b e z = one-pair ∙ ap (λ (x : Bool). x && sameTerms (drop (i + 1) ts) (drop (i + 1) us)) (sym e ∙ z)
 
   -- no pair differs
-  pub all-same : n ≤ i → sameTerms (termsFrom ts n i) (termsFrom us n i) ≡ true
+  pub all-same : length ts ≤ i → length us ≤ i → sameTerms (drop i ts) (drop i us) ≡ true
   unfolding sameTerms
-  all-same g = λ j. sameTerms (map termOf (nothing-left ts n i ht g j)) (map termOf (nothing-left us n i hu g j))
+  all-same ht hu = rw (drop-of-length-le ts ht, drop-of-length-le us hu)
+
+-- ════ the form reached
+
+module _ (f last : Form) (q : Steps) (n : ℕ) (rows : List (List ℕ)) (coefs : List ℤ) (r : Reached) (rows' : List (List ℕ)) (coefs' : List ℤ)
+    (e : formBy (f .kind) n rows coefs ≡ formOf f) (w : ReachedAs (f .kind) n rows coefs q r rows' coefs') where
+  begins : (log : Log) → replay log 1 (formOf f) (stepsOf q) ≡ foundOf (r .number) (r .step) (replay log (q .count + 1) (formBy (f .kind) (r .count) rows' coefs') [])
+  begins log = ap (λ (g : S.Form). replay log 1 g (stepsOf q)) (sym e) ∙ w .is log
+
+  -- none: a step is refused
+  pub not-replayed : (r .number ≡ 0 → ⊥) → ReplayedAs f q last (record { number = r .number; step = r .step; same = false })
+  unfolding foundOf
+  not-replayed h = record { is = λ log l. begins log ∙ rw (ne-eqb (r .number) 0 h) }
+
+  -- compared with the last
+  pub replayed : r .number ≡ 0 → (b : Bool) → b ≡ sameForm (formOf last) (formBy (f .kind) (r .count) rows' coefs') → ReplayedAs f q last (record { number = 0; step = 0; same = b })
+  unfolding foundOf replay
+  replayed h b o = record {
+    is = λ log l. begins log ∙ rw (eq-eqb (r .number) 0 h)
+        (λ i. if (ap (λ (g : S.Form). sameForm g (formBy (f .kind) (r .count) rows' coefs')) l ∙ sym o) i then accepted (log .firstEnd) (log .lastStart) (length (log .steps)) else refusedAt 13 (q .count + 1));
+  }

@@ -4,7 +4,6 @@ ghost use lib.ListN.{take, drop};
 ghost use Rattle.specification.specs.Logs.{checkCall};
 ghost use Rattle.checker.specs.Answers.{checkedOf};
 use crate::replay::replay;
-use crate::replay::same_form;
 use letters::check_table;
 use letters::test_terms;
 use logs::reading::read_log;
@@ -47,12 +46,11 @@ pub fn check(table: &[u8], log: &[u8]) -> Checked
     if at_last != 0 {
         return Checked::Refused(at_last, behind);
     }
-    let reached = replay(f, steps);
+    let reached = replay(f, steps, g);
     if reached.number != 0 {
         return Checked::Refused(reached.number, reached.step);
     }
-    let h = reached.form;
-    if !same_form(g, h) {
+    if !reached.same {
         return Checked::Refused(13, behind);
     }
     Checked::Accepted(q.first_end, q.last_start, n)

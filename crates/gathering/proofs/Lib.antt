@@ -1,5 +1,5 @@
 -- Lemmas that belong to no one function.
-pub mod Steps
-pub mod Bringing
-pub mod Closing
-pub mod FormTerms
+pub mod Inserting
+pub mod RowTerms
+pub mod RowRuns
+pub mod RowSums

@@ -1,3 +1,2 @@
 -- What the contracts cite.
-pub mod Sums
-pub mod Closing
+pub mod Rows

@@ -18,8 +18,7 @@ use Rattle.theory.specs.Elements.{All, all-append}
 use Rattle.theory.specs.Records.Positions.{Bytes}
 use Rattle.theory.specs.Records.Terms.{term-written}
 use Rattle.terms.specs.Abstraction.{termOf}
-use Rattle.terms.proofs.Arrays.{noTerm, stored-behind, mapped-behind}
-use Rattle.gathering.proofs.Steps.{copied-more}
+use Rattle.terms.proofs.Arrays.{noTerm, stored-behind, mapped-behind, copied-more}
 use Rattle.records.specs.declared.read.TermReading.{TermReading}
 use Rattle.records.specs.Reading.{readOf, TermRead}
 use Rattle.rules.specs.declared.steps.Step.{Step}

@@ -21,7 +21,7 @@ use Rattle.terms.specs.declared.types.Term.{Term}
 use Rattle.terms.specs.Abstraction.{termOf}
 use Rattle.terms.specs.Tidy.{Tidied}
 use Rattle.terms.proofs.Arrays.{mapped-behind}
-use Rattle.gathering.specs.Sums.{isLike}
+use Rattle.gathering.specs.Rows.{isLike}
 use Rattle.rules.specs.declared.steps.Step.{Step}
 use Rattle.rules.specs.Table.{ruleRows, rowTerm, firstRow, rowCount}
 use Rattle.rules.specs.Steps.{stepOf, StepValid}

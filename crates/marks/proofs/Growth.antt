@@ -4,14 +4,11 @@ use mathlib.Core.Path.{_≡_, refl, sym, ap, subst, _∙_}
 use mathlib.Core.Bool.{Bool, true, false}
 use mathlib.Core.Logic.{_⊎_, inl, inr}
 use mathlib.Core.List.{List, [], _∷_, _++_}
-use Prim.Native.Nat.{ℕ, zero, suc, _+_, _*_, _<_, _≤_, Ordering, Ordering·lt, Ordering·eq, Ordering·gt}
+use Prim.Native.Nat.{ℕ, zero, suc, _+_, _*_, _≤_, Ordering, Ordering·lt, Ordering·eq, Ordering·gt}
 use native.Mathlib.Nat as N
 use native.Mathlib.Omega.{arith}
 use lib.IntN.{ℤ, pos, negsuc, natAbs, _+ℤ_, _*ℤ_}
-use borrow.Author.Tests.{eqb-true, eqb-false}
-use lib.Dec.{eqb}
-use lib.ListN.{length, getD, set, length-append}
-use lib.Seq.{getD-set-same, getD-set-other}
+use lib.ListN.{length, getD, length-append}
 use Rattle.algebra.specs.Integers.{NonZero, natAbs-neg, natAbs-*ℤ, natAbs-zero, neg-unique}
 use Rattle.specification.specs.Results.{if_then_else_}
 use Rattle.specification.specs.Lists.{byOrder}
@@ -20,7 +17,7 @@ use Rattle.specification.specs.Terms as S
 use Rattle.theory.specs.Elements.{All, all-implies, both-all}
 use Rattle.theory.specs.Order.{compareTerms-eq}
 use Rattle.theory.specs.Gathering.Gathered.{into-join}
-use Rattle.marks.specs.Marks.{markOf, Shows, Covering}
+use Rattle.marks.specs.Marks.{markOf, Shows, Covering, Among}
 use Rattle.marks.proofs.MarkedTerms.{mark-like, mark-tidy, shows-some}
 use Rattle.marks.proofs.Units.{sign-unit}
 
@@ -117,9 +114,21 @@ module _ (P : S.Term → Type 0) (t : S.Term) (here : (u : S.Term) → markOf u 
 
 -- ════ one term after the other
 
+-- one more mark behind others
+pub among-before : (h k : ℕ) (l : List ℕ) → Among h l → Among h (l ++ k ∷ [])
+unfolding Among
+among-before h k [] a = absurd a
+among-before h k (x ∷ l) (inl e) = inl e
+among-before h k (x ∷ l) (inr a) = inr (among-before h k l a)
+
+among-last : (h k : ℕ) (l : List ℕ) → h ≡ k → Among h (l ++ k ∷ [])
+unfolding Among
+among-last h k [] e = inl e
+among-last h k (x ∷ l) e = inr (among-last h k l e)
+
 -- a term that stands as it did, with its size at its mark, or one whose mark was seen since
 abbrev Marked : (marks seen : List ℕ) → S.Term → Type 0
-Marked marks seen u = (Shows (getD marks (markOf u) 0) (u .coef) × NonZero (u .coef)) ⊎ (getD seen (markOf u) 0 ≡ 1)
+Marked marks seen u = (Shows (getD marks (markOf u) 0) (u .coef) × NonZero (u .coef)) ⊎ Among (markOf u) seen
 
 -- the score of the terms put in, each of which changes the number of terms by at least its score less 1; and the marks of all that stand are known
 pub record Ahead (marks seen : List ℕ) (ts ps : List S.Term) (score : ℕ) : Type 0 where
@@ -127,10 +136,10 @@ pub record Ahead (marks seen : List ℕ) (ts ps : List S.Term) (score : ℕ) : T
   pub long : length ts + score ≤ length (gatherInto ts ps) + length ps
 
 -- none yet
-pub ahead-none : (marks seen : List ℕ) (ts : List S.Term) → Covering marks ts → All (λ (u : S.Term). NonZero (u .coef)) ts → Ahead marks seen ts [] 0
+pub ahead-none : (marks : List ℕ) (ts : List S.Term) → Covering marks ts → All (λ (u : S.Term). NonZero (u .coef)) ts → Ahead marks [] ts [] 0
 unfolding Covering gatherInto
-ahead-none marks seen ts h z = record {
-  marked = all-implies (λ (u : S.Term). Shows (getD marks (markOf u) 0) (u .coef) × NonZero (u .coef)) (Marked marks seen) (λ u e. inl e) ts
+ahead-none marks ts h z = record {
+  marked = all-implies (λ (u : S.Term). Shows (getD marks (markOf u) 0) (u .coef) × NonZero (u .coef)) (Marked marks []) (λ u e. inl e) ts
       (both-all (λ (u : S.Term). Shows (getD marks (markOf u) 0) (u .coef)) (λ (u : S.Term). NonZero (u .coef)) ts h z);
   long = omega arith;
 }
@@ -139,50 +148,44 @@ one-more : (ts ps : List S.Term) (t : S.Term) → gatherInto ts (ps ++ t ∷ [])
 unfolding gatherInto
 one-more ts ps t = into-join ts ps (t ∷ [])
 
-module _ (marks seen : List ℕ) (ts ps : List S.Term) (score : ℕ) (w : Ahead marks seen ts ps score) (t : S.Term) (h : markOf t < length seen) where
+module _ (marks seen : List ℕ) (ts ps : List S.Term) (score : ℕ) (w : Ahead marks seen ts ps score) (t : S.Term) where
   -- its mark is known from now on
-  marked-more : All (Marked marks (set seen (markOf t) 1)) (gatherInto ts (ps ++ t ∷ []))
+  marked-more : All (Marked marks (seen ++ markOf t ∷ [])) (gatherInto ts (ps ++ t ∷ []))
   marked-more =
-      subst (All (Marked marks (set seen (markOf t) 1))) (sym (one-more ts ps t))
-      (insert-all (Marked marks (set seen (markOf t) 1)) (tidy t) (λ u e. inr (there u (e ∙ mark-tidy t))) (gatherInto ts ps)
-      (all-implies (Marked marks seen) (Marked marks (set seen (markOf t) 1)) keeps (gatherInto ts ps) (w .marked)))
+      subst (All (Marked marks (seen ++ markOf t ∷ []))) (sym (one-more ts ps t))
+      (insert-all (Marked marks (seen ++ markOf t ∷ [])) (tidy t) (λ u e. inr (among-last (markOf u) (markOf t) seen (e ∙ mark-tidy t))) (gatherInto ts ps)
+      (all-implies (Marked marks seen) (Marked marks (seen ++ markOf t ∷ [])) keeps (gatherInto ts ps) (w .marked)))
     where
-      there : (u : S.Term) → markOf u ≡ markOf t → getD (set seen (markOf t) 1) (markOf u) 0 ≡ 1
-      there u e = ap (λ (n : ℕ). getD (set seen (markOf t) 1) n 0) e ∙ getD-set-same seen (markOf t) 1 0 h
-
-      keeps : (u : S.Term) → Marked marks seen u → Marked marks (set seen (markOf t) 1) u
+      keeps : (u : S.Term) → Marked marks seen u → Marked marks (seen ++ markOf t ∷ []) u
       keeps u (inl e) = inl e
-      keeps u (inr e) = inr (go (eqb (markOf u) (markOf t)) refl)
-        where
-          go : (b : Bool) → eqb (markOf u) (markOf t) ≡ b → getD (set seen (markOf t) 1) (markOf u) 0 ≡ 1
-          go true q = there u (eqb-true (markOf u) (markOf t) q)
-          go false q = getD-set-other seen (markOf t) (markOf u) 1 0 (eqb-false (markOf u) (markOf t) q) ∙ e
+      keeps u (inr e) = inr (among-before (markOf u) (markOf t) seen e)
 
   -- any term
-  pub ahead-more : Ahead marks (set seen (markOf t) 1) ts (ps ++ t ∷ []) score
+  pub ahead-more : Ahead marks (seen ++ markOf t ∷ []) ts (ps ++ t ∷ []) score
   ahead-more = record {
     marked = marked-more;
     long = omega (arith, w .long, insert-long (tidy t) (gatherInto ts ps), ap length (one-more ts ps t), length-append ps (t ∷ []));
   }
 
-  module _ (unseen : getD seen (markOf t) 0 ≡ 0) where
+  module _ (unseen : Among (markOf t) seen → ⊥) where
     -- what stands with its mark stands as it did
     before : (u : S.Term) → Marked marks seen u → markOf (tidy t) ≡ markOf u → Shows (getD marks (markOf t) 0) (u .coef) × NonZero (u .coef)
     before u (inl m) e = (subst (λ (n : ℕ). Shows (getD marks n 0) (u .coef)) (sym (sym (mark-tidy t) ∙ e)) (m .0), m .1)
-    before u (inr m) e = absurd (N.ne-of-lt (N.le-refl 1) (sym unseen ∙ ap (λ (n : ℕ). getD seen n 0) (sym (mark-tidy t) ∙ e) ∙ m))
+    before u (inr m) e = absurd (unseen (subst (λ (n : ℕ). Among n seen) (sym (sym (mark-tidy t) ∙ e)) m))
 
     -- one that is surely new
-    pub ahead-new : getD marks (markOf t) 0 ≡ 0 → NonZero (tidy t .coef) → Ahead marks (set seen (markOf t) 1) ts (ps ++ t ∷ []) (score + 2)
+    pub ahead-new : getD marks (markOf t) 0 ≡ 0 → NonZero (tidy t .coef) → Ahead marks (seen ++ markOf t ∷ []) ts (ps ++ t ∷ []) (score + 2)
     ahead-new a z = record {
       marked = marked-more;
       long = omega (arith, w .long, insert-more (tidy t) (gatherInto ts ps) z unlike, ap length (one-more ts ps t), length-append ps (t ∷ []));
     }
       where
         unlike : All (λ (u : S.Term). markOf (tidy t) ≡ markOf u → ⊥) (gatherInto ts ps)
-        unlike = all-implies (Marked marks seen) (λ (u : S.Term). markOf (tidy t) ≡ markOf u → ⊥) (λ u m e. shows-some (u .coef) (subst (λ (v : ℕ). Shows v (u .coef)) a (before u m e .0))) (gatherInto ts ps) (w .marked)
+        unlike = all-implies (Marked marks seen) (λ (u : S.Term). markOf (tidy t) ≡ markOf u → ⊥)
+            (λ u m e. shows-some (u .coef) (subst (λ (v : ℕ). Shows v (u .coef)) a (before u m e .0))) (gatherInto ts ps) (w .marked)
 
     -- one that surely takes none away
-    pub ahead-kept : ((c : ℤ) → natAbs c ≡ natAbs (t .coef) → Shows (getD marks (markOf t) 0) c → ⊥) → Ahead marks (set seen (markOf t) 1) ts (ps ++ t ∷ []) (score + 1)
+    pub ahead-kept : ((c : ℤ) → natAbs c ≡ natAbs (t .coef) → Shows (getD marks (markOf t) 0) c → ⊥) → Ahead marks (seen ++ markOf t ∷ []) ts (ps ++ t ∷ []) (score + 1)
     ahead-kept k = record {
       marked = marked-more;
       long = omega (arith, w .long, insert-kept (tidy t) (gatherInto ts ps) unlike, ap length (one-more ts ps t), length-append ps (t ∷ []));
@@ -197,3 +200,13 @@ pub into-long : (ts ps : List S.Term) → length ts ≤ length (gatherInto ts ps
 unfolding gatherInto
 into-long ts [] = omega arith
 into-long ts (t ∷ ps) = omega (arith, into-long (insert (tidy t) ts) ps, insert-long (tidy t) ts)
+
+-- ════ marks carried over
+
+-- terms put in at whose marks 255 stands leave all covered
+pub into-covered : (marks : List ℕ) (ts ps : List S.Term) → All (λ (p : S.Term). getD marks (markOf p) 0 ≡ 255) ps → Covering marks ts → Covering marks (gatherInto ts ps)
+unfolding Covering gatherInto Shows
+into-covered marks ts [] a w = w
+into-covered marks ts (p ∷ ps) a w =
+    into-covered marks (insert (tidy p) ts) ps (a .1)
+    (insert-all (λ (u : S.Term). Shows (getD marks (markOf u) 0) (u .coef)) (tidy p) (λ u e. inr (ap (λ (n : ℕ). getD marks n 0) (e ∙ mark-tidy p) ∙ a .0)) ts w)

@@ -8,19 +8,19 @@ use native.Mathlib.Nat as N
 use native.Mathlib.Omega.{arith}
 use borrow.Author.Tests.{eq-eqb, ne-eqb, eqb-true, eqb-false}
 use lib.Dec.{eqb}
-use lib.IntN.{ℤ}
+use lib.IntN.{ℤ, pos}
 use lib.ListN.{length, getD, set, take, drop}
-use lib.Seq.{getD-set-same, getD-set-other, take-suc}
-use native.Mathlib.Numerals.{add-one}
+use lib.Seq.{getD-set-same, getD-set-other, take-add, take-all}
 use Rattle.specification.specs.Terms as S
 use Rattle.theory.specs.Elements.{All, all-implies, all-append}
 use Rattle.terms.specs.declared.types.Term.{Term}
-use Rattle.terms.specs.declared.types.Form.{Form}
 use Rattle.terms.specs.Numbers.{lettersOf}
 use Rattle.terms.specs.declared.factors.Factor.{Factor}
 use Rattle.terms.specs.declared.factors.Factor.the-variants.{Scalar, Dot, Triple}
-use Rattle.terms.specs.Abstraction.{factorOf, partOf, termOf, formOf}
-use Rattle.terms.proofs.Arrays.{noTerm, rest-at, nothing-left, mapped-behind}
+use Rattle.terms.specs.Abstraction.{factorOf, partOf, termOf}
+use Rattle.terms.proofs.Arrays.{rest-at, nothing-left}
+use Rattle.gathering.specs.Rows.{termBy, runOf, Run}
+use Rattle.gathering.proofs.RowRuns.{run-length, run-at}
 use Rattle.rules.specs.Table.{letter}
 use Rattle.marks.specs.Marks.{letterMark, lettersMark, factorsMark, markOf, sizeMark, Shows, Covering, Joint, LettersMarked, placesMark, rowMark, rowPartMark, productMark}
 use Rattle.marks.proofs.MarkedTerms.{mark-small, shows-some}
@@ -183,16 +183,18 @@ covers-more marks ts t h r n e j w =
             subst (λ (v : ℕ). Shows v (u .coef)) (sym (there (markOf u) (sym same))) (joins (u .coef) (subst (λ (k : ℕ). Shows (getD marks k 0) (u .coef)) same m))
         go false q = subst (λ (v : ℕ). Shows v (u .coef)) (sym (getD-set-other marks h (markOf u) r 0 (eqb-false (markOf u) h q))) m
 
--- the mark of the next term of a form
-pub covering-more : (f : Form) (marks : List ℕ) (i h r : ℕ) → length (f .terms) ≡ 48 → i < 48 → length marks ≡ 512 → h ≡ markOf (termOf (getD (f .terms) i noTerm))
-    → Joint (getD marks h 0) (sizeMark (getD (f .terms) i noTerm .coef)) r → Covering marks (map termOf (take i (f .terms))) → Covering (set marks h r) (map termOf (take (i + 1) (f .terms)))
-unfolding termOf
-covering-more f marks i h r places inside long e j w =
-    let next : take (i + 1) (f .terms) ≡ take i (f .terms) ++ getD (f .terms) i noTerm ∷ [] = ap (λ (k : ℕ). take k (f .terms)) (add-one i) ∙ take-suc (f .terms) i noTerm (omega (arith, places)) in
-    subst (Covering (set marks h r)) (sym (ap (map termOf) next ∙ mapped-behind termOf (take i (f .terms)) (getD (f .terms) i noTerm)))
-    (covers-more marks (map termOf (take i (f .terms))) (termOf (getD (f .terms) i noTerm)) h r long e j w)
+-- the mark of the next of n rows
+pub covering-more : (rows : List (List ℕ)) (coefs : List ℤ) (n : ℕ) (marks : List ℕ) (i h r : ℕ) → Run n rows coefs → i < n → length marks ≡ 512
+    → h ≡ markOf (termBy (getD rows i []) (getD coefs i (pos 0))) → Joint (getD marks h 0) (sizeMark (getD coefs i (pos 0))) r → Covering marks (take i (runOf n rows coefs))
+    → Covering (set marks h r) (take (i + 1) (runOf n rows coefs))
+unfolding termBy
+covering-more rows coefs n marks i h r v inside long e j w =
+    let t = termBy (getD rows i []) (getD coefs i (pos 0)) in
+    let next : take (i + 1) (runOf n rows coefs) ≡ take i (runOf n rows coefs) ++ t ∷ [] =
+    take-add i 1 (runOf n rows coefs) ∙ ap (λ (l : List S.Term). take i (runOf n rows coefs) ++ take 1 l) (run-at rows coefs n (v .room) (v .beside) i inside) in
+    subst (Covering (set marks h r)) (sym next) (covers-more marks (take i (runOf n rows coefs)) t h r long e j w)
 
--- all terms of a form
-pub covering-all : (f : Form) (marks : List ℕ) (i : ℕ) → i ≡ f .count → Covering marks (map termOf (take i (f .terms))) → Covering marks (formOf f .terms)
-unfolding formOf
-covering-all f marks i e w = subst (λ (k : ℕ). Covering marks (map termOf (take k (f .terms)))) e w
+-- all of them
+pub covering-all : (rows : List (List ℕ)) (coefs : List ℤ) (n : ℕ) (marks : List ℕ) (i : ℕ) → Run n rows coefs → n ≤ i → Covering marks (take i (runOf n rows coefs)) → Covering marks (runOf n rows coefs)
+covering-all rows coefs n marks i v h w =
+    subst (Covering marks) (take-all i (runOf n rows coefs) (omega (arith, run-length rows coefs n (v .room) (v .beside)))) w

@@ -9,7 +9,7 @@ use lib.IntN.{ℤ, natAbs}
 use lib.ListN.{length, getD}
 use Rattle.algebra.specs.Integers.{NonZero}
 use Rattle.specification.specs.Results.{if_then_else_}
-use Rattle.specification.specs.Terms.{withCoef, tidy, gather}
+use Rattle.specification.specs.Terms.{withCoef, tidy, gather, gatherInto}
 use Rattle.specification.specs.Terms as S
 use Rattle.specification.specs.Rules.{stepTerms}
 use Rattle.specification.specs.Rules as R
@@ -60,6 +60,10 @@ unfoldable pub NotShorter : (marks : List ℕ) (size : ℕ) (s : R.Step) → Typ
 NotShorter marks v s =
     (c : ℤ) → NonZero c → Sized v c → (f : S.Form) → FormInShape f → Covering marks (f .terms)
     → length (f .terms) ≤ length (gather (f .terms ++ stepTerms (record { rule = s .rule; letters = s .letters; m = withCoef c (s .m) })))
+
+-- marks after a step: whatever terms were covered, those that it reaches from them are
+unfoldable pub Carried : (before : List ℕ) (s : R.Step) (after : List ℕ) → Type 0
+Carried before s after = (ts : List S.Term) → Covering before ts → Covering after (gatherInto ts (stepTerms s))
 
 -- what stands at a mark after one more term of a size
 pub record Joint (before size after : ℕ) : Type 0 where
@@ -112,21 +116,24 @@ pub record RowStands (marks : List ℕ) (row : ℕ) : Type 0 where
   pub third : Differing marks (row / 64 % 512)
   pub part : (row % 64 % 8 ≡ 0 → ⊥) → getD marks (row % 64 / 8) 0 ≡ getD marks (row % 64 % 8) 0 → ⊥
 
--- a row that surely takes no term away: no earlier row has its mark, and where its mark stands, no term has the size of M's coefficient
-pub record SurelyKept (marks seen : List ℕ) (size mark : ℕ) : Type 0 where
-  pub unseen : getD seen mark 0 ≡ 0
+-- a mark is one of these
+unfoldable pub Among : (mark : ℕ) (marks : List ℕ) → Type 0
+Among h [] = ⊥
+Among h (k ∷ l) = (h ≡ k) ⊎ Among h l
+
+-- a row of whose mark no earlier row is surely takes no term away: where its mark stands, no term has the size of M's coefficient
+pub record SurelyKept (marks : List ℕ) (size mark : ℕ) : Type 0 where
   pub unlike : (c : ℤ) → Sized size c → Shows (getD marks mark 0) c → ⊥
 
--- a row that surely adds a term: no mark stands where its own would
-pub record SurelyNew (marks seen : List ℕ) (mark : ℕ) (letters : List ℕ) (row : ℕ) : Type 0 where
+-- such a row surely adds a term: no mark stands where its own would
+pub record SurelyNew (marks : List ℕ) (mark : ℕ) (letters : List ℕ) (row : ℕ) : Type 0 where
   pub unmarked : getD marks mark 0 ≡ 0
-  pub unseen : getD seen mark 0 ≡ 0
   pub stands : RowStands letters row
 
--- the score of a row: 2 where it surely adds a term, 1 where it surely takes none away, 0 where it may take one away
-pub record Scored (marks seen : List ℕ) (size mark : ℕ) (letters : List ℕ) (row r : ℕ) : Type 0 where
-  pub new : r ≡ 2 → SurelyNew marks seen mark letters row
-  pub kept : r ≡ 1 → SurelyKept marks seen size mark
+-- the score of such a row: 2 where it surely adds a term, 1 where it surely takes none away, 0 where it may take one away
+pub record Scored (marks : List ℕ) (size mark : ℕ) (letters : List ℕ) (row r : ℕ) : Type 0 where
+  pub new : r ≡ 2 → SurelyNew marks mark letters row
+  pub kept : r ≡ 1 → SurelyKept marks size mark
   pub few : r ≤ 2
 
 -- ════ what a product adds to a term

@@ -7,13 +7,13 @@ ghost use lib.IntN.{natAbs};
 ghost use lib.ListN.{length, take};
 ghost use Rattle.theory.specs.Elements.{All};
 ghost use Rattle.terms.specs.Numbers.{lettersOf};
-ghost use Rattle.terms.specs.Abstraction.{partOf, termOf, formOf, Counted};
-ghost use Rattle.terms.specs.Valid.{FormValid};
+ghost use Rattle.terms.specs.Abstraction.{partOf, termOf, Counted};
+ghost use Rattle.gathering.specs.Rows.{runOf, Run, Light};
 ghost use Rattle.marks.specs.Marks.{letterMark, lettersMark, factorsMark, markOf, sizeMark, Joint, Covering};
+use gathering::rows::term_of;
 use integers::size;
 use terms::factors::Factor;
 use terms::factors::letters_of;
-use terms::types::Form;
 use terms::types::Part;
 use terms::types::Term;
 
@@ -108,19 +108,20 @@ fn joint_mark(w: u8, v: u8) -> u8
     255
 }
 
-// The size of each term of a form at its mark, 0 elsewhere.
-pub fn mark_form(f: Form) -> [u8; 512]
-    requires { ⌜ FormValid f ⌝ }
-    ensures covering { λ r. ⌜ Covering r (formOf f .terms) ⌝ }
+// The size of each of n terms in rows at its mark, 0 elsewhere.
+pub fn mark_rows(rows: &[[u32; 8]], coefs: &[i64], n: usize) -> [u8; 512]
+    requires { ⌜ Run n (now rows) (now coefs) × Light 2147483647 n (now coefs) ⌝ }
+    ensures covering { λ r. ⌜ Covering r (runOf n (now (rows .entry)) (now (coefs .entry))) ⌝ }
     ensures long { λ r. ⌜ length r ≡ 512 ⌝ }
 {
-    let n = f.count;
     let mut marks = [0u8; 512];
     let mut i: usize = 0;
     while i < n {
-        let t = f.terms[i];
+        let r = rows[i];
+        let c = coefs[i];
+        let t = term_of(r, c);
         let h = term_mark(t);
-        let v = size_mark(t.coef);
+        let v = size_mark(c);
         marks[h] = joint_mark(marks[h], v);
         i += 1;
     }

@@ -98,21 +98,11 @@ fn row_stands(l: &[u64; 8], n: u64) -> bool
     true
 }
 
-// The score of a row of this mark: 2 where it surely adds a term, 1 where it surely takes none away, 0 where it may take one away.
-pub fn row_score(
-    marks: &[u8; 512],
-    seen: &[u8; 512],
-    v: u8,
-    h: usize,
-    l: &[u64; 8],
-    n: u64,
-) -> usize
-    requires { ⌜ (h < 509) × (length (now marks) ≡ 512) × (length (now seen) ≡ 512) × (length (now l) ≡ 8) ⌝ }
-    ensures { λ r. ⌜ Scored (now (marks .entry)) (now (seen .entry)) v h (now (l .entry)) n r ⌝ }
+// The score of a row of this mark, where no earlier row has it: 2 where it surely adds a term, 1 where it surely takes none away, 0 where it may take one away.
+pub fn row_score(marks: &[u8; 512], v: u8, h: usize, l: &[u64; 8], n: u64) -> usize
+    requires { ⌜ (h < 509) × (length (now marks) ≡ 512) × (length (now l) ≡ 8) ⌝ }
+    ensures { λ r. ⌜ Scored (now (marks .entry)) v h (now (l .entry)) n r ⌝ }
 {
-    if seen[h] != 0 {
-        return 0;
-    }
     let w = marks[h];
     if w == 0 {
         if row_stands(l, n) {

@@ -2,12 +2,12 @@
 // A product of M with a row of the rule whose mark no term has adds a term; one whose mark only terms of other sizes have takes none away; any other
 // takes away at most one.
 ghost use mathlib.Core.Path.{_≡_};
-ghost use mathlib.Core.Bool.{true};
+ghost use mathlib.Core.Bool.{true, false};
 ghost use mathlib.Core.Logic.{_⊎_};
 ghost use mathlib.Core.List.{[]};
 ghost use Prim.Native.Nat.{_%_, _≤_};
 ghost use lib.IntN.{natAbs};
-ghost use lib.ListN.{length};
+ghost use lib.ListN.{length, take};
 ghost use Rattle.specification.specs.Terms.{timesTerm, gather};
 ghost use Rattle.specification.specs.Rules.{stepTerms};
 ghost use Rattle.theory.specs.Order.{monomial};
@@ -15,19 +15,20 @@ ghost use Rattle.theory.specs.Gathering.Coefficients.{coeff};
 ghost use Rattle.terms.specs.Abstraction.{partOf, termOf, Counted};
 ghost use Rattle.rules.specs.Table.{partAt, rowTerm};
 ghost use Rattle.rules.specs.Steps.{stepOf, StepValid, StepFits};
-ghost use Rattle.marks.specs.Marks.{NotShorter, StepMarked, RowGained};
+ghost use Rattle.marks.specs.Marks.{Among, NotShorter, Carried, StepMarked, RowGained};
 use crate::marking::factors_mark;
 use crate::marking::part_mark;
 use crate::marking::term_mark;
 use crate::rows::letter_marks;
 use crate::rows::product_mark;
 use crate::rows::row_score;
-use gathering::are_like;
 use integers::add;
 use rules::steps::Step;
 use rules::steps::row_count;
 use rules::table::rule_rows;
 use rules::table::times_row;
+use terms::order::compare;
+use terms::order::is_equal;
 use terms::tidy::tidy;
 use terms::types::Term;
 
@@ -57,7 +58,23 @@ pub fn mark_step(s: Step) -> StepMarks
     }
 }
 
+// Whether a mark is one of the first n.
+fn is_among(hs: &[usize; 8], n: usize, h: usize) -> bool
+    requires { ⌜ (n ≤ 8) × (length (now hs) ≡ 8) ⌝ }
+    ensures { λ r. ⌜ (r ≡ false → Among h (take n (now (hs .entry))) → ⊥) ⌝ }
+{
+    let mut i: usize = 0;
+    while i < n {
+        if hs[i] == h {
+            return true;
+        }
+        i += 1;
+    }
+    false
+}
+
 // Whether a step with these marks surely leads no form with those marks to fewer terms, whatever the coefficient of M, if it has the size v; 0 stands for any.
+// A product's mark is made when its row comes, since most steps are ruled out before the last.
 pub fn surely_longer(marks: &[u8; 512], v: u8, s: Step, w: StepMarks) -> bool
     requires { ⌜ StepValid s × StepFits s × StepMarked (s .letters) (termOf (s .m)) w × (length (now marks) ≡ 512) ⌝ }
     ensures { λ r. ⌜ (r ≡ true → NotShorter (now (marks .entry)) v (stepOf s)) ⌝ }
@@ -65,7 +82,7 @@ pub fn surely_longer(marks: &[u8; 512], v: u8, s: Step, w: StepMarks) -> bool
     let rule = s.rule;
     let n = row_count(rule);
     let rows = rule_rows(rule);
-    let mut seen = [0u8; 512];
+    let mut hs = [0usize; 8];
     let mut score: usize = 0;
     let mut i: usize = 0;
     while i < n {
@@ -74,9 +91,13 @@ pub fn surely_longer(marks: &[u8; 512], v: u8, s: Step, w: StepMarks) -> bool
         }
         let k = rows[i];
         let h = product_mark(w.factors, w.part, &w.letters, k);
-        score += row_score(marks, &seen, v, h, &w.letters, k);
-        seen[h] = 1;
+        let seen = is_among(&hs, i, h);
+        hs[i] = h;
         i += 1;
+        if seen {
+            continue;
+        }
+        score += row_score(marks, v, h, &w.letters, k);
     }
     n <= score
 }
@@ -88,7 +109,7 @@ fn row_gain(t: Term, m: Term, letters: [u8; 6], k: u64) -> i64
     ensures { λ r. ⌜ RowGained (termOf t) (timesTerm (termOf m) (rowTerm letters k)) r ⌝ }
 {
     let u = tidy(times_row(m, letters, k));
-    if are_like(t, u) {
+    if is_equal(compare(t, u)) {
         return u.coef;
     }
     0
@@ -115,4 +136,22 @@ pub fn gain(t: Term, s: Step, w: StepMarks) -> i64
         i += 1;
     }
     g
+}
+
+// 255 at the mark of each product of a step: any size may stand there once it is taken.
+pub fn mark_reached(marks: &mut [u8; 512], s: Step)
+    requires { ⌜ StepValid s × (length (now marks) ≡ 512) ⌝ }
+    ensures covering { λ _. ⌜ Carried (now (marks .entry)) (stepOf s) (now (marks .exit)) ⌝ }
+    ensures long { λ _. ⌜ length (now (marks .exit)) ≡ 512 ⌝ }
+{
+    let rule = s.rule;
+    let n = row_count(rule);
+    let rows = rule_rows(rule);
+    let w = mark_step(s);
+    let mut i: usize = 0;
+    while i < n {
+        let h = product_mark(w.factors, w.part, &w.letters, rows[i]);
+        marks[h] = 255;
+        i += 1;
+    }
 }

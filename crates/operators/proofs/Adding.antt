@@ -1,105 +1,175 @@
--- Sums: a form begun with, terms brought in, signs turned. Assumes nothing.
+-- Sums in rows: a form's rows brought in among another's, what is gathered closed, signs turned. Assumes nothing.
 use mathlib.Core.Path.{_≡_, refl, ap, sym, subst, _∙_}
 use mathlib.Core.List.{List, [], _∷_, _++_, map}
-use Prim.Native.Nat.{ℕ, _+_, _≤_, _<_}
+use Prim.Native.Nat.{ℕ, zero, suc, _+_, _*_, _≤_, _<_}
 use native.Mathlib.Numerals.{add-one}
 use native.Mathlib.Omega.{arith}
 use borrow.Author.Tests.{eq-eqb, ne-eqb}
-use lib.IntN.{ℤ, negℤ, natAbs}
-use lib.ListN.{length, take, getD, set}
-use lib.Seq.{take-suc}
-use Rattle.algebra.specs.Integers.{sfits-natAbs}
-use Rattle.specification.specs.Results.{refused}
-use Rattle.specification.specs.Terms.{gather, gatherInto, within, negated}
+use lib.IntN.{ℤ, pos, negℤ, natAbs}
+use lib.ListN.{length, take, drop, getD, set}
+use Rattle.algebra.specs.Integers as R
+use Rattle.specification.specs.Terms.{tidy, gather, within, negated}
 use Rattle.specification.specs.Terms as S
 use Rattle.specification.specs.Reduction.{sumForms, negateForm}
 use Rattle.theory.specs.Elements.{All, all-append}
 use Rattle.theory.specs.Order.{monomial}
 use Rattle.theory.specs.Gathering.Gathered.{gather-onto}
 use Rattle.theory.specs.Shape.Terms.{Fits}
-use Rattle.theory.specs.Shape.Forms.{FormInShape, AllFit, form-fits, form-gathered}
+use Rattle.theory.specs.Shape.Forms.{FormInShape, form-fits, form-gathered}
 use Rattle.theory.specs.Reduction.Operators.{negate-in-shape}
-use Rattle.integers.proofs.Machine.{back, back-is}
-use Rattle.terms.specs.declared.types.Term.{Term}
-use Rattle.terms.specs.declared.types.Form.{Form}
-use Rattle.terms.specs.Abstraction.{termOf, formOf, Counted}
-use Rattle.terms.specs.Valid.{FormValid, Gives}
-use Rattle.terms.proofs.Arrays.{noTerm, stored-behind, mapped-behind}
-use Rattle.gathering.specs.declared.Sum.{Sum}
-use Rattle.terms.specs.declared.types.Outcome.{Outcome}
-use Rattle.gathering.specs.Sums.{sumOf}
-use Rattle.gathering.specs.Closing.{ClosedAs}
-use Rattle.operators.specs.Sums.{Negated}
-use Rattle.gathering.proofs.Closing.{refuses, works-as, closes}
+use Rattle.terms.proofs.Arrays.{all-at}
+use Rattle.gathering.specs.declared.rows.Worked.{Worked}
+use Rattle.gathering.specs.Rows.{RowValid, termBy, termsBy, runOf, Light, coefBound, formBy, FormRun, BroughtIn, RowsGive, Copied}
+use Rattle.gathering.proofs.RowSums.{light-more, rows-refused, rows-as, run-copied}
+use Rattle.operators.specs.Results.{SomeForm, Brought, GatheredRows}
+use Rattle.operators.proofs.Bringing.{run-taken, run-all, run-holds, brought-row, brought-both, brought-as}
+
+-- ════ a form's rows brought in
+
+module _ (m : ℕ) (right : List (List ℕ)) (rights : List ℤ) (f : SomeForm m right rights) (j : ℕ) (h : j < m) where
+  pub row-valid : RowValid (getD right j [])
+  row-valid = all-at RowValid right m j [] (f .form .run .room) h (f .form .run .valid)
+
+  row-light : natAbs (getD rights j (pos 0)) ≤ 2147483647
+  unfolding Light
+  row-light = all-at (λ (z : ℤ). natAbs z ≤ 2147483647) rights m j (pos 0) (f .form .run .beside) h (f .form .light)
+
+  pub row-bound : (z : ℤ) → z ≡ getD rights j (pos 0) → natAbs z ≤ coefBound
+  row-bound z e = omega (arith, ap natAbs e, row-light)
+
+  row-tidy : tidy (termBy (getD right j []) (getD rights j (pos 0))) ≡ termBy (getD right j []) (getD rights j (pos 0))
+  row-tidy =
+      run-holds m right rights (f .form .run .room) (f .form .run .beside) (λ (t : S.Term). tidy t ≡ t) j h
+      (form-gathered (formBy (f .kind) m right rights) (f .form .inShape) .tidied)
+
+  module _ (n : ℕ) (rows₀ : List (List ℕ)) (coefs₀ : List ℤ) (count : ℕ) (rows : List (List ℕ)) (coefs : List ℤ)
+      (w : Brought j n rows₀ coefs₀ (take j (runOf m right rights)) count rows coefs) where
+    -- no coefficient is too large for the next
+    pub rows-light : Light 2147483647 n coefs₀ → Light coefBound count coefs
+    rows-light l = light-more (2147483647 + j * 2147483647) coefBound count coefs (omega (arith, f .form .few)) (w .light 2147483647 l)
+
+    -- one row more
+    pub rows-more : (z : ℤ) (s : ℕ) (rows' : List (List ℕ)) (coefs' : List ℤ) → z ≡ getD rights j (pos 0)
+        → BroughtIn count rows coefs (getD right j []) z s rows' coefs'
+        → Brought (j + 1) n rows₀ coefs₀ (take (j + 1) (runOf m right rights)) s rows' coefs'
+    rows-more z s rows' coefs' e b =
+        let r = getD right j [] in
+        let c = getD rights j (pos 0) in
+        brought-as n rows₀ coefs₀ (j + 1) (j + 1) _ _ s rows' coefs' (omega arith)
+        (sym (run-taken m right rights (f .form .run .room) (f .form .run .beside) j h))
+        (brought-both n rows₀ coefs₀ j 1 (take j (runOf m right rights)) (termBy r c ∷ []) count s rows coefs rows' coefs' w
+        (brought-row count rows coefs r c s rows' coefs' row-tidy row-light (subst (λ (y : ℤ). BroughtIn count rows coefs r y s rows' coefs') e b)))
+
+-- all of them
+pub rows-all : (m : ℕ) (right : List (List ℕ)) (rights : List ℤ) (f : SomeForm m right rights) (j n : ℕ) (rows₀ : List (List ℕ)) (coefs₀ : List ℤ) (s : ℕ)
+    (rows : List (List ℕ)) (coefs : List ℤ)
+    → j ≤ m → m ≤ j → Brought j n rows₀ coefs₀ (take j (runOf m right rights)) s rows coefs → Brought m n rows₀ coefs₀ (runOf m right rights) s rows coefs
+rows-all m right rights f j n rows₀ coefs₀ s rows coefs g h w =
+    brought-as n rows₀ coefs₀ j m (take j (runOf m right rights)) (runOf m right rights) s rows coefs g
+    (run-all m right rights (f .form .run .room) (f .form .run .beside) j h) w
 
 -- ════ the sum
 
 -- unlike kinds
-pub sum-six : (f g : Form) (r : Outcome) → (f .kind ≡ g .kind → ⊥) → r .refusal ≡ 6 → Gives (sumForms (formOf f) (formOf g)) r
-unfolding sumForms formOf
-sum-six f g r h e = refuses (sumForms (formOf f) (formOf g)) r 6 e (λ z. omega arith) (rw (ne-eqb (f .kind) (g .kind) h))
+pub sum-six : (f g : S.Form) (w : Worked) (rows : List (List ℕ)) (coefs : List ℤ) → (f .kind ≡ g .kind → ⊥) → w .refusal ≡ 6
+    → RowsGive (sumForms f g) w rows coefs
+unfolding sumForms
+sum-six f g w rows coefs h e = rows-refused (sumForms f g) w 6 rows coefs e (λ z. omega arith) (rw (ne-eqb (f .kind) (g .kind) h))
 
-module _ (f g : Form) (v : FormValid f) (w : FormValid g) (e : f .kind ≡ g .kind) where
-  gathered : gatherInto (formOf f .terms) (formOf g .terms) ≡ gather (formOf f .terms ++ formOf g .terms)
-  gathered = gather-onto (formOf f .terms) (formOf g .terms) (form-gathered (formOf f) (v .inShape))
+-- one kind
+module _ (kind n : ℕ) (rows : List (List ℕ)) (coefs : List ℤ) (m : ℕ) (right : List (List ℕ)) (rights : List ℤ) (v : FormRun kind n rows coefs)
+    (u : FormRun kind m right rights) where
+  module _ (r : ℕ) (rows' : List (List ℕ)) (coefs' : List ℤ) (b : Brought m n rows coefs (runOf m right rights) r rows' coefs') where
+    gathered : runOf r rows' coefs' ≡ gather (runOf n rows coefs ++ runOf m right rights)
+    gathered = b .is ∙ gather-onto (runOf n rows coefs) (runOf m right rights) (form-gathered (formBy kind n rows coefs) (v .inShape))
 
-  sum-is : within (f .kind) (gather (formOf f .terms ++ formOf g .terms)) ≡ sumForms (formOf f) (formOf g)
-  unfolding sumForms formOf
-  sum-is = rw (eq-eqb (f .kind) (g .kind) e)
+    -- what was brought together can be closed
+    pub sum-gathered : GatheredRows kind r rows' coefs'
+    sum-gathered = record {
+      run = b .run;
+      small = v .inShape .kind;
+      terms = runOf n rows coefs ++ runOf m right rights;
+      is = gathered;
+      fit = all-append (λ (t : S.Term). Fits kind (monomial t)) (runOf n rows coefs) (runOf m right rights) (form-fits (formBy kind n rows coefs) (v .inShape))
+          (form-fits (formBy kind m right rights) (u .inShape));
+    }
 
-  -- one kind: what is gathered is refused
-  pub sum-refused : (r : Outcome) (n : ℕ) → r .refusal ≡ n → (n ≡ 0 → ⊥) → within (f .kind) (gatherInto (formOf f .terms) (formOf g .terms)) ≡ refused n → Gives (sumForms (formOf f) (formOf g)) r
-  sum-refused r n h z p = refuses (sumForms (formOf f) (formOf g)) r n h z (sym sum-is ∙ ap (within (f .kind)) (sym gathered) ∙ p)
+    -- and gives the sum
+    pub sum-gives : (w : Worked) (rows″ : List (List ℕ)) (coefs″ : List ℤ) → RowsGive (within kind (runOf r rows' coefs')) w rows″ coefs″
+        → RowsGive (sumForms (formBy kind n rows coefs) (formBy kind m right rights)) w rows″ coefs″
+    unfolding sumForms
+    sum-gives w rows″ coefs″ = rows-as (within kind (runOf r rows' coefs')) _ w rows″ coefs″ (ap (within kind) gathered ∙ rw (eq-eqb kind kind refl))
 
-  -- or closed
-  pub sum-closed : (q : Sum) (r : Outcome) → sumOf q ≡ gatherInto (formOf f .terms) (formOf g .terms) → ClosedAs q (f .kind) r → Gives (sumForms (formOf f) (formOf g)) r
-  unfolding formOf
-  sum-closed q r b c =
-      works-as (within (f .kind) (gather (formOf f .terms ++ formOf g .terms))) (sumForms (formOf f) (formOf g)) r sum-is
-      (closes q (f .kind) (formOf f .terms ++ formOf g .terms) r (v .inShape .kind) (b ∙ gathered)
-      (all-append (λ (t : S.Term). Fits (f .kind) (monomial t)) (formOf f .terms) (formOf g .terms) (form-fits (formOf f) (v .inShape))
-      (subst (λ (k : ℕ). AllFit k (formOf g .terms)) (sym e) (form-fits (formOf g) (w .inShape)))) c)
+  -- apart
+  pub sum-apart : (more : List (List ℕ)) (beside : List ℤ) (w : Worked) (rows″ : List (List ℕ)) (coefs″ : List ℤ) → Copied n rows coefs more beside
+      → RowsGive (sumForms (formBy kind n more beside) (formBy kind m right rights)) w rows″ coefs″
+      → RowsGive (sumForms (formBy kind n rows coefs) (formBy kind m right rights)) w rows″ coefs″
+  sum-apart more beside w rows″ coefs″ q =
+      rows-as _ _ w rows″ coefs″ (ap (λ (l : List S.Term). sumForms (record { kind = kind; terms = l }) (formBy kind m right rights))
+      (run-copied n rows coefs more beside q))
+
+-- in the words of two kinds
+pub kinds-as : (kind other n : ℕ) (rows : List (List ℕ)) (coefs : List ℤ) → kind ≡ other → FormRun other n rows coefs → FormRun kind n rows coefs
+kinds-as kind other n rows coefs e = subst (λ (k : ℕ). FormRun k n rows coefs) (sym e)
+
+pub sum-as : (f : S.Form) (kind other : ℕ) (ts : List S.Term) (w : Worked) (rows : List (List ℕ)) (coefs : List ℤ) → kind ≡ other
+    → RowsGive (sumForms f (record { kind = kind; terms = ts })) w rows coefs → RowsGive (sumForms f (record { kind = other; terms = ts })) w rows coefs
+sum-as f kind other ts w rows coefs e = rows-as _ _ w rows coefs (ap (λ (k : ℕ). sumForms f (record { kind = k; terms = ts })) e)
 
 -- ════ signs turned
 
--- a term with the sign turned
-abbrev pub turned : Term → Term
-turned t = record { coef = negℤ (t .coef); factors = t .factors; «factor_count» = t .«factor_count»; part = t .part }
+-- the first i numbers turned
+abbrev pub turned : ℕ → List ℤ → List ℤ
+turned i l = map negℤ (take i l) ++ drop i l
 
--- one more
-pub one-turned : (g l : List Term) (i : ℕ) (z : ℤ) → take i g ≡ map turned (take i l) → i < length g → i < length l → natAbs (getD l i noTerm .coef) ≤ 2147483647
-    → z ≡ negℤ (back (getD l i noTerm .coef))
-    → take (i + 1) (set g i (record { coef = z; factors = getD l i noTerm .factors; «factor_count» = getD l i noTerm .«factor_count»; part = getD l i noTerm .part })) ≡ map turned (take (i + 1) l)
-one-turned g l i z e h k small p =
-    let t = getD l i noTerm in
-    stored-behind g i (record { coef = z; factors = t .factors; «factor_count» = t .«factor_count»; part = t .part }) h
-    ∙ (λ j. e j ++ record { coef = (p ∙ ap negℤ (back-is (sfits-natAbs (t .coef) (omega arith)))) j; factors = t .factors; «factor_count» = t .«factor_count»; part = t .part } ∷ [])
-    ∙ sym (mapped-behind turned (take i l) t) ∙ ap (map turned) (sym (take-suc l i noTerm k) ∙ (λ j. take (sym (add-one i) j) l))
+pub turned-at : (l : List ℤ) (i : ℕ) → i < length l → getD (turned i l) i (pos 0) ≡ getD l i (pos 0)
+turned-at [] i h = absurd (omega arith)
+turned-at (x ∷ l) zero h = refl
+turned-at (x ∷ l) (suc i) h = turned-at l i (omega arith)
 
-turned-terms : (l : List Term) → map termOf (map turned l) ≡ map negated (map termOf l)
-unfolding termOf
-turned-terms [] = refl
-turned-terms (t ∷ l) = ap (λ (k : List S.Term). negated (termOf t) ∷ k) (turned-terms l)
+pub turned-more : (l k : List ℤ) (i : ℕ) (z : ℤ) → k ≡ turned i l → i < length l → z ≡ negℤ (getD l i (pos 0)) → set k i z ≡ turned (i + 1) l
+turned-more l k i z q h e = (λ j. set (q j) i (e j)) ∙ rw add-one (go l i h)
+  where
+    go : (l : List ℤ) (i : ℕ) → i < length l → set (turned i l) i (negℤ (getD l i (pos 0))) ≡ turned (suc i) l
+    go [] i h = absurd (omega arith)
+    go (x ∷ l) zero h = refl
+    go (x ∷ l) (suc i) h = ap (λ (k : List ℤ). negℤ x ∷ k) (go l i (omega arith))
 
-turned-counted : (l : List Term) → All Counted l → All Counted (map turned l)
-turned-counted [] a = tt
-turned-counted (t ∷ l) a = (record { few = a .0 .few; small = a .0 .small }, turned-counted l (a .1))
+pub turned-all : (l k : List ℤ) (n i : ℕ) → k ≡ turned i l → i ≡ n → n ≤ length l → take n k ≡ map negℤ (take n l)
+turned-all l k n i q e h = (λ j. take n ((q ∙ ap (λ (m : ℕ). turned m l) e) j)) ∙ go l n h
+  where
+    go : (l : List ℤ) (n : ℕ) → n ≤ length l → take n (turned n l) ≡ map negℤ (take n l)
+    go l zero h = refl
+    go [] (suc n) h = absurd (omega arith)
+    go (x ∷ l) (suc n) h = ap (λ (k : List ℤ). negℤ x ∷ k) (go l n (omega arith))
 
--- all
-pub all-turned : (f g : Form) → FormValid f → g .kind ≡ f .kind → g .count ≡ f .count → take (f .count) (g .terms) ≡ map turned (take (f .count) (f .terms)) → Negated f g
-unfolding formOf negateForm
-all-turned f g v k c e =
-    let same : take (g .count) (g .terms) ≡ map turned (take (f .count) (f .terms)) = ap (λ (n : ℕ). take n (g .terms)) c ∙ e in
-    let is : formOf g ≡ negateForm (formOf f) = (λ j. record { kind = k j; terms = (ap (map termOf) same ∙ turned-terms (take (f .count) (f .terms))) j }) in
-    record {
-      is = is;
-      valid = record {
-        few = omega (arith, c, v .few);
-        counted = subst (All Counted) (sym same) (turned-counted (take (f .count) (f .terms)) (v .counted));
-        inShape = subst FormInShape (sym is) (negate-in-shape (formOf f) (v .inShape));
-      };
-    }
+terms-turned : (rs : List (List ℕ)) (cs : List ℤ) → termsBy rs (map negℤ cs) ≡ map negated (termsBy rs cs)
+unfolding termsBy termBy
+terms-turned [] cs = refl
+terms-turned (r ∷ rs) [] = refl
+terms-turned (r ∷ rs) (c ∷ cs) = ap (λ (l : List S.Term). negated (termBy r c) ∷ l) (terms-turned rs cs)
 
--- the difference is the sum with the negation
-pub difference-worked : (f g h : Form) (r : Outcome) → Negated g h → Gives (sumForms (formOf f) (formOf h)) r → Gives (sumForms (formOf f) (negateForm (formOf g))) r
-difference-worked f g h r n w = works-as (sumForms (formOf f) (formOf h)) (sumForms (formOf f) (negateForm (formOf g))) r (ap (sumForms (formOf f)) (n .is)) w
+light-turned : (b : ℕ) (cs : List ℤ) → All (λ (z : ℤ). natAbs z ≤ b) cs → All (λ (z : ℤ). natAbs z ≤ b) (map negℤ cs)
+light-turned b [] a = tt
+light-turned b (c ∷ cs) a = (subst (λ (k : ℕ). k ≤ b) (sym (R.natAbs-neg c)) (a .0), light-turned b cs (a .1))
+
+-- a form whose signs were turned is its negation
+module _ (kind n : ℕ) (rows : List (List ℕ)) (coefs coefs' : List ℤ) (e : take n coefs' ≡ map negℤ (take n coefs)) where
+  run-negated : runOf n rows coefs' ≡ map negated (runOf n rows coefs)
+  unfolding runOf
+  run-negated = ap (termsBy (take n rows)) e ∙ terms-turned (take n rows) (take n coefs)
+
+  pub form-negated : formBy kind n rows coefs' ≡ negateForm (formBy kind n rows coefs)
+  unfolding negateForm
+  form-negated = ap (λ (l : List S.Term). record { kind = kind; terms = l }) run-negated
+
+  pub negated-run : FormRun kind n rows coefs → n ≤ length coefs' → FormRun kind n rows coefs'
+  unfolding Light
+  negated-run v h =
+      let s : FormInShape (formBy kind n rows coefs') = subst FormInShape (sym form-negated) (negate-in-shape (formBy kind n rows coefs) (v .inShape)) in
+      record {
+        run = record { room = v .run .room; beside = h; valid = v .run .valid; ascending = form-gathered (formBy kind n rows coefs') s .ascending };
+        light = subst (All (λ (z : ℤ). natAbs z ≤ 2147483647)) (sym e) (light-turned 2147483647 (take n coefs) (v .light));
+        few = v .few;
+        inShape = s;
+      }

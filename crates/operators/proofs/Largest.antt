@@ -8,7 +8,7 @@ use native.Mathlib.Nat as N
 use native.Mathlib.Omega.{arith}
 use borrow.Author.Tests.{lt-ltb, le-ltb, le-leb, lt-leb}
 use lib.Dec.{T, leb, leb→le}
-use lib.IntN.{ℤ, natAbs, _*ℤ_}
+use lib.IntN.{ℤ, pos, natAbs, _*ℤ_}
 use lib.ListN.{length, take, drop, getD, drop-of-length-le}
 use Rattle.algebra.specs.Integers.{natAbs-*ℤ, sfits-natAbs}
 use Rattle.specification.specs.Lists.{all}
@@ -22,16 +22,15 @@ use Rattle.theory.specs.Shape.Terms.{TermShape, term-opens}
 use Rattle.theory.specs.Shape.Forms.{FormInShape}
 use Rattle.integers.proofs.Machine.{back, back-is}
 use Rattle.terms.specs.declared.types.Term.{Term}
-use Rattle.terms.specs.declared.types.Form.{Form}
 use Rattle.terms.specs.declared.shape.Used.{Used}
 use Rattle.terms.specs.Numbers.{lettersOf}
-use Rattle.terms.specs.Abstraction.{partOf, termOf, formOf}
+use Rattle.terms.specs.Abstraction.{partOf, termOf, Counted}
 use Rattle.terms.specs.Used.{UsedBy}
-use Rattle.terms.specs.Valid.{FormValid}
-use Rattle.terms.proofs.Arrays.{noTerm}
+use Rattle.terms.proofs.Arrays.{all-at}
+use Rattle.gathering.specs.Rows.{termBy, runOf, Run, Light}
+use Rattle.gathering.proofs.RowRuns.{run-at}
 use Rattle.letters.specs.Tested.{testOf}
 use Rattle.operators.specs.declared.limits.Most.{Most}
-use Rattle.operators.proofs.Places.{form-at}
 use Rattle.operators.specs.Limits.{testPairs, larger, coefSize, largest, MostWith, MostOf, MostSmall}
 
 -- ════ the larger of two
@@ -132,7 +131,8 @@ module _ (op : ℕ → ℕ → ℕ) (grows : (a b c d : ℕ) → a ≤ b → c �
   all-pairs [] us h k = sym (le-leb (op 0 (largest m us)) limit k)
   all-pairs (t ∷ ts) us h k =
       all-join (λ (p : S.Term × S.Term). leb (op (m (p .0)) (m (p .1))) limit) (map (λ (u : S.Term). (t, u)) us) (pairsOf ts us)
-      ∙ (λ i. (all-over (λ (p : S.Term × S.Term). leb (op (m (p .0)) (m (p .1))) limit) (λ (u : S.Term). (t, u)) us ∙ row (m t) us (h .0)) i && all-pairs ts us (h .1) k i)
+      ∙ (λ i. (all-over (λ (p : S.Term × S.Term). leb (op (m (p .0)) (m (p .1))) limit) (λ (u : S.Term). (t, u)) us ∙ row (m t) us (h .0)) i && all-pairs ts us
+      (h .1) k i)
       ∙ first-larger (m t) (largest m ts) (largest m us)
 
 -- ════ a form's limits
@@ -165,7 +165,8 @@ module _ (ts us : List S.Term) (h : All Limited ts) (k : All Limited us) where
       ≡ (leb (largest vectorLetters ts + largest vectorLetters us) 6 && leb (largest scalarLetters ts + largest scalarLetters us) 2)
   unfolding pairLettersFit
   letters-by-most =
-      all-both (λ (p : S.Term × S.Term). leb (vectorLetters (p .0) + vectorLetters (p .1)) 6) (λ (p : S.Term × S.Term). leb (scalarLetters (p .0) + scalarLetters (p .1)) 2) (pairsOf ts us)
+      all-both (λ (p : S.Term × S.Term). leb (vectorLetters (p .0) + vectorLetters (p .1)) 6)
+      (λ (p : S.Term × S.Term). leb (scalarLetters (p .0) + scalarLetters (p .1)) 2) (pairsOf ts us)
       ∙ (λ i. all-pairs _+_ (λ a b c d p q. omega arith) 6 vectorLetters ts us
       (all-implies Limited (λ (t : S.Term). vectorLetters t + 0 ≤ 6) (λ t l. omega (arith, l .vectors)) ts h) (omega (arith, most-vectors)) i
       && all-pairs _+_ (λ a b c d p q. omega arith) 2 scalarLetters ts us
@@ -177,7 +178,8 @@ module _ (ts us : List S.Term) (h : All Limited ts) (k : All Limited us) where
   coefs-by-most =
       all-same pairCoefFits (λ (p : S.Term × S.Term). leb (coefSize (p .0) * coefSize (p .1)) 2147483647)
       (λ p. ap (λ (n : ℕ). leb n 2147483647) (natAbs-*ℤ (p .0 .coef) (p .1 .coef))) (pairsOf ts us)
-      ∙ all-pairs _*_ (λ a b c d p q. N.mul-le-mul p q) 2147483647 coefSize ts us (all-implies Limited (λ (t : S.Term). coefSize t * 0 ≤ 2147483647) (λ t l. omega arith) ts h) (omega arith)
+      ∙ all-pairs _*_ (λ a b c d p q. N.mul-le-mul p q) 2147483647 coefSize ts us
+      (all-implies Limited (λ (t : S.Term). coefSize t * 0 ≤ 2147483647) (λ t l. omega arith) ts h) (omega arith)
 
   -- ════ the tests by what was found
 
@@ -189,18 +191,21 @@ module _ (ts us : List S.Term) (h : All Limited ts) (k : All Limited us) where
     coefs-found = coefs-by-most ∙ (λ i. leb (sym (ma .size) i * sym (mb .size) i) 2147483647)
 
     -- 8: a pair with too many letters
-    pub eight : (l : Bool) → length ts * length us ≤ 48 → l ≡ (leb (a .vectors + b .vectors) 6 && leb (a .scalars + b .scalars) 2) → l ≡ false → testOf 8 ≡ testPairs ts us
+    pub eight : (l : Bool) → length ts * length us ≤ 48 → l ≡ (leb (a .vectors + b .vectors) 6 && leb (a .scalars + b .scalars) 2) → l ≡ false
+        → testOf 8 ≡ testPairs ts us
     unfolding testOf testPairs
     eight l n e p = rw (le-leb _ 48 n, letters-found ∙ sym e ∙ p)
 
     -- 9: a pair's coefficient beyond
-    pub nine : (l c : Bool) → length ts * length us ≤ 48 → l ≡ (leb (a .vectors + b .vectors) 6 && leb (a .scalars + b .scalars) 2) → c ≡ leb (a .size * b .size) 2147483647
+    pub nine : (l c : Bool) → length ts * length us ≤ 48 → l ≡ (leb (a .vectors + b .vectors) 6 && leb (a .scalars + b .scalars) 2)
+        → c ≡ leb (a .size * b .size) 2147483647
         → l ≡ true → c ≡ false → testOf 9 ≡ testPairs ts us
     unfolding testOf testPairs
     nine l c n e f p q = rw (le-leb _ 48 n, letters-found ∙ sym e ∙ p, coefs-found ∙ sym f ∙ q)
 
     -- no pair is refused
-    pub all-fit : (l c : Bool) → length ts * length us ≤ 48 → l ≡ (leb (a .vectors + b .vectors) 6 && leb (a .scalars + b .scalars) 2) → c ≡ leb (a .size * b .size) 2147483647
+    pub all-fit : (l c : Bool) → length ts * length us ≤ 48 → l ≡ (leb (a .vectors + b .vectors) 6 && leb (a .scalars + b .scalars) 2)
+        → c ≡ leb (a .size * b .size) 2147483647
         → l ≡ true → c ≡ true → testOf 0 ≡ testPairs ts us
     unfolding testOf testPairs
     all-fit l c n e f p q = rw (le-leb _ 48 n, letters-found ∙ sym e ∙ p, coefs-found ∙ sym f ∙ q)
@@ -213,9 +218,12 @@ seven ts us n = rw (lt-leb _ 48 n)
 -- the numbers of terms in shape are small
 pub most-small : (ts : List S.Term) (r : Most) → All Limited ts → MostOf ts r → MostSmall r
 most-small ts r h m = record {
-  vectors = subst (λ (n : ℕ). n ≤ 6) (sym (m .vectors)) (largest-below vectorLetters 6 ts (all-implies Limited (λ (t : S.Term). vectorLetters t ≤ 6) (λ t l. l .vectors) ts h));
-  scalars = subst (λ (n : ℕ). n ≤ 2) (sym (m .scalars)) (largest-below scalarLetters 2 ts (all-implies Limited (λ (t : S.Term). scalarLetters t ≤ 2) (λ t l. l .scalars) ts h));
-  size = subst (λ (n : ℕ). n ≤ 2147483647) (sym (m .size)) (largest-below coefSize 2147483647 ts (all-implies Limited (λ (t : S.Term). coefSize t ≤ 2147483647) (λ t l. l .size) ts h));
+  vectors = subst (λ (n : ℕ). n ≤ 6) (sym (m .vectors)) (largest-below vectorLetters 6 ts
+      (all-implies Limited (λ (t : S.Term). vectorLetters t ≤ 6) (λ t l. l .vectors) ts h));
+  scalars = subst (λ (n : ℕ). n ≤ 2) (sym (m .scalars)) (largest-below scalarLetters 2 ts
+      (all-implies Limited (λ (t : S.Term). scalarLetters t ≤ 2) (λ t l. l .scalars) ts h));
+  size = subst (λ (n : ℕ). n ≤ 2147483647) (sym (m .size)) (largest-below coefSize 2147483647 ts
+      (all-implies Limited (λ (t : S.Term). coefSize t ≤ 2147483647) (λ t l. l .size) ts h));
 }
 
 -- ════ one term after the other
@@ -238,10 +246,12 @@ with-most t m r u p c small w e f v s z = record {
 -- none
 pub most-none : (ts : List S.Term) (n : ℕ) → length ts ≤ n → MostOf (drop n ts) (record { vectors = 0; scalars = 0; size = 0 })
 unfolding largest
-most-none ts n h = subst (λ (l : List S.Term). MostOf l (record { vectors = 0; scalars = 0; size = 0 })) (sym (drop-of-length-le ts h)) (record { vectors = refl; scalars = refl; size = refl })
+most-none ts n h =
+    subst (λ (l : List S.Term). MostOf l (record { vectors = 0; scalars = 0; size = 0 })) (sym (drop-of-length-le ts h))
+    (record { vectors = refl; scalars = refl; size = refl })
 
 -- one more in front
-pub most-more : (ts rest : List S.Term) (t : S.Term) (m r : Most) → ts ≡ t ∷ rest → MostOf rest m → MostWith t m r → MostOf ts r
+most-more : (ts rest : List S.Term) (t : S.Term) (m r : Most) → ts ≡ t ∷ rest → MostOf rest m → MostWith t m r → MostOf ts r
 unfolding largest
 most-more ts rest t m r e h w = subst (λ (l : List S.Term). MostOf l r) (sym e) (record {
   vectors = w .vectors ∙ ap (larger (vectorLetters t)) (h .vectors);
@@ -249,14 +259,23 @@ most-more ts rest t m r e h w = subst (λ (l : List S.Term). MostOf l r) (sym e)
   size = w .size ∙ ap (larger (coefSize t)) (h .size);
 })
 
--- a coefficient of a valid form is within
-pub form-size : (f : Form) (i : ℕ) → FormValid f → f .count ≤ length (f .terms) → i < f .count → natAbs (getD (f .terms) i noTerm .coef) ≤ 2147483647
-unfolding coefSize termOf
-form-size f i v h g = form-at Limited f i h g (form-limited (formOf f) (v .inShape)) .size
+-- the term of a row, in front of those behind it
+module _ (n : ℕ) (rows : List (List ℕ)) (coefs : List ℤ) (v : Run n rows coefs) where
+  pub row-size : Light 2147483647 n coefs → (i : ℕ) → i < n → (t : Term) (z : ℤ) → (termOf t ≡ termBy (getD rows i []) z) × Counted t → z ≡ getD coefs i (pos 0)
+      → natAbs (t .coef) ≤ 2147483647
+  unfolding Light termOf termBy
+  row-size l i h t z q e =
+      subst (λ (y : ℤ). natAbs y ≤ 2147483647) (sym (ap (λ (x : S.Term). x .coef) (q .0) ∙ e))
+      (all-at (λ (y : ℤ). natAbs y ≤ 2147483647) coefs n i (pos 0) (v .beside) h l)
 
--- the place before the next is this one
-pub again : (f : Form) (i : ℕ) → 0 < i → termOf (getD (f .terms) (i - 1) noTerm) ∷ drop (i - 1 + 1) (formOf f .terms) ≡ termOf (getD (f .terms) (i - 1) noTerm) ∷ drop i (formOf f .terms)
-again f i h = let e : i - 1 + 1 ≡ i = omega arith in ap (λ (n : ℕ). termOf (getD (f .terms) (i - 1) noTerm) ∷ drop n (formOf f .terms)) e
+  pub most-row : (i : ℕ) → 0 < i → i ≤ n → (t : Term) (z : ℤ) (m r : Most) → (termOf t ≡ termBy (getD rows (i - 1) []) z) × Counted t
+      → z ≡ getD coefs (i - 1) (pos 0)
+      → MostOf (drop i (runOf n rows coefs)) m → MostWith (termOf t) m r → MostOf (drop (i - 1) (runOf n rows coefs)) r
+  most-row i g h t z m r q e w d =
+      let k : i - 1 < n = omega arith in
+      let a : i - 1 + 1 ≡ i = omega arith in
+      most-more (drop (i - 1) (runOf n rows coefs)) (drop i (runOf n rows coefs)) (termOf t) m r
+      (run-at rows coefs n (v .room) (v .beside) (i - 1) k ∙ (λ j. (sym (q .0 ∙ ap (termBy (getD rows (i - 1) [])) e)) j ∷ drop (a j) (runOf n rows coefs))) w d
 
 -- all of them
 pub most-all : (ts : List S.Term) (i : ℕ) (m : Most) → i ≤ 0 → MostOf (drop i ts) m → MostOf ts m

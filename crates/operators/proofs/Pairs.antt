@@ -71,7 +71,7 @@ module _ (op : Operation) (t u v w : Term) (p : Pair op t u) (h : Scalars t v) (
   pub joins-fits : natAbs (v .coef) * natAbs (w .coef) < 2 ^ 63
   joins-fits =
       let e : natAbs (v .coef) * natAbs (w .coef) ≡ natAbs (t .coef) * natAbs (u .coef) = (λ i. natAbs (scalars-coef t v h i) * natAbs (scalars-coef u w k i)) in
-      omega (arith, e, pair-size t u (p .coef))
+      omega (arith, e, pair-size t u (p .fits .coef))
 
   pub joins-part : (partOf (v .part) ≡ []) ⊎ (partOf (w .part) ≡ [])
   joins-part = inl (scalars-part t v h)
@@ -86,7 +86,7 @@ module _ (op : Operation) (t u v w : Term) (p : Pair op t u) (h : Scalars t v) (
         counted = j .counted;
         few = omega (arith, j .count, h .count, k .count);
         size = subst (λ (z : ℤ). natAbs z ≤ 2147483647) (sym (ap (λ (x : S.Term). x .coef) is))
-            (subst (λ (m : ℕ). m ≤ 2147483647) (sym (natAbs-*ℤ (t .coef) (u .coef))) (pair-size t u (p .coef)));
+            (subst (λ (m : ℕ). m ≤ 2147483647) (sym (natAbs-*ℤ (t .coef) (u .coef))) (pair-size t u (p .fits .coef)));
         part = ap (λ (x : S.Term). x .part) is;
       }
 

@@ -1,5 +1,5 @@
 -- What the contracts cite.
 pub mod Parts
+pub mod Results
 pub mod Limits
 pub mod Products
-pub mod Sums

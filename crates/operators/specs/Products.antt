@@ -1,18 +1,17 @@
--- The terms of pairs, gathered. Assumes nothing.
+-- The terms of pairs, and the operands of a product. Assumes nothing.
 use mathlib.Core.Path.{_≡_}
 use mathlib.Core.Logic.{_⊎_}
-use mathlib.Core.List.{[], flatMap}
+use mathlib.Core.List.{List, [], map, flatMap}
 use Prim.Native.Nat.{ℕ, _*_, _≤_}
 use lib.Dec.{T}
-use Rattle.specification.specs.Lists.{all}
+use lib.IntN.{ℤ}
 use Rattle.specification.specs.Letters.{scalar, vector}
-use Rattle.specification.specs.Terms.{gather}
-use Rattle.specification.specs.Reduction.{pairTerms, pairsOf, pairLettersFit, pairCoefFits}
+use Rattle.specification.specs.Terms as S
+use Rattle.specification.specs.Reduction.{pairTerms, pairLettersFit, pairCoefFits}
+use Rattle.theory.specs.Elements.{All}
 use Rattle.terms.specs.declared.types.Term.{Term}
-use Rattle.terms.specs.declared.types.Form.{Form}
-use Rattle.terms.specs.Abstraction.{partOf, termOf, formOf, Counted}
-use Rattle.gathering.specs.declared.Sum.{Sum}
-use Rattle.gathering.specs.Sums.{sumOf, SumValid, Bringable}
+use Rattle.terms.specs.Abstraction.{termOf, Counted}
+use Rattle.gathering.specs.Rows.{FormRun, Bringable}
 use Rattle.operators.specs.declared.parts.Few.{Few}
 use Rattle.operators.specs.declared.parts.Operation.{Operation}
 use Rattle.operators.specs.declared.parts.Operation.the-variants.{Times, Dot, Wedge}
@@ -24,36 +23,53 @@ pub record Scalars (t r : Term) : Type 0 where
   pub counted : Counted r
   pub count : r .«factor_count» ≡ t .«factor_count»
 
--- a pair that passed the tests
+-- two terms that passed the tests
+pub record PairFits (op : Operation) (t u : S.Term) : Type 0 where
+  pub together : Together op (t .part) (u .part)
+  pub letters : T (pairLettersFit (t, u))
+  pub coef : T (pairCoefFits (t, u))
+
+-- as data
 pub record Pair (op : Operation) (t u : Term) : Type 0 where
   pub left : Counted t
   pub right : Counted u
-  pub together : Together op (partOf (t .part)) (partOf (u .part))
-  pub letters : T (pairLettersFit (termOf t, termOf u))
-  pub coef : T (pairCoefFits (termOf t, termOf u))
+  pub fits : PairFits op (termOf t) (termOf u)
 
--- the terms of a pair, each of which can be brought into a sum
+-- the terms of a pair, each of which can be brought in
 pub record PairMade (op : Operation) (t u : Term) (r : Few) : Type 0 where
   pub is : listOf r ≡ pairTerms (partsOf op) (termOf t, termOf u)
   pub few : r .count ≤ 2
   pub first : Bringable (r .first)
   pub second : Bringable (r .second)
 
+-- the terms of a left term with each right one
+unfoldable pub rowTerms : Operation → S.Term → List S.Term → List S.Term
+rowTerms op t us = flatMap (pairTerms (partsOf op)) (map (λ u. (t, u)) us)
+
+-- no coefficient is larger before a left term's products are brought in: 96 times 2147483647
+abbrev pub pairsBound : ℕ
+pairsBound = 206158430112
+
+-- nor before those of one pair: twice as much
+abbrev pub fewBound : ℕ
+fewBound = 412316860224
+
+-- all pairs of n terms and m terms passed the tests
+pub record PairsFit (op : Operation) (n : ℕ) (ts : List S.Term) (m : ℕ) (us : List S.Term) : Type 0 where
+  pub few : n * m ≤ 48
+  pub right : m ≤ 48
+  pub fits : All (λ (t : S.Term). All (PairFits op t) us) ts
+
 -- the kinds of an operation's operands and of its result
-unfoldable pub Kinds : Operation → ℕ → Form → Form → Type 0
-Kinds Times kind f g = ((f .kind ≡ scalar) × (g .kind ≡ kind)) ⊎ ((g .kind ≡ scalar) × (f .kind ≡ kind))
-Kinds Dot kind f g = (f .kind ≡ vector) × (g .kind ≡ vector) × (kind ≡ scalar)
-Kinds Wedge kind f g = (f .kind ≡ vector) × (g .kind ≡ vector) × (kind ≡ vector)
+unfoldable pub Kinds : (op : Operation) (kind a b : ℕ) → Type 0
+Kinds Times kind a b = ((a ≡ scalar) × (b ≡ kind)) ⊎ ((b ≡ scalar) × (a ≡ kind))
+Kinds Dot kind a b = (a ≡ vector) × (b ≡ vector) × (kind ≡ scalar)
+Kinds Wedge kind a b = (a ≡ vector) × (b ≡ vector) × (kind ≡ vector)
 
--- all pairs passed the tests
-pub record PairsFit (op : Operation) (f g : Form) : Type 0 where
-  pub kind : ℕ
-  pub kinds : Kinds op kind f g
-  pub count : f .count * g .count ≤ 48
-  pub letters : T (all pairLettersFit (pairsOf (formOf f .terms) (formOf g .terms)))
-  pub coefs : T (all pairCoefFits (pairsOf (formOf f .terms) (formOf g .terms)))
-
--- the terms of all pairs, gathered
-pub record PairsBrought (op : Operation) (f g : Form) (r : Sum) : Type 0 where
-  pub is : sumOf r ≡ gather (flatMap (pairTerms (partsOf op)) (pairsOf (formOf f .terms) (formOf g .terms)))
-  pub valid : SumValid r
+-- two forms in rows whose kinds an operation takes
+pub record Operands (op : Operation) (kind n : ℕ) (rows : List (List ℕ)) (coefs : List ℤ) (m : ℕ) (right : List (List ℕ)) (rights : List ℤ) : Type 0 where
+  pub leftKind : ℕ
+  pub rightKind : ℕ
+  pub kinds : Kinds op kind leftKind rightKind
+  pub leftForm : FormRun leftKind n rows coefs
+  pub rightForm : FormRun rightKind m right rights

@@ -1,17 +1,18 @@
-// The tests of a product's pairs: 7, 8 and 9. The most letters and the largest coefficient of each form decide for all pairs.
+// The tests of a product's pairs: 7, 8 and 9. The most letters and the largest coefficient of each side decide for all pairs.
 ghost use mathlib.Core.Path.{_≡_};
 ghost use mathlib.Core.Bool.{_&&_};
 ghost use Prim.Native.Nat.{_+_, _*_, _≤_};
 ghost use lib.Dec.{leb};
 ghost use lib.IntN.{natAbs};
-ghost use Rattle.terms.specs.Abstraction.{termOf, formOf, Counted};
-ghost use Rattle.terms.specs.Valid.{FormValid};
+ghost use Rattle.terms.specs.Abstraction.{termOf, Counted};
+ghost use Rattle.gathering.specs.Rows.{runOf, Run, Light};
 ghost use Rattle.letters.specs.Tested.{testOf};
 ghost use Rattle.operators.specs.Limits.{larger, MostWith, MostOf, MostSmall, testPairs};
+ghost use Rattle.operators.specs.Results.{SomeForm};
+use gathering::rows::term_of;
 use integers::size;
 use terms::shape::letters_used;
 use terms::shape::part_letters;
-use terms::types::Form;
 use terms::types::Term;
 
 // The most vector letters and scalar letters that a term has, and the largest size of a coefficient.
@@ -44,20 +45,21 @@ fn with_term(m: Most, t: Term) -> Most
     }
 }
 
-// The terms of a form, from the last to the first.
-fn most_of(f: Form) -> Most
-    requires { ⌜ FormValid f ⌝ }
-    ensures { λ r. ⌜ MostOf (formOf f .terms) r ⌝ }
+// The terms of n rows, from the last to the first.
+fn most_of(rows: &[[u32; 8]], coefs: &[i64], n: usize) -> Most
+    requires { ⌜ Run n (now rows) (now coefs) × Light 2147483647 n (now coefs) ⌝ }
+    ensures { λ r. ⌜ MostOf (runOf n (now (rows .entry)) (now (coefs .entry))) r ⌝ }
 {
     let mut m = Most {
         vectors: 0,
         scalars: 0,
         size: 0,
     };
-    let mut i = f.count;
+    let mut i = n;
     while i > 0 {
         i -= 1;
-        let t = f.terms[i];
+        let r = rows[i];
+        let t = term_of(r, coefs[i]);
         m = with_term(m, t);
     }
     m
@@ -83,23 +85,28 @@ fn coefs_fit(a: Most, b: Most) -> bool
 }
 
 // 7, 8 and 9 of all pairs, in this order; 0 where no pair is refused.
-pub fn test_pairs(f: Form, g: Form) -> u8
-    requires { ⌜ FormValid f × FormValid g ⌝ }
-    ensures { λ r. ⌜ testOf r ≡ testPairs (formOf f .terms) (formOf g .terms) ⌝ }
+pub fn test_pairs(
+    n: usize,
+    rows: &[[u32; 8]],
+    coefs: &[i64],
+    m: usize,
+    right: &[[u32; 8]],
+    rights: &[i64],
+) -> u8
+    requires { ⌜ SomeForm n (now rows) (now coefs) × SomeForm m (now right) (now rights) ⌝ }
+    ensures { λ r. ⌜ testOf r ≡ testPairs (runOf n (now (rows .entry)) (now (coefs .entry))) (runOf m (now (right .entry)) (now (rights .entry))) ⌝ }
 {
-    let n = f.count;
-    let k = g.count;
-    if n * k > 48 {
+    if n * m > 48 {
         return 7;
     }
-    let a = most_of(f);
-    let b = most_of(g);
+    let a = most_of(rows, coefs, n);
+    let b = most_of(right, rights, m);
     let letters = letters_fit(a, b);
-    let coefs = coefs_fit(a, b);
+    let coefs_within = coefs_fit(a, b);
     if !letters {
         return 8;
     }
-    if !coefs {
+    if !coefs_within {
         return 9;
     }
     0

@@ -1,22 +1,24 @@
-// Products of forms: each left term with each right term, all pairs tested first, then gathered.
-ghost use Prim.Native.Nat.{_<_};
-ghost use Rattle.specification.specs.Letters.{scalar, vector};
-ghost use Rattle.specification.specs.Reduction.{product, timesForms, dotForms, wedgeForms, tripleForms};
-ghost use Rattle.terms.specs.Abstraction.{formOf, Counted};
-ghost use Rattle.terms.specs.Valid.{FormValid, Gives};
-ghost use Rattle.operators.specs.Parts.{partsOf};
-ghost use Rattle.operators.specs.Products.{Scalars, Pair, PairMade, Kinds, PairsFit, PairsBrought};
+// Products of forms in lent rows: each left term with each right term, all pairs tested first, then gathered.
+ghost use mathlib.Core.List.{flatMap};
+ghost use Prim.Native.Nat.{ℕ, _+_, _*_, _≤_};
+ghost use lib.ListN.{length};
+ghost use Rattle.specification.specs.Reduction.{pairTerms, pairsOf, product, timesForms, dotForms, wedgeForms, tripleForms};
+ghost use Rattle.theory.specs.Elements.{All};
+ghost use Rattle.terms.specs.Abstraction.{termOf, Counted};
+ghost use Rattle.gathering.specs.Rows.{runOf, Run, Light, formBy, FormRun, RowsGive, Bringable};
+ghost use Rattle.operators.specs.Parts.{partsOf, listOf};
+ghost use Rattle.operators.specs.Results.{Brought};
+ghost use Rattle.operators.specs.Products.{Scalars, Pair, PairMade, PairFits, rowTerms, PairsFit, Operands, fewBound, pairsBound};
 use crate::limits::test_pairs;
 use crate::parts::Few;
 use crate::parts::Operation;
 use crate::parts::parts;
-use gathering::Sum;
-use gathering::bring_all;
-use gathering::close;
-use gathering::empty_sum;
+use crate::results::close;
+use crate::results::refuse;
+use gathering::bringing::bring_term;
+use gathering::rows::Worked;
+use gathering::rows::term_of;
 use terms::tidy::join;
-use terms::types::Form;
-use terms::types::Outcome;
 use terms::types::Part;
 use terms::types::Term;
 
@@ -65,127 +67,205 @@ fn pair_terms(op: Operation, t: Term, u: Term) -> Few
     }
 }
 
-// The terms of all pairs, gathered, up to 16 at a time.
-fn bring_pairs(op: Operation, f: Form, g: Form) -> Sum
-    requires { ⌜ FormValid f × FormValid g × PairsFit op f g ⌝ }
-    ensures { λ r. ⌜ PairsBrought op f g r ⌝ }
+// At most two terms brought in among n rows; how many there are then.
+fn bring_few(rows: &mut [[u32; 8]], coefs: &mut [i64], n: usize, few: Few) -> usize
+    requires { ⌜ Run n (now rows) (now coefs) × Light fewBound n (now coefs) × (n + 2 ≤ length (now rows)) × (n + 2 ≤ length (now coefs)) × (few .count ≤ 2)
+        × Bringable (few .first) × Bringable (few .second) ⌝ }
+    ensures { λ r. ⌜ Brought 2 n (now (rows .entry)) (now (coefs .entry)) (listOf few) r (now (rows .exit)) (now (coefs .exit)) ⌝ }
 {
-    let m = g.count;
-    let n = f.count * m;
-    let mut s = empty_sum();
-    let blank = s.terms[0];
-    let mut ts = [blank; 16];
-    let mut count: usize = 0;
-    let mut k: usize = 0;
-    while k < n {
-        if count > 14 {
-            s = bring_all(s, ts, count);
-            count = 0;
-            continue;
-        }
-        let t = f.terms[k / m];
-        let u = g.terms[k % m];
-        let few = pair_terms(op, t, u);
-        let x = few.first;
-        let y = few.second;
-        ts[count] = x;
-        ts[count + 1] = y;
-        count += few.count;
-        k += 1;
+    if few.count == 0 {
+        return n;
     }
-    bring_all(s, ts, count)
+    let x = few.first;
+    let k = bring_term(rows, coefs, n, x);
+    if few.count == 1 {
+        return k;
+    }
+    let y = few.second;
+    bring_term(rows, coefs, k, y)
 }
 
-// The product of two forms: 7, 8 and 9 of the pairs, then 9 and 10 of what is gathered.
-fn multiply(op: Operation, kind: u8, f: Form, g: Form) -> Outcome
-    requires { ⌜ FormValid f × FormValid g × Kinds op kind f g ⌝ }
-    ensures { λ r. ⌜ Gives (product kind (partsOf op) (formOf f) (formOf g)) r ⌝ }
+// The terms of a left term with each of m right ones, brought in among n rows; how many there are then.
+fn bring_row(
+    op: Operation,
+    t: Term,
+    m: usize,
+    right: &[[u32; 8]],
+    rights: &[i64],
+    rows: &mut [[u32; 8]],
+    coefs: &mut [i64],
+    n: usize,
+) -> usize
+    requires { ⌜ Counted t × Run m (now right) (now rights) × All (PairFits op (termOf t)) (runOf m (now right) (now rights)) × (m ≤ 48)
+        × Run n (now rows) (now coefs) × Light pairsBound n (now coefs) × (n + 2 * m ≤ length (now rows)) × (n + 2 * m ≤ length (now coefs)) ⌝ }
+    ensures { λ r. ⌜ Brought (2 * m) n (now (rows .entry)) (now (coefs .entry)) (rowTerms op (termOf t) (runOf m (now (right .entry)) (now (rights .entry)))) r
+        (now (rows .exit)) (now (coefs .exit)) ⌝ }
 {
-    let n = test_pairs(f, g);
-    if n != 0 {
-        return Outcome {
-            refusal: n,
-            form: f,
-        };
+    let mut count = n;
+    let mut j: usize = 0;
+    while j < m {
+        let r = right[j];
+        let u = term_of(r, rights[j]);
+        let few = pair_terms(op, t, u);
+        count = bring_few(rows, coefs, count, few);
+        j += 1;
     }
-    let s = bring_pairs(op, f, g);
-    close(s, kind)
+    count
+}
+
+// The terms of all pairs, gathered into rows lent for it; how many there are then.
+fn bring_pairs(
+    op: Operation,
+    n: usize,
+    rows: &[[u32; 8]],
+    coefs: &[i64],
+    m: usize,
+    right: &[[u32; 8]],
+    rights: &[i64],
+    more: &mut [[u32; 8]],
+    beside: &mut [i64],
+) -> usize
+    requires { ⌜ Run n (now rows) (now coefs) × Run m (now right) (now rights)
+        × PairsFit op n (runOf n (now rows) (now coefs)) m (runOf m (now right) (now rights)) × (96 ≤ length (now more)) × (96 ≤ length (now beside)) ⌝ }
+    ensures { λ r. ⌜ Brought (2 * (n * m)) 0 (now (more .entry)) (now (beside .entry))
+        (flatMap (pairTerms (partsOf op)) (pairsOf (runOf n (now (rows .entry)) (now (coefs .entry))) (runOf m (now (right .entry)) (now (rights .entry))))) r
+        (now (more .exit)) (now (beside .exit)) ⌝ }
+{
+    let mut count: usize = 0;
+    let mut i: usize = 0;
+    while i < n {
+        let r = rows[i];
+        let t = term_of(r, coefs[i]);
+        count = bring_row(op, t, m, right, rights, more, beside, count);
+        i += 1;
+    }
+    count
+}
+
+// The product of two forms whose kinds fit: 7, 8 and 9 of the pairs, then 9 and 10 of what is gathered.
+fn multiply(
+    op: Operation,
+    kind: u8,
+    n: usize,
+    rows: &mut [[u32; 8]],
+    coefs: &mut [i64],
+    m: usize,
+    right: &[[u32; 8]],
+    rights: &[i64],
+) -> Worked
+    requires { ⌜ Operands op kind n (now rows) (now coefs) m (now right) (now rights) × (48 ≤ length (now rows)) × (48 ≤ length (now coefs)) ⌝ }
+    ensures { λ w. ⌜ ((a b : ℕ) → RowsGive (product kind (partsOf op) (formBy a n (now (rows .entry)) (now (coefs .entry)))
+        (formBy b m (now (right .entry)) (now (rights .entry)))) w (now (rows .exit)) (now (coefs .exit))) ⌝ }
+{
+    let t = test_pairs(n, rows, coefs, m, right, rights);
+    if t != 0 {
+        return refuse(t);
+    }
+    let z = [0u32; 8];
+    let mut more = [z; 96];
+    let mut beside = [0i64; 96];
+    let count = bring_pairs(op, n, rows, coefs, m, right, rights, &mut more, &mut beside);
+    close(kind, count, &more, &beside, rows, coefs)
 }
 
 // A product of which at least one operand is a scalar.
-pub fn times(f: Form, g: Form) -> Outcome
-    requires { ⌜ FormValid f × FormValid g ⌝ }
-    ensures { λ r. ⌜ Gives (timesForms (formOf f) (formOf g)) r ⌝ }
+pub fn times(
+    kind: u8,
+    n: usize,
+    rows: &mut [[u32; 8]],
+    coefs: &mut [i64],
+    other: u8,
+    m: usize,
+    right: &[[u32; 8]],
+    rights: &[i64],
+) -> Worked
+    requires { ⌜ FormRun kind n (now rows) (now coefs) × FormRun other m (now right) (now rights) × (48 ≤ length (now rows)) × (48 ≤ length (now coefs)) ⌝ }
+    ensures { λ w. ⌜ RowsGive (timesForms (formBy kind n (now (rows .entry)) (now (coefs .entry))) (formBy other m (now (right .entry)) (now (rights .entry))))
+        w (now (rows .exit)) (now (coefs .exit)) ⌝ }
 {
-    let a = f.kind;
-    let b = g.kind;
-    if a == 0 {
-        return multiply(Operation::Times, b, f, g);
+    if kind == 0 {
+        return multiply(Operation::Times, other, n, rows, coefs, m, right, rights);
     }
-    if b == 0 {
-        return multiply(Operation::Times, a, f, g);
+    if other == 0 {
+        return multiply(Operation::Times, kind, n, rows, coefs, m, right, rights);
     }
-    Outcome {
-        refusal: 6,
-        form: f,
-    }
+    refuse(6)
 }
 
 // The dot of two vectors.
-pub fn dot(f: Form, g: Form) -> Outcome
-    requires { ⌜ FormValid f × FormValid g ⌝ }
-    ensures { λ r. ⌜ Gives (dotForms (formOf f) (formOf g)) r ⌝ }
+pub fn dot(
+    kind: u8,
+    n: usize,
+    rows: &mut [[u32; 8]],
+    coefs: &mut [i64],
+    other: u8,
+    m: usize,
+    right: &[[u32; 8]],
+    rights: &[i64],
+) -> Worked
+    requires { ⌜ FormRun kind n (now rows) (now coefs) × FormRun other m (now right) (now rights) × (48 ≤ length (now rows)) × (48 ≤ length (now coefs)) ⌝ }
+    ensures { λ w. ⌜ RowsGive (dotForms (formBy kind n (now (rows .entry)) (now (coefs .entry))) (formBy other m (now (right .entry)) (now (rights .entry)))) w
+        (now (rows .exit)) (now (coefs .exit)) ⌝ }
 {
-    if f.kind != 1 {
-        return Outcome {
-            refusal: 6,
-            form: f,
-        };
+    if kind != 1 {
+        return refuse(6);
     }
-    if g.kind != 1 {
-        return Outcome {
-            refusal: 6,
-            form: f,
-        };
+    if other != 1 {
+        return refuse(6);
     }
-    multiply(Operation::Dot, 0, f, g)
+    multiply(Operation::Dot, 0, n, rows, coefs, m, right, rights)
 }
 
 // The wedge of two vectors.
-pub fn wedge(f: Form, g: Form) -> Outcome
-    requires { ⌜ FormValid f × FormValid g ⌝ }
-    ensures { λ r. ⌜ Gives (wedgeForms (formOf f) (formOf g)) r ⌝ }
+pub fn wedge(
+    kind: u8,
+    n: usize,
+    rows: &mut [[u32; 8]],
+    coefs: &mut [i64],
+    other: u8,
+    m: usize,
+    right: &[[u32; 8]],
+    rights: &[i64],
+) -> Worked
+    requires { ⌜ FormRun kind n (now rows) (now coefs) × FormRun other m (now right) (now rights) × (48 ≤ length (now rows)) × (48 ≤ length (now coefs)) ⌝ }
+    ensures { λ w. ⌜ RowsGive (wedgeForms (formBy kind n (now (rows .entry)) (now (coefs .entry))) (formBy other m (now (right .entry)) (now (rights .entry))))
+        w (now (rows .exit)) (now (coefs .exit)) ⌝ }
 {
-    if f.kind != 1 {
-        return Outcome {
-            refusal: 6,
-            form: f,
-        };
+    if kind != 1 {
+        return refuse(6);
     }
-    if g.kind != 1 {
-        return Outcome {
-            refusal: 6,
-            form: f,
-        };
+    if other != 1 {
+        return refuse(6);
     }
-    multiply(Operation::Wedge, 1, f, g)
+    multiply(Operation::Wedge, 1, n, rows, coefs, m, right, rights)
 }
 
 // The triple of three vectors: their kinds first, then a wedge and a dot.
-pub fn triple(f: Form, g: Form, h: Form) -> Outcome
-    requires { ⌜ FormValid f × FormValid g × FormValid h ⌝ }
-    ensures { λ r. ⌜ Gives (tripleForms (formOf f) (formOf g) (formOf h)) r ⌝ }
+pub fn triple(
+    kind: u8,
+    n: usize,
+    rows: &mut [[u32; 8]],
+    coefs: &mut [i64],
+    other: u8,
+    m: usize,
+    right: &[[u32; 8]],
+    rights: &[i64],
+    last: u8,
+    k: usize,
+    third: &[[u32; 8]],
+    thirds: &[i64],
+) -> Worked
+    requires { ⌜ FormRun kind n (now rows) (now coefs) × FormRun other m (now right) (now rights) × (48 ≤ length (now rows)) × (48 ≤ length (now coefs))
+        × FormRun last k (now third) (now thirds) ⌝ }
+    ensures { λ w. ⌜ RowsGive (tripleForms (formBy kind n (now (rows .entry)) (now (coefs .entry))) (formBy other m (now (right .entry)) (now (rights .entry)))
+        (formBy last k (now (third .entry)) (now (thirds .entry)))) w (now (rows .exit)) (now (coefs .exit)) ⌝ }
 {
-    if h.kind != 1 {
-        return Outcome {
-            refusal: 6,
-            form: f,
-        };
+    if last != 1 {
+        return refuse(6);
     }
-    let w = wedge(f, g);
+    let w = wedge(kind, n, rows, coefs, other, m, right, rights);
     if w.refusal != 0 {
         return w;
     }
-    let e = w.form;
-    dot(e, h)
+    dot(w.kind, w.count, rows, coefs, last, k, third, thirds)
 }

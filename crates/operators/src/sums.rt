@@ -1,139 +1,143 @@
-// Sums, differences and negations of forms.
+// Sums, differences and negations of forms in lent rows.
 ghost use mathlib.Core.Path.{_≡_};
-ghost use mathlib.Core.Bool.{true};
+ghost use mathlib.Core.List.{map};
+ghost use Prim.Native.Nat.{_+_, _≤_};
+ghost use lib.IntN.{negℤ};
+ghost use lib.ListN.{length, take};
 ghost use Rattle.specification.specs.Reduction.{sumForms, negateForm};
-ghost use Rattle.terms.specs.Abstraction.{termOf, formOf, orderingOf, Counted};
-ghost use Rattle.terms.specs.Valid.{FormValid, Gives};
-ghost use Rattle.operators.specs.Sums.{Capped, nextOf, Negated};
-use integers::add;
-use integers::is_zero;
+ghost use Rattle.gathering.specs.Rows.{runOf, Run, Light, formBy, FormRun, RowsGive};
+ghost use Rattle.operators.specs.Results.{SomeForm, Brought};
+use crate::results::close;
+use crate::results::refuse;
+use gathering::bringing::bring;
+use gathering::limits::test_limits;
+use gathering::rows::Worked;
+use gathering::rows::copy;
 use integers::neg;
-use integers::within;
-use terms::order::Order;
-use terms::order::compare;
-use terms::types::Form;
-use terms::types::Outcome;
-use terms::types::Term;
 
-// A place in a form, the last one for all behind it.
-fn capped(i: usize) -> usize
-    ensures { λ r. ⌜ Capped i r ⌝ }
+// Each of the m rows of a form brought in among n; how many there are then.
+fn bring_rows(
+    rows: &mut [[u32; 8]],
+    coefs: &mut [i64],
+    n: usize,
+    right: &[[u32; 8]],
+    rights: &[i64],
+    m: usize,
+) -> usize
+    requires { ⌜ Run n (now rows) (now coefs) × Light 2147483647 n (now coefs) × SomeForm m (now right) (now rights)
+        × (n + m ≤ length (now rows)) × (n + m ≤ length (now coefs)) ⌝ }
+    ensures { λ r. ⌜ Brought m n (now (rows .entry)) (now (coefs .entry)) (runOf m (now (right .entry)) (now (rights .entry))) r (now (rows .exit))
+        (now (coefs .exit)) ⌝ }
 {
-    if i < 48 { i } else { 47 }
-}
-
-// Which of two terms comes next, where there is a left one and a right one: it is Equal where both do.
-fn next(left: bool, right: bool, x: Term, y: Term) -> Order
-    requires { ⌜ (left ≡ true → Counted x) × (right ≡ true → Counted y) ⌝ }
-    ensures { λ r. ⌜ orderingOf r ≡ nextOf left right (termOf x) (termOf y) ⌝ }
-{
-    if !right {
-        return Order::Less;
-    }
-    if !left {
-        return Order::Greater;
-    }
-    compare(x, y)
-}
-
-// The terms of two forms of one kind in their order, like ones added.
-fn merge(f: Form, g: Form) -> Outcome
-    requires { ⌜ FormValid f × FormValid g × (f .kind ≡ g .kind) ⌝ }
-    ensures { λ r. ⌜ Gives (sumForms (formOf f) (formOf g)) r ⌝ }
-{
-    let n = f.count;
-    let m = g.count;
-    let mut r = f;
-    let mut count: usize = 0;
-    let mut i: usize = 0;
+    let mut count = n;
     let mut j: usize = 0;
-    while i + j < n + m {
-        let a = capped(i);
-        let x = f.terms[a];
-        let b = capped(j);
-        let y = g.terms[b];
-        let c = capped(count);
-        let o = next(i < n, j < m, x, y);
-        match o {
-            Order::Less => {
-                r.terms[c] = x;
-                count += 1;
-                i += 1;
-            }
-            Order::Greater => {
-                r.terms[c] = y;
-                count += 1;
-                j += 1;
-            }
-            Order::Equal => {
-                i += 1;
-                j += 1;
-                let sum = add(y.coef, x.coef);
-                if is_zero(sum) {
-                    continue;
-                }
-                if !within(sum) {
-                    return Outcome {
-                        refusal: 9,
-                        form: r,
-                    };
-                }
-                let mut z = x;
-                z.coef = sum;
-                r.terms[c] = z;
-                count += 1;
-            }
-        }
+    while j < m {
+        let r = right[j];
+        let c = rights[j];
+        count = bring(rows, coefs, count, r, c);
+        j += 1;
     }
-    if count > 48 {
-        return Outcome {
-            refusal: 10,
-            form: r,
-        };
-    }
-    r.count = count;
-    Outcome {
-        refusal: 0,
-        form: r,
+    count
+}
+
+// The sum of two forms of one kind where there is room for all their rows.
+fn add_here(
+    kind: u8,
+    n: usize,
+    rows: &mut [[u32; 8]],
+    coefs: &mut [i64],
+    m: usize,
+    right: &[[u32; 8]],
+    rights: &[i64],
+) -> Worked
+    requires { ⌜ FormRun kind n (now rows) (now coefs) × FormRun kind m (now right) (now rights)
+        × (n + m ≤ length (now rows)) × (n + m ≤ length (now coefs)) ⌝ }
+    ensures { λ w. ⌜ RowsGive (sumForms (formBy kind n (now (rows .entry)) (now (coefs .entry))) (formBy kind m (now (right .entry)) (now (rights .entry)))) w
+        (now (rows .exit)) (now (coefs .exit)) ⌝ }
+{
+    let count = bring_rows(rows, coefs, n, right, rights, m);
+    let r = test_limits(coefs, count);
+    Worked {
+        refusal: r,
+        kind: kind,
+        count: count,
     }
 }
 
-// The sum of two forms of one kind.
-pub fn sum(f: Form, g: Form) -> Outcome
-    requires { ⌜ FormValid f × FormValid g ⌝ }
-    ensures { λ r. ⌜ Gives (sumForms (formOf f) (formOf g)) r ⌝ }
+// The sum of two forms of one kind, gathered apart.
+fn add_apart(
+    kind: u8,
+    n: usize,
+    rows: &mut [[u32; 8]],
+    coefs: &mut [i64],
+    m: usize,
+    right: &[[u32; 8]],
+    rights: &[i64],
+) -> Worked
+    requires { ⌜ FormRun kind n (now rows) (now coefs) × FormRun kind m (now right) (now rights) × (48 ≤ length (now rows)) × (48 ≤ length (now coefs)) ⌝ }
+    ensures { λ w. ⌜ RowsGive (sumForms (formBy kind n (now (rows .entry)) (now (coefs .entry))) (formBy kind m (now (right .entry)) (now (rights .entry)))) w
+        (now (rows .exit)) (now (coefs .exit)) ⌝ }
 {
-    let kind = f.kind;
-    if kind != g.kind {
-        return Outcome {
-            refusal: 6,
-            form: f,
-        };
-    }
-    merge(f, g)
+    let z = [0u32; 8];
+    let mut more = [z; 96];
+    let mut beside = [0i64; 96];
+    copy(n, rows, coefs, &mut more, &mut beside);
+    let count = bring_rows(&mut more, &mut beside, n, right, rights, m);
+    close(kind, count, &more, &beside, rows, coefs)
 }
 
-// A form with the signs turned.
-pub fn negate(f: Form) -> Form
-    requires { ⌜ FormValid f ⌝ }
-    ensures { λ r. ⌜ Negated f r ⌝ }
+// The sum of two forms: 6 where their kinds differ.
+pub fn sum(
+    kind: u8,
+    n: usize,
+    rows: &mut [[u32; 8]],
+    coefs: &mut [i64],
+    other: u8,
+    m: usize,
+    right: &[[u32; 8]],
+    rights: &[i64],
+) -> Worked
+    requires { ⌜ FormRun kind n (now rows) (now coefs) × FormRun other m (now right) (now rights) × (48 ≤ length (now rows)) × (48 ≤ length (now coefs)) ⌝ }
+    ensures { λ w. ⌜ RowsGive (sumForms (formBy kind n (now (rows .entry)) (now (coefs .entry))) (formBy other m (now (right .entry)) (now (rights .entry)))) w
+        (now (rows .exit)) (now (coefs .exit)) ⌝ }
 {
-    let mut g = f;
-    let n = f.count;
+    if kind != other {
+        return refuse(6);
+    }
+    if n + m > 48 {
+        return add_apart(kind, n, rows, coefs, m, right, rights);
+    }
+    add_here(kind, n, rows, coefs, m, right, rights)
+}
+
+// The signs of the first n coefficients turned.
+pub fn negate(coefs: &mut [i64], n: usize)
+    requires { ⌜ (n ≤ length (now coefs)) × Light 2147483647 n (now coefs) ⌝ }
+    ensures { λ _. ⌜ take n (now (coefs .exit)) ≡ map negℤ (take n (now (coefs .entry))) ⌝ }
+{
     let mut i: usize = 0;
     while i < n {
-        let mut t = f.terms[i];
-        t.coef = neg(t.coef);
-        g.terms[i] = t;
+        let c = neg(coefs[i]);
+        coefs[i] = c;
         i += 1;
     }
-    g
 }
 
-// The difference of two forms of one kind.
-pub fn difference(f: Form, g: Form) -> Outcome
-    requires { ⌜ FormValid f × FormValid g ⌝ }
-    ensures { λ r. ⌜ Gives (sumForms (formOf f) (negateForm (formOf g))) r ⌝ }
+// The difference of two forms: the right one is negated.
+pub fn difference(
+    kind: u8,
+    n: usize,
+    rows: &mut [[u32; 8]],
+    coefs: &mut [i64],
+    other: u8,
+    m: usize,
+    right: &[[u32; 8]],
+    rights: &mut [i64],
+) -> Worked
+    requires { ⌜ FormRun kind n (now rows) (now coefs) × FormRun other m (now right) (now rights) × (48 ≤ length (now rows)) × (48 ≤ length (now coefs)) ⌝ }
+    ensures { λ w. ⌜ RowsGive (sumForms (formBy kind n (now (rows .entry)) (now (coefs .entry)))
+        (negateForm (formBy other m (now (right .entry)) (now (rights .entry))))) w (now (rows .exit)) (now (coefs .exit)) ⌝ }
 {
-    sum(f, negate(g))
+    negate(rights, m);
+    sum(kind, n, rows, coefs, other, m, right, rights)
 }

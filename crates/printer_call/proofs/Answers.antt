@@ -20,7 +20,7 @@ use Rattle.terms.specs.Abstraction.{formOf}
 use Rattle.terms.specs.declared.types.Outcome.{Outcome}
 use Rattle.letters.specs.Tested.{testOf}
 use Rattle.terms.specs.Valid.{Gives}
-use Rattle.gathering.proofs.Closing.{worked-given, worked-refused}
+use Rattle.terms.proofs.Outcomes.{worked-given, worked-refused}
 use Rattle.letters.proofs.LetterTests.{test-passed, test-refused}
 use Rattle.symbols.specs.Printable.{Printable}
 use Rattle.printing.proofs.Named.{printable}

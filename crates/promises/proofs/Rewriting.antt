@@ -17,7 +17,7 @@ use Rattle.letters.specs.Tested.{testOf}
 use Rattle.letters.proofs.LetterTests.{test-passed, test-refused}
 use Rattle.forms.specs.Written.{FormWritten}
 use Rattle.forms.proofs.RoundTrip.{taken-written}
-use Rattle.gathering.proofs.Closing.{worked-given, worked-refused}
+use Rattle.terms.proofs.Outcomes.{worked-given, worked-refused}
 
 module _ (table form out : List ℕ) (bad : ℕ) (tb : testOf bad ≡ testTable table) where
   by-tests : (t : Result S.Form) → rewriteTested table form out ≡ t → rewriteAnswer t form out ≡ rewriteCall table form out

@@ -5,6 +5,7 @@ use Prim.Native.Nat.{ℕ, _≤_, _<_}
 use borrow.Author.Tests.{le-leb, lt-leb, eq-eqb, ne-eqb}
 use native.Mathlib.Omega.{arith}
 use lib.Dec.{leb}
+use lib.IntN.{ℤ}
 use lib.ListN.{length}
 use Rattle.specification.specs.Results.{Result, Test, refused, given, _>>_, require}
 use Rattle.specification.specs.Letters.{testTable}
@@ -19,7 +20,8 @@ use Rattle.letters.specs.Tested.{testOf}
 use Rattle.letters.proofs.LetterTests.{test-passed, test-refused}
 use Rattle.forms.specs.Written.{FormWritten}
 use Rattle.terms.specs.Valid.{Gives}
-use Rattle.gathering.proofs.Closing.{refuses, works-as, worked-given, worked-refused}
+use Rattle.terms.proofs.Outcomes.{refuses, works-as, worked-given, worked-refused}
+use Rattle.gathering.specs.Rows.{OutcomeOf}
 use Rattle.reduction.specs.declared.trees.Tree.{Tree}
 use Rattle.reduction.specs.declared.Reduced.the-variants.{Written, Refused}
 use Rattle.reduction.specs.Answers.{reducedOf}
@@ -38,25 +40,24 @@ module _ (table s : List ℕ) where
   unfolding reduced readExpr
   whole-is e next h r n = rw (le-leb (length s) 512 h, r, eq-eqb next (length s) n)
 
-  module _ (t : Tree) (h : length s ≤ 512) (rt : ReadAs (readTree 16 table s 0) t) where
+  module _ (t : Tree) (rows : List (List ℕ)) (coefs : List ℤ) (h : length s ≤ 512) (rt : ReadAs (readTree 16 table s 0) t rows coefs) where
     -- reading refused
     pub not-read : (r : Outcome) → (t .unread ≡ 0 → ⊥) → r .refusal ≡ t .unread → Gives (reduced table s) r
     unfolding reduced readExpr
-    not-read r n e = refuses (reduced table s) r (t .unread) e n (rw (le-leb (length s) 512 h, read-refused (readTree 16 table s 0) t rt n))
+    not-read r n e = refuses (reduced table s) r (t .unread) e n (rw (le-leb (length s) 512 h, read-refused (readTree 16 table s 0) t rows coefs rt n))
 
     -- bytes are left over
     pub left-over : (r : Outcome) → t .unread ≡ 0 → (t .next ≡ length s → ⊥) → r .refusal ≡ 4 → Gives (reduced table s) r
     unfolding reduced readExpr
     left-over r u n e =
         refuses (reduced table s) r 4 e (λ z. omega arith)
-        (rw (le-leb (length s) 512 h, read-given (readTree 16 table s 0) t rt u .is, ne-eqb (t .next) (length s) n))
+        (rw (le-leb (length s) 512 h, read-given (readTree 16 table s 0) t rows coefs rt u .is, ne-eqb (t .next) (length s) n))
 
     -- read whole
-    pub read-whole : t .unread ≡ 0 → t .next ≡ length s → Gives (reduced table s) (t .work)
-    read-whole u n =
-        let f : TreeFound (readTree 16 table s 0) t = read-given (readTree 16 table s 0) t rt u in
-        works-as (work (f .tree)) (reduced table s) (t .work)
-        (sym (whole-is (f .tree) (t .next) h (f .is) n)) (f .worked)
+    pub read-whole : (r : Outcome) → t .unread ≡ 0 → t .next ≡ length s → OutcomeOf (t .work) rows coefs r → Gives (reduced table s) r
+    read-whole r u n o =
+        let f : TreeFound (readTree 16 table s 0) t rows coefs = read-given (readTree 16 table s 0) t rows coefs rt u in
+        works-as (work (f .tree)) (reduced table s) r (sym (whole-is (f .tree) (t .next) h (f .is) n)) (o .is (work (f .tree)) (f .worked))
 
 -- ════ the answer
 
@@ -94,7 +95,8 @@ module _ (table s out : List ℕ) where
         content-refused n = refused-call (w .refusal) (past-length ∙ worked-refused (reduced table s) w worked n)
 
         -- the record written
-        pub form-written : (n : ℕ) (after : List ℕ) → w .refusal ≡ 0 → FormWritten out after n (formOf (w .form)) → _≡_ {A = Result ℕ × List ℕ} (reducedOf (Written n), after) (reduceCall table s out)
+        pub form-written : (n : ℕ) (after : List ℕ) → w .refusal ≡ 0 → FormWritten out after n (formOf (w .form))
+            → _≡_ {A = Result ℕ × List ℕ} (reducedOf (Written n), after) (reduceCall table s out)
         unfolding reducedOf answerForm
         form-written n after e f =
             (λ i. (given (f .ends i), f .bytes i)) ∙ answers (given (formOf (w .form))) (past-length ∙ worked-given (reduced table s) w worked e)

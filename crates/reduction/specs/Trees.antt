@@ -4,13 +4,14 @@ use mathlib.Core.Bool.{_&&_}
 use mathlib.Core.List.{List}
 use Prim.Native.Nat.{ℕ, _+_, _≤_}
 use lib.Dec.{leb, eqb}
+use lib.IntN.{ℤ}
 use lib.ListN.{length, getD}
 use Rattle.specification.specs.Results.{Result, Test, refused, given, _>>=_, _>>_, require, if_then_else_}
 use Rattle.specification.specs.Terms.{Form}
 use Rattle.specification.specs.Expressions.{Expr, tokenBytes, testBytes, readToken, readOperands}
 use Rattle.specification.specs.Reduction.{negateForm, sumForms, timesForms, dotForms, wedgeForms, tripleForms, work}
-use Rattle.terms.specs.Valid.{FormValid, Gives}
-use Rattle.terms.specs.declared.types.Outcome.{Outcome}
+use Rattle.gathering.specs.declared.rows.Worked.{Worked}
+use Rattle.gathering.specs.Rows.{formBy, FormRun, RowsGive}
 use Rattle.reduction.specs.declared.trees.Tree.{Tree}
 
 -- ════ tokens
@@ -33,9 +34,13 @@ testHead depth table s at = do
 
 -- ════ working
 
--- a result whose form is valid, if it is one
-unfoldable pub Sound : Outcome → Type 0
-Sound x = x .refusal ≡ 0 → FormValid (x .form)
+-- a form in rows, or the refusal where its number is not 0
+unfoldable pub workedOf : Worked → (rows : List (List ℕ)) (coefs : List ℤ) → Result Form
+workedOf w rows coefs = if eqb (w .refusal) 0 then given (formBy (w .kind) (w .count) rows coefs) else refused (w .refusal)
+
+-- a result whose form is in shape, if it is one
+unfoldable pub Sound : Worked → (rows : List (List ℕ)) (coefs : List ℤ) → Type 0
+Sound w rows coefs = w .refusal ≡ 0 → FormRun (w .kind) (w .count) rows coefs
 
 -- the operator of a token with two operands
 unfoldable pub binary : (token : ℕ) (f g : Form) → Result Form
@@ -75,16 +80,16 @@ pub record Unread (n : ℕ) (r : Tree) : Type 0 where
   pub is : r .unread ≡ n
   pub some : n ≡ 0 → ⊥
 
--- a tree was read, the position behind it, and it was worked
-pub record TreeAs (e : Expr) (next : ℕ) (r : Tree) : Type 0 where
+-- a tree was read, the position behind it, and it was worked in rows
+pub record TreeAs (e : Expr) (next : ℕ) (r : Tree) (rows : List (List ℕ)) (coefs : List ℤ) : Type 0 where
   pub read : r .unread ≡ 0
   pub nextIs : r .next ≡ next
-  pub worked : Gives (work e) (r .work)
+  pub worked : RowsGive (work e) (r .work) rows coefs
 
 -- what reading gave
-unfoldable pub ReadAs : Result (Expr × ℕ) → Tree → Type 0
-ReadAs (refused n) r = Unread n r
-ReadAs (given x) r = TreeAs (x .0) (x .1) r
+unfoldable pub ReadAs : Result (Expr × ℕ) → Tree → (rows : List (List ℕ)) (coefs : List ℤ) → Type 0
+ReadAs (refused n) r rows coefs = Unread n r
+ReadAs (given x) r rows coefs = TreeAs (x .0) (x .1) r rows coefs
 
 -- a leaf stands at a position, whole and known
 pub record LeafAt (table s : List ℕ) (at : ℕ) : Type 0 where

@@ -1,33 +1,36 @@
-// Leaves: the form of a letter alone, and of a constant.
+// Leaves: the form of a letter alone, and of a constant, in the first of the lent rows.
 ghost use mathlib.Core.List.{[], _∷_};
+ghost use Prim.Native.Nat.{_≤_};
+ghost use lib.ListN.{length};
 ghost use Rattle.specification.specs.Results.{given};
 ghost use Rattle.specification.specs.Terms.{plus};
 ghost use Rattle.specification.specs.Reduction.{letterForm, constantForm};
-ghost use Rattle.terms.specs.Abstraction.{partOf};
-ghost use Rattle.terms.specs.Valid.{Gives};
-ghost use Rattle.reduction.specs.Leaves.{Alone, TermAs};
+ghost use Rattle.theory.specs.Shape.Forms.{FormInShape};
+ghost use Rattle.terms.specs.Abstraction.{partOf, termOf, Counted};
+ghost use Rattle.gathering.specs.Rows.{RowsGive};
+ghost use Rattle.reduction.specs.Leaves.{TermAs};
+use gathering::rows::Worked;
+use gathering::rows::row_of;
 use integers::is_zero;
 use integers::within;
-use operators::answers::refuse;
+use operators::results::refuse;
 use terms::factors::scalar_number;
-use terms::types::Form;
-use terms::types::Outcome;
 use terms::types::Part;
 use terms::types::Term;
 
-// A form of so many terms, at most one.
-fn alone(kind: u8, count: usize, t: Term) -> Outcome
-    ensures { λ r. ⌜ Alone kind count t r ⌝ }
+// A form of one term.
+fn alone(kind: u8, t: Term, rows: &mut [[u32; 8]], coefs: &mut [i64]) -> Worked
+    requires { ⌜ Counted t × FormInShape (record { kind = kind; terms = termOf t ∷ [] }) × (1 ≤ length (now rows)) × (1 ≤ length (now coefs)) ⌝ }
+    ensures { λ w. ⌜ RowsGive (given (record { kind = kind; terms = termOf t ∷ [] })) w (now (rows .exit)) (now (coefs .exit)) ⌝ }
 {
-    let ts = [t; 48];
-    let f = Form {
-        kind: kind,
-        count: count,
-        terms: ts,
-    };
-    Outcome {
+    let r = row_of(t);
+    rows[0] = r;
+    let c = t.coef;
+    coefs[0] = c;
+    Worked {
         refusal: 0,
-        form: f,
+        kind: kind,
+        count: 1,
     }
 }
 
@@ -60,27 +63,32 @@ fn bare(k: i64, p: Part) -> Term
 }
 
 // A letter of a kind.
-pub fn letter(n: u8, kind: u8) -> Outcome
-    ensures { λ r. ⌜ Gives (given (letterForm n kind)) r ⌝ }
+pub fn letter(n: u8, kind: u8, rows: &mut [[u32; 8]], coefs: &mut [i64]) -> Worked
+    requires { ⌜ (1 ≤ length (now rows)) × (1 ≤ length (now coefs)) ⌝ }
+    ensures { λ w. ⌜ RowsGive (given (letterForm n kind)) w (now (rows .exit)) (now (coefs .exit)) ⌝ }
 {
     if kind == 0 {
-        return alone(0, 1, scalar_letter(n));
+        return alone(0, scalar_letter(n), rows, coefs);
     }
     let p = Part::Letter(n);
-    alone(1, 1, bare(1, p))
+    alone(1, bare(1, p), rows, coefs)
 }
 
 // A constant: 9 where it is beyond ±2147483647, the empty form where it is 0.
-pub fn constant(k: i64) -> Outcome
-    ensures { λ r. ⌜ Gives (constantForm k) r ⌝ }
+pub fn constant(k: i64, rows: &mut [[u32; 8]], coefs: &mut [i64]) -> Worked
+    requires { ⌜ (1 ≤ length (now rows)) × (1 ≤ length (now coefs)) ⌝ }
+    ensures { λ w. ⌜ RowsGive (constantForm k) w (now (rows .exit)) (now (coefs .exit)) ⌝ }
 {
     if !within(k) {
         return refuse(9);
     }
-    let p = Part::Nothing;
-    let t = bare(k, p);
     if is_zero(k) {
-        return alone(0, 0, t);
+        return Worked {
+            refusal: 0,
+            kind: 0,
+            count: 0,
+        };
     }
-    alone(0, 1, t)
+    let p = Part::Nothing;
+    alone(0, bare(k, p), rows, coefs)
 }

@@ -5,8 +5,9 @@ ghost use Rattle.terms.specs.Valid.{Gives};
 ghost use Rattle.reduction.specs.Answers.{reducedOf};
 use forms::FORM_BYTES;
 use forms::write_form;
+use gathering::rows::outcome;
 use letters::check_table;
-use operators::answers::refuse;
+use terms::build::refuse;
 use terms::types::Outcome;
 
 pub mod leaves;
@@ -28,15 +29,17 @@ pub fn form_of(table: &[u8], s: &[u8]) -> Outcome
     if s.len() > 512 {
         return refuse(3);
     }
-    let t = read_tree(table, s, 0, 16);
+    let z = [0u32; 8];
+    let mut rows = [z; 48];
+    let mut coefs = [0i64; 48];
+    let t = read_tree(table, s, 0, 16, &mut rows, &mut coefs);
     if t.unread != 0 {
         return refuse(t.unread);
     }
     if t.next != s.len() {
         return refuse(4);
     }
-    let w = t.work;
-    w
+    outcome(t.work, &rows, &coefs)
 }
 
 // The call: 1, 2, then contents; the record of the form is written into the bytes lent.

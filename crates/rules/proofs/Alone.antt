@@ -11,14 +11,11 @@ use lib.Seq.{length-take-le}
 use Rattle.specification.specs.Results.{refused, given}
 use Rattle.specification.specs.Letters.{vector, testLetter, testLetters}
 use Rattle.specification.specs.Terms.{termInShape}
+use Rattle.specification.specs.Terms as S
 use Rattle.specification.specs.Records.{testTerm}
 use Rattle.specification.specs.Rules.{isRule, ruleLetters, stepInShape, testStepLetters, takeStep, stepAt}
-use Rattle.terms.specs.declared.types.Form.{Form}
-use Rattle.terms.specs.Abstraction.{termOf, formOf, Counted}
+use Rattle.terms.specs.Abstraction.{termOf, Counted}
 use Rattle.terms.proofs.Arrays.{rest-at, nothing-left}
-use Rattle.terms.specs.declared.types.Outcome.{Outcome}
-use Rattle.terms.specs.Valid.{Gives}
-use Rattle.gathering.proofs.Closing.{refuses, works-as}
 use Rattle.letters.specs.Tested.{testOf}
 use Rattle.letters.proofs.LetterTests.{stops, goes-on, test-passed, test-refused}
 use Rattle.rules.specs.declared.steps.Step.{Step}
@@ -62,7 +59,7 @@ module _ (table : List ℕ) (s : Step) (r n : ℕ) (e : n ≡ ruleLetters (s .ru
 
 -- ════ the step
 
-module _ (table : List ℕ) (f : Form) (s : Step) (six : length (s .letters) ≡ 6) where
+module _ (table : List ℕ) (f : S.Form) (s : Step) (six : length (s .letters) ≡ 6) where
   long : eqb (length (stepOf s .letters)) (ruleLetters (s .rule)) ≡ true
   unfolding stepOf
   long = eq-eqb _ _ (length-take-le (ruleLetters (s .rule)) (s .letters) (omega (arith, six, few-letters (s .rule))))
@@ -76,19 +73,19 @@ module _ (table : List ℕ) (f : Form) (s : Step) (six : length (s .letters) ≡
       go true = refl
       go false = refl
 
-  out-of-shape : (r : Outcome) → stepInShape (stepOf s) ≡ false → r .refusal ≡ 11 → Gives (stepAt table (formOf f) (stepOf s)) r
+  out-of-shape : stepInShape (stepOf s) ≡ false → stepAt table f (stepOf s) ≡ refused 11
   unfolding stepAt
-  out-of-shape r h e = refuses (stepAt table (formOf f) (stepOf s)) r 11 e (λ z. omega arith) (rw h)
+  out-of-shape h = rw h
 
   module _ (b : Bool) (eb : b ≡ isRule (s .rule)) where
     -- no rule
-    pub no-rule : (r : Outcome) → b ≡ false → r .refusal ≡ 11 → Gives (stepAt table (formOf f) (stepOf s)) r
-    no-rule r h = out-of-shape r (shape-is ∙ ap (λ (x : Bool). x && termInShape (termOf (s .m))) (sym eb ∙ h))
+    pub no-rule : b ≡ false → stepAt table f (stepOf s) ≡ refused 11
+    no-rule h = out-of-shape (shape-is ∙ ap (λ (x : Bool). x && termInShape (termOf (s .m))) (sym eb ∙ h))
 
     module _ (hb : b ≡ true) (m : Bool) (em : m ≡ termInShape (termOf (s .m))) where
       -- M is not in shape
-      pub no-shape : (r : Outcome) → m ≡ false → r .refusal ≡ 11 → Gives (stepAt table (formOf f) (stepOf s)) r
-      no-shape r h = out-of-shape r (shape-is ∙ (λ i. (sym eb ∙ hb) i && (sym em ∙ h) i))
+      pub no-shape : m ≡ false → stepAt table f (stepOf s) ≡ refused 11
+      no-shape h = out-of-shape (shape-is ∙ (λ i. (sym eb ∙ hb) i && (sym em ∙ h) i))
 
       module _ (hm : m ≡ true) where
         in-shape-is : stepInShape (stepOf s) ≡ true
@@ -99,11 +96,11 @@ module _ (table : List ℕ) (f : Form) (s : Step) (six : length (s .letters) ≡
 
         module _ (n : ℕ) (t : testOf n ≡ testStepLetters table (stepOf s)) where
           -- the letters are refused
-          pub letters-refused : (r : Outcome) → (n ≡ 0 → ⊥) → r .refusal ≡ n → Gives (stepAt table (formOf f) (stepOf s)) r
+          pub letters-refused : (n ≡ 0 → ⊥) → stepAt table f (stepOf s) ≡ refused n
           unfolding stepAt
-          letters-refused r h e = refuses (stepAt table (formOf f) (stepOf s)) r n e h (rw (in-shape-is, ← t, test-refused n h))
+          letters-refused h = rw (in-shape-is, ← t, test-refused n h)
 
           -- the step decides
-          pub step-decides : (r : Outcome) → n ≡ 0 → Gives (takeStep (formOf f) (stepOf s)) r → Gives (stepAt table (formOf f) (stepOf s)) r
+          pub step-decides : n ≡ 0 → takeStep f (stepOf s) ≡ stepAt table f (stepOf s)
           unfolding stepAt
-          step-decides r h = works-as (takeStep (formOf f) (stepOf s)) (stepAt table (formOf f) (stepOf s)) r (rw (in-shape-is, ← t, test-passed n h))
+          step-decides h = rw (in-shape-is, ← t, test-passed n h)

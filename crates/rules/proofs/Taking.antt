@@ -1,46 +1,41 @@
--- A step taken: the kinds and letters tested, the products with the rule's rows listed, gathered and closed. Assumes nothing.
+-- A step taken: the kinds and letters tested, the products with the rule's rows brought in, the limits tested. Assumes nothing.
 use mathlib.Core.Path.{_≡_, refl, ap, sym, subst, _∙_}
 use mathlib.Core.Logic.{_⊎_, inl, inr, ⊎-elim}
 use mathlib.Core.Bool.{Bool, true, false, _&&_}
 use mathlib.Core.List.{List, [], _∷_, _++_, map}
-use Prim.Native.Nat.{ℕ, _+_, _%_, _<_, _≤_}
+use Prim.Native.Nat.{ℕ, _+_, _*_, _%_, _<_, _≤_}
 use native.Mathlib.Omega.{arith}
 use borrow.Author.Tests.{eq-eqb, ne-eqb}
 use lib.Dec.{T, eqb, leb, leb→le}
-use lib.IntN.{natAbs}
-use lib.ListN.{length, getD, take, set, length-set}
+use lib.IntN.{ℤ, natAbs}
+use lib.ListN.{length, getD, take}
 use lib.Seq.{length-take-le}
 use Rattle.specification.specs.Results.{Test, refused, given, _>>_, require, if_then_else_}
-use Rattle.specification.specs.Terms.{timesTerm, termKind, vectorLetters, scalarLetters, within, gather, gatherInto}
+use Rattle.specification.specs.Terms.{timesTerm, tidy, insert, termKind, vectorLetters, scalarLetters, within, gather, gatherInto}
 use Rattle.specification.specs.Terms as S
 use Rattle.specification.specs.Rules.{ruleKind, ruleLetters, stepKindsFit, stepTerms, takeStep}
-use Rattle.theory.specs.Elements.{All, all-append}
+use Rattle.theory.specs.Elements.{All}
 use Rattle.theory.specs.Shape.Terms.{kindOfPart, term-opens, in-limit}
 use Rattle.theory.specs.Tests.{required, passed}
 use Rattle.theory.specs.Shape.Forms.{FormInShape, AllFit, form-gathered, within-given, within-in-shape}
-use Rattle.theory.specs.Gathering.Gathered.{gather-onto}
+use Rattle.theory.specs.Gathering.Gathered.{into-join, gather-onto}
 use Rattle.theory.specs.Rules.Table.{stepTerms-rule}
 use Rattle.theory.specs.Rules.Steps.{StepShape, agreeing, step-fits, step-parts}
 use Rattle.terms.specs.declared.types.Term.{Term}
 use Rattle.terms.specs.Numbers.{lettersOf}
 use Rattle.terms.specs.Abstraction.{partOf, termOf, Counted}
-use Rattle.terms.proofs.Arrays.{stored-behind, mapped-behind}
+use Rattle.terms.proofs.Arrays.{mapped-behind}
 use Rattle.terms.specs.declared.shape.Used.{Used}
 use Rattle.terms.specs.Used.{UsedBy}
 use Rattle.terms.proofs.InShape.{factors-count}
-use Rattle.gathering.specs.declared.Sum.{Sum}
-use Rattle.terms.specs.declared.types.Outcome.{Outcome}
-use Rattle.gathering.specs.Sums.{sumOf, Bringable, AllBrought}
-use Rattle.terms.specs.Valid.{Gives}
-use Rattle.gathering.specs.Closing.{limitedOf, LimitsTested, ClosedAs}
-use Rattle.gathering.proofs.Closing.{works-as, closes}
+use Rattle.gathering.specs.Rows.{runOf, Run, Light, formBy, FormRun, TermBroughtIn, RunTested, RowsGive, Bringable, limitedOf}
+use Rattle.gathering.proofs.RowSums.{light-more}
 use Rattle.letters.specs.Tested.{testOf}
 use Rattle.letters.proofs.LetterTests.{test-passed, test-refused}
 use Rattle.rules.specs.declared.steps.Step.{Step}
 use Rattle.rules.specs.Table.{ruleRows, partAt, rowTerm, rowTerms, firstRow, rowCount, TimesRow}
-use Rattle.rules.specs.declared.steps.StepTerms.{StepTerms}
-use Rattle.rules.specs.Steps.{stepOf, StepValid, stepTests, StepFits, StepAdds}
-use Rattle.rules.proofs.Tied.{tied, rows-inside, row-next, row-all, row-at}
+use Rattle.rules.specs.Steps.{stepOf, StepValid, stepTests, StepFits, StepBrought}
+use Rattle.rules.proofs.Tied.{tied, row-next, row-all, row-at}
 
 -- ════ the tests
 
@@ -113,41 +108,54 @@ few-factors s v l h =
 abbrev pub rows : Step → List S.Term
 rows s = rowTerms (s .letters) (firstRow (s .rule)) (rowCount (s .rule))
 
--- the products of M with the first of them
-pub record Listed (s : Step) (i : ℕ) (ts : List Term) : Type 0 where
-  pub places : length ts ≡ 16
-  pub is : map termOf (take i ts) ≡ map (timesTerm (termOf (s .m))) (take i (rows s))
-  pub bringable : All Bringable (take i ts)
+-- the products of M with the first of them, brought in among n rows
+pub record Turned (s : Step) (n : ℕ) (before : List (List ℕ)) (coefs : List ℤ) (i m : ℕ) (before' : List (List ℕ)) (coefs' : List ℤ) : Type 0 where
+  pub is : runOf m before' coefs' ≡ gatherInto (runOf n before coefs) (map (timesTerm (termOf (s .m))) (take i (rows s)))
+  pub run : Run m before' coefs'
+  pub light : Light ((i + 1) * 2147483647) m coefs'
+  pub count : m ≤ n + i
 
 module _ (s : Step) (v : StepValid s) (six : length (s .letters) ≡ 6) where
-  -- none yet
-  pub listed-none : (ts : List Term) → length ts ≡ 16 → Listed s 0 ts
-  listed-none ts n = record { places = n; is = refl; bringable = tt }
-
-  -- one more
-  pub listed-more : (i : ℕ) (ts : List Term) (t : Term) → i < rowCount (s .rule) → Listed s i ts → TimesRow (s .m) (s .letters) (getD ruleRows (firstRow (s .rule) + i) 0) t
-      → Listed s (i + 1) (set ts i t)
+  -- a product can be brought in
+  pub product-light : (t : Term) (k : ℕ) → TimesRow (s .m) (s .letters) k t → Bringable t
   unfolding termOf
-  listed-more i ts t h w b =
-      let inside : i < length ts = omega (arith, w .places, rows-inside (s .rule) (v .rule) .1) in
-      let e : take (i + 1) (set ts i t) ≡ take i ts ++ t ∷ [] = stored-behind ts i t inside in
-      record {
-        places = length-set ts i t ∙ w .places;
-        is = ap (map termOf) e ∙ mapped-behind termOf (take i ts) t
-            ∙ (λ j. w .is j ++ b .is j ∷ [])
-            ∙ sym (ap (map (timesTerm (termOf (s .m)))) (row-next (s .letters) (firstRow (s .rule)) (rowCount (s .rule)) i h)
-            ∙ mapped-behind (timesTerm (termOf (s .m))) (take i (rows s)) (rowTerm (s .letters) (getD ruleRows (firstRow (s .rule) + i) 0)));
-        bringable = subst (All Bringable) (sym e)
-            (all-append Bringable (take i ts) (t ∷ []) (w .bringable) (record { counted = b .counted; light = omega (arith, b .light, in-limit (termOf (s .m)) (v .m .inShape)) }, tt));
-      }
+  product-light t k b = record { counted = b .counted; light = omega (arith, b .light, in-limit (termOf (s .m)) (v .m .inShape)) }
 
-  -- all of them are what the step adds
-  pub listed-all : (i : ℕ) (ts : List Term) → i ≡ rowCount (s .rule) → Listed s i ts → map termOf (take i ts) ≡ stepTerms (stepOf s)
-  unfolding stepOf
-  listed-all i ts e w =
-      w .is ∙ ap (λ (n : ℕ). map (timesTerm (termOf (s .m))) (take n (rows s))) e
-      ∙ ap (map (timesTerm (termOf (s .m)))) (row-all (s .letters) (firstRow (s .rule)) (rowCount (s .rule)) ∙ tied (s .rule) (v .rule) (s .letters) six)
-      ∙ sym (stepTerms-rule (stepOf s))
+  module _ (n : ℕ) (before : List (List ℕ)) (coefs : List ℤ) where
+    -- none yet
+    pub turned-none : Run n before coefs → Light 2147483647 n coefs → Turned s n before coefs 0 n before coefs
+    unfolding gatherInto
+    turned-none r l = record { is = refl; run = r; light = light-more 2147483647 ((0 + 1) * 2147483647) n coefs (omega arith) l; count = omega arith }
+
+    -- one more
+    pub turned-more : (i m : ℕ) (rows' : List (List ℕ)) (coefs' : List ℤ) (t : Term) (m' : ℕ) (rows'' : List (List ℕ)) (coefs'' : List ℤ) → i < rowCount (s .rule)
+        → Turned s n before coefs i m rows' coefs' → TimesRow (s .m) (s .letters) (getD ruleRows (firstRow (s .rule) + i) 0) t
+        → TermBroughtIn m rows' coefs' t m' rows'' coefs'' → Turned s n before coefs (i + 1) m' rows'' coefs''
+    unfolding gatherInto
+    turned-more i m rows' coefs' t m' rows'' coefs'' h w b q =
+        let g = timesTerm (termOf (s .m)) in
+        let k = rowTerm (s .letters) (getD ruleRows (firstRow (s .rule) + i) 0) in
+        record {
+          is = q .is ∙ (λ j. insert (tidy (b .is j)) (w .is j))
+              ∙ sym (ap (λ (l : List S.Term). gatherInto (runOf n before coefs) (map g l)) (row-next (s .letters) (firstRow (s .rule)) (rowCount (s .rule)) i h)
+              ∙ ap (gatherInto (runOf n before coefs)) (mapped-behind g (take i (rows s)) k)
+              ∙ into-join (runOf n before coefs) (map g (take i (rows s))) (g k ∷ []));
+          run = q .run;
+          light = light-more ((i + 1) * 2147483647 + 2147483647) ((i + 1 + 1) * 2147483647) m' coefs'' (omega arith) (q .light ((i + 1) * 2147483647) (w .light));
+          count = omega (arith, q .count, w .count);
+        }
+
+    -- all of them are what the step adds
+    pub turned-all : (i m : ℕ) (rows' : List (List ℕ)) (coefs' : List ℤ) → i ≡ rowCount (s .rule) → Turned s n before coefs i m rows' coefs' → StepBrought n before coefs s m rows' coefs'
+    unfolding stepOf
+    turned-all i m rows' coefs' e w = record {
+      is = w .is ∙ ap (λ (k : ℕ). gatherInto (runOf n before coefs) (map (timesTerm (termOf (s .m))) (take k (rows s)))) e
+          ∙ ap (λ (l : List S.Term). gatherInto (runOf n before coefs) (map (timesTerm (termOf (s .m))) l))
+          (row-all (s .letters) (firstRow (s .rule)) (rowCount (s .rule)) ∙ tied (s .rule) (v .rule) (s .letters) six)
+          ∙ ap (gatherInto (runOf n before coefs)) (sym (stepTerms-rule (stepOf s)));
+      run = w .run;
+      six = six;
+    }
 
   -- what the tests say
   module _ (w : StepFits s) where
@@ -172,10 +180,6 @@ module _ (s : Step) (v : StepValid s) (six : length (s .letters) ≡ 6) where
           (subst (All (λ (u : S.Term). u .part ≡ [])) (sym (tied (s .rule) (v .rule) (s .letters) six)) a)))
           (step-parts (record { kind = w .kind; terms = [] }) (stepOf s) (step-shape s v six) (agreeing (record { kind = w .kind; terms = [] }) (stepOf s) (passed-kinds .0))),
     )
-
-  -- the products with all rows
-  pub step-added : (i : ℕ) (ts : List Term) → i ≡ rowCount (s .rule) → Listed s i ts → StepAdds s (record { count = i; terms = ts })
-  step-added i ts e w = record { is = listed-all i ts e w; few = omega (arith, e, rows-inside (s .rule) (v .rule) .1); six = six; bringable = w .bringable }
 
 -- ════ the tests of a step
 
@@ -223,33 +227,49 @@ module _ (f : S.Form) (s : Step) where
       gathers : takeStep f (stepOf s) ≡ within (f .kind) (gather (f .terms ++ stepTerms (stepOf s)))
       gathers = step-tested ∙ ap (λ (x : Test). x >> within (f .kind) (gather (f .terms ++ stepTerms (stepOf s)))) (sym t ∙ test-passed n z)
 
-      module _ (v : StepValid s) (shape : FormInShape f) (g b : Sum) (is : sumOf g ≡ f .terms) (a : StepTerms) (wa : StepAdds s a) (ab : AllBrought g (take (a .count) (a .terms)) (a .count) b) where
+      module _ (v : StepValid s) (six : length (s .letters) ≡ 6) (shape : FormInShape f) where
         fits : AllFit (f .kind) (f .terms ++ stepTerms (stepOf s))
         unfolding stepKindsFit stepOf
-        fits = step-fits f (stepOf s) shape (step-shape s v (wa .six)) (agreeing f (stepOf s) (passed-kinds s v (wa .six) step-fitting .0)) (few-vectors s v (wa .six) step-fitting)
+        fits = step-fits f (stepOf s) shape (step-shape s v six) (agreeing f (stepOf s) (passed-kinds s v six step-fitting .0)) (few-vectors s v six step-fitting)
 
-        gathered : sumOf b ≡ gather (f .terms ++ stepTerms (stepOf s))
-        gathered = ab .is ∙ (λ j. gatherInto (is j) (wa .is j)) ∙ gather-onto (f .terms) (stepTerms (stepOf s)) (form-gathered f shape)
+        -- the terms that stand afterwards, their limits tested
+        module _ (us : List S.Term) (is : us ≡ gatherInto (f .terms) (stepTerms (stepOf s))) (e : ℕ) (le : within (f .kind) us ≡ limitedOf e (f .kind) us) where
+          tested : takeStep f (stepOf s) ≡ limitedOf e (f .kind) us
+          tested = gathers ∙ ap (within (f .kind)) (sym (is ∙ gather-onto (f .terms) (stepTerms (stepOf s)) (form-gathered f shape))) ∙ le
 
-        -- closed
-        pub step-closed : (r : Outcome) → ClosedAs b (f .kind) r → Gives (takeStep f (stepOf s)) r
-        step-closed r c =
-            works-as (within (f .kind) (gather (f .terms ++ stepTerms (stepOf s)))) (takeStep f (stepOf s)) r (sym gathers)
-            (closes b (f .kind) (f .terms ++ stepTerms (stepOf s)) r (shape .kind) gathered fits c)
-
-        module _ (e : ℕ) (le : LimitsTested b e) where
           -- beyond the limits
-          pub sum-refused : (e ≡ 0 → ⊥) → takeStep f (stepOf s) ≡ refused e
+          pub limits-refused : (e ≡ 0 → ⊥) → takeStep f (stepOf s) ≡ refused e
           unfolding limitedOf
-          sum-refused h = gathers ∙ ap (within (f .kind)) (sym gathered) ∙ le .is (f .kind) ∙ rw (ne-eqb e 0 h)
+          limits-refused h = tested ∙ rw (ne-eqb e 0 h)
 
           -- or the form reached
-          pub sum-reaches : e ≡ 0 → takeStep f (stepOf s) ≡ given (record { kind = f .kind; terms = sumOf b })
+          pub limits-reached : e ≡ 0 → takeStep f (stepOf s) ≡ given (record { kind = f .kind; terms = us })
           unfolding limitedOf
-          sum-reaches h = gathers ∙ ap (within (f .kind)) (sym gathered) ∙ le .is (f .kind) ∙ rw (eq-eqb e 0 h)
+          limits-reached h = tested ∙ rw (eq-eqb e 0 h)
 
           -- in shape
-          pub sum-in-shape : e ≡ 0 → FormInShape (record { kind = f .kind; terms = sumOf b })
-          sum-in-shape h =
-              within-in-shape (f .kind) (f .terms ++ stepTerms (stepOf s)) (record { kind = f .kind; terms = sumOf b }) (shape .kind) fits
-              (within-given (f .kind) (gather (f .terms ++ stepTerms (stepOf s))) (record { kind = f .kind; terms = sumOf b }) (sym gathers ∙ sum-reaches h))
+          pub limits-in-shape : e ≡ 0 → FormInShape (record { kind = f .kind; terms = us })
+          limits-in-shape h =
+              within-in-shape (f .kind) (f .terms ++ stepTerms (stepOf s)) (record { kind = f .kind; terms = us }) (shape .kind) fits
+              (within-given (f .kind) (gather (f .terms ++ stepTerms (stepOf s))) (record { kind = f .kind; terms = us }) (sym gathers ∙ limits-reached h))
+
+-- ════ a step at a form in rows
+
+module _ (kind n : ℕ) (rows₀ : List (List ℕ)) (coefs₀ : List ℤ) (s : Step) (k : ℕ) (t : testOf k ≡ stepTests kind (stepOf s)) where
+  -- refused by the tests
+  pub step-stays : (rows' : List (List ℕ)) (coefs' : List ℤ) → (k ≡ 0 → ⊥)
+      → RowsGive (takeStep (formBy kind n rows₀ coefs₀) (stepOf s)) (record { refusal = k; kind = kind; count = n }) rows' coefs'
+  step-stays rows' coefs' h = record { refuses = λ _. step-refused (formBy kind n rows₀ coefs₀) s k t h; gives = λ z. absurd (h z); form = λ z. absurd (h z) }
+
+  -- its terms brought in, and the limits tested
+  pub step-moves : k ≡ 0 → FormRun kind n rows₀ coefs₀ → StepValid s → (m : ℕ) (rows' : List (List ℕ)) (coefs' : List ℤ) → StepBrought n rows₀ coefs₀ s m rows' coefs'
+      → (e : ℕ) → RunTested m coefs' e → RowsGive (takeStep (formBy kind n rows₀ coefs₀) (stepOf s)) (record { refusal = e; kind = kind; count = m }) rows' coefs'
+  step-moves z w v m rows' coefs' b e le =
+      let f = formBy kind n rows₀ coefs₀ in
+      let us = runOf m rows' coefs' in
+      let l = le .is rows' (b .run .room) kind in
+      record {
+        refuses = limits-refused f s k t z v (b .six) (w .inShape) us (b .is) e l;
+        gives = limits-reached f s k t z v (b .six) (w .inShape) us (b .is) e l;
+        form = λ q. record { run = b .run; light = le .light q; few = le .few q; inShape = limits-in-shape f s k t z v (b .six) (w .inShape) us (b .is) e l q };
+      }

@@ -1,19 +1,18 @@
 -- Steps as data. Assumes nothing.
 use mathlib.Core.Path.{_≡_}
-use mathlib.Core.List.{[], map}
-use Prim.Native.Nat.{ℕ, _+_, _≤_}
+use mathlib.Core.List.{List, []}
+use Prim.Native.Nat.{ℕ, _+_}
 use lib.Dec.{T, leb}
+use lib.IntN.{ℤ}
 use lib.ListN.{length, take}
 use Rattle.specification.specs.Results.{Test, given, _>>_, require}
-use Rattle.specification.specs.Terms.{vectorLetters}
+use Rattle.specification.specs.Terms.{vectorLetters, gatherInto}
 use Rattle.specification.specs.Rules.{ruleLetters, isRule, stepKindsFit, stepTerms}
 use Rattle.specification.specs.Rules as R
 use Rattle.terms.specs.Abstraction.{termOf}
 use Rattle.terms.specs.Valid.{TermValid}
-use Rattle.theory.specs.Elements.{All}
-use Rattle.gathering.specs.Sums.{Bringable}
+use Rattle.gathering.specs.Rows.{runOf, Run}
 use Rattle.rules.specs.declared.steps.Step.{Step}
-use Rattle.rules.specs.declared.steps.StepTerms.{StepTerms}
 
 -- a step, with as many letters as its rule has
 unfoldable pub stepOf : Step → R.Step
@@ -35,9 +34,8 @@ pub record StepFits (s : Step) : Type 0 where
   pub kind : ℕ
   pub passes : stepTests kind (stepOf s) ≡ given tt
 
--- what a step adds
-pub record StepAdds (s : Step) (r : StepTerms) : Type 0 where
-  pub is : map termOf (take (r .count) (r .terms)) ≡ stepTerms (stepOf s)
-  pub few : r .count ≤ 7
+-- the terms of a step brought in among n rows: m rows
+pub record StepBrought (n : ℕ) (rows : List (List ℕ)) (coefs : List ℤ) (s : Step) (m : ℕ) (rows' : List (List ℕ)) (coefs' : List ℤ) : Type 0 where
+  pub is : runOf m rows' coefs' ≡ gatherInto (runOf n rows coefs) (stepTerms (stepOf s))
+  pub run : Run m rows' coefs'
   pub six : length (s .letters) ≡ 6
-  pub bringable : All Bringable (take (r .count) (r .terms))

@@ -1,21 +1,20 @@
 // A step alone at a form: its shape (11), its letters in byte order (5, 6), then the step itself (6, 8, 9, 10). Admissible where nothing is refused.
 ghost use mathlib.Core.Path.{_≡_};
-ghost use Prim.Native.Nat.{_≤_};
-ghost use lib.ListN.{take};
+ghost use Prim.Native.Nat.{_+_, _≤_};
+ghost use lib.ListN.{length, take};
 ghost use Rattle.specification.specs.Letters.{vector, testLetters};
 ghost use Rattle.specification.specs.Rules.{isRule, testStepLetters, stepAt};
-ghost use Rattle.terms.specs.Abstraction.{formOf, Counted};
-ghost use Rattle.terms.specs.Valid.{FormValid, Gives};
+ghost use Rattle.terms.specs.Abstraction.{Counted};
+ghost use Rattle.gathering.specs.Rows.{formBy, FormRun, RowsGive};
 ghost use Rattle.letters.specs.Tested.{testOf};
 ghost use Rattle.rules.specs.Steps.{stepOf};
 use crate::steps::Step;
 use crate::steps::rule_letters;
 use crate::steps::take_step;
+use gathering::rows::Worked;
 use letters::test_letter;
 use letters::test_term;
 use terms::shape::in_shape;
-use terms::types::Form;
-use terms::types::Outcome;
 
 // Whether a number is that of a rule.
 pub fn is_rule(rule: u8) -> bool
@@ -58,33 +57,44 @@ pub fn test_step_letters(table: &[u8], s: Step) -> u8
     test_term(table, m)
 }
 
-// A step alone, with a form as the current one.
-pub fn step_at(table: &[u8], f: Form, s: Step) -> Outcome
-    requires { ⌜ FormValid f × Counted (s .m) ⌝ }
-    ensures { λ r. ⌜ Gives (stepAt (now (table .entry)) (formOf f) (stepOf s)) r ⌝ }
+// A step alone, with the form of a kind in n rows as the current one; they become those of the form reached.
+pub fn step_at(
+    table: &[u8],
+    kind: u8,
+    n: usize,
+    rows: &mut [[u32; 8]],
+    coefs: &mut [i64],
+    s: Step,
+) -> Worked
+    requires { ⌜ FormRun kind n (now rows) (now coefs) × Counted (s .m) × (n + 7 ≤ length (now rows)) × (n + 7 ≤ length (now coefs)) ⌝ }
+    ensures reached { λ r. ⌜ RowsGive (stepAt (now (table .entry)) (formBy kind n (now (rows .entry)) (now (coefs .entry))) (stepOf s)) r (now (rows .exit)) (now (coefs .exit)) ⌝ }
+    ensures kind { λ r. ⌜ r .kind ≡ kind ⌝ }
 {
     let m = s.m;
     if !is_rule(s.rule) {
-        return Outcome {
+        return Worked {
             refusal: 11,
-            form: f,
+            kind: kind,
+            count: n,
         };
     }
     let c = m.coef;
-    let n = m.factor_count;
+    let k = m.factor_count;
     let p = m.part;
-    if !in_shape(c, &m.factors, n, p) {
-        return Outcome {
+    if !in_shape(c, &m.factors, k, p) {
+        return Worked {
             refusal: 11,
-            form: f,
+            kind: kind,
+            count: n,
         };
     }
     let r = test_step_letters(table, s);
     if r != 0 {
-        return Outcome {
+        return Worked {
             refusal: r,
-            form: f,
+            kind: kind,
+            count: n,
         };
     }
-    take_step(f, s)
+    take_step(kind, n, rows, coefs, s)
 }

@@ -3,23 +3,22 @@ ghost use mathlib.Core.Path.{_≡_};
 ghost use mathlib.Core.List.{[]};
 ghost use Prim.Native.Nat.{_+_, _≤_};
 ghost use lib.Dec.{leb};
+ghost use lib.ListN.{length};
 ghost use Rattle.specification.specs.Terms.{vectorLetters};
 ghost use Rattle.specification.specs.Rules.{ruleLetters, ruleKind, stepKindsFit, takeStep};
-ghost use Rattle.terms.specs.Abstraction.{partOf, formOf};
-ghost use Rattle.terms.specs.Valid.{FormValid, Gives};
+ghost use Rattle.terms.specs.Abstraction.{partOf};
+ghost use Rattle.gathering.specs.Rows.{Run, Light, formBy, FormRun, RowsGive};
 ghost use Rattle.rules.specs.Table.{rowCount};
 ghost use Rattle.theory.specs.Shape.Terms.{kindOfPart};
 ghost use Rattle.letters.specs.Tested.{testOf};
-ghost use Rattle.rules.specs.Steps.{stepOf, StepValid, stepTests, StepFits, StepAdds};
+ghost use Rattle.rules.specs.Steps.{stepOf, StepValid, stepTests, StepFits, StepBrought};
 use crate::table::rule_rows;
 use crate::table::times_row;
-use gathering::bring_all;
-use gathering::close;
-use gathering::holding;
+use gathering::bringing::bring_term;
+use gathering::limits::test_limits;
+use gathering::rows::Worked;
 use terms::shape::letters_used;
 use terms::shape::part_letters;
-use terms::types::Form;
-use terms::types::Outcome;
 use terms::types::Part;
 use terms::types::Term;
 
@@ -113,49 +112,46 @@ pub fn test_step(kind: u8, s: Step) -> u8
     0
 }
 
-// The terms that a step adds, their letters and factors in any order.
-pub struct StepTerms {
-    pub count: usize,
-    pub terms: [Term; 16],
-}
-
-// M times each row of the rule.
-pub fn step_terms(s: Step) -> StepTerms
-    requires { ⌜ StepValid s × StepFits s ⌝ }
-    ensures { λ r. ⌜ StepAdds s r ⌝ }
+// The terms of a step brought in among n rows: M times each row of the rule; how many rows there are then.
+fn bring_step(rows: &mut [[u32; 8]], coefs: &mut [i64], n: usize, s: Step) -> usize
+    requires run { ⌜ Run n (now rows) (now coefs) × Light 2147483647 n (now coefs) × (n + 7 ≤ length (now rows)) × (n + 7 ≤ length (now coefs)) ⌝ }
+    requires step { ⌜ StepValid s × StepFits s ⌝ }
+    ensures { λ m. ⌜ StepBrought n (now (rows .entry)) (now (coefs .entry)) s m (now (rows .exit)) (now (coefs .exit)) ⌝ }
 {
     let m = s.m;
     let letters = s.letters;
     let rule = s.rule;
-    let n = row_count(rule);
-    let rows = rule_rows(rule);
-    let mut ts = [m; 16];
+    let count = row_count(rule);
+    let table = rule_rows(rule);
+    let mut held = n;
     let mut i: usize = 0;
-    while i < n {
-        let t = times_row(m, letters, rows[i]);
-        ts[i] = t;
+    while i < count {
+        let t = times_row(m, letters, table[i]);
+        held = bring_term(rows, coefs, held, t);
         i += 1;
     }
-    StepTerms {
-        count: n,
-        terms: ts,
-    }
+    held
 }
 
-// The form reached by a step; 6, 8, then 9 and 10 of the gathered form.
-pub fn take_step(f: Form, s: Step) -> Outcome
-    requires { ⌜ FormValid f × StepValid s ⌝ }
-    ensures { λ r. ⌜ Gives (takeStep (formOf f) (stepOf s)) r ⌝ }
+// A step taken at the form of a kind in n rows, which become those of the form reached: 6, 8, then 9 and 10 of the gathered form.
+pub fn take_step(kind: u8, n: usize, rows: &mut [[u32; 8]], coefs: &mut [i64], s: Step) -> Worked
+    requires { ⌜ FormRun kind n (now rows) (now coefs) × StepValid s × (n + 7 ≤ length (now rows)) × (n + 7 ≤ length (now coefs)) ⌝ }
+    ensures reached { λ r. ⌜ RowsGive (takeStep (formBy kind n (now (rows .entry)) (now (coefs .entry))) (stepOf s)) r (now (rows .exit)) (now (coefs .exit)) ⌝ }
+    ensures kind { λ r. ⌜ r .kind ≡ kind ⌝ }
 {
-    let kind = f.kind;
-    let n = test_step(kind, s);
-    if n != 0 {
-        return Outcome {
-            refusal: n,
-            form: f,
+    let e = test_step(kind, s);
+    if e != 0 {
+        return Worked {
+            refusal: e,
+            kind: kind,
+            count: n,
         };
     }
-    let a = step_terms(s);
-    let ts = a.terms;
-    close(bring_all(holding(f), ts, a.count), kind)
+    let m = bring_step(rows, coefs, n, s);
+    let e = test_limits(coefs, m);
+    Worked {
+        refusal: e,
+        kind: kind,
+        count: m,
+    }
 }

@@ -25,7 +25,7 @@ use Rattle.terms.specs.Abstraction.{termOf, formOf}
 use Rattle.terms.proofs.Forms.{form-long}
 use Rattle.terms.specs.declared.types.Outcome.{Outcome}
 use Rattle.terms.specs.Valid.{Gives}
-use Rattle.gathering.proofs.Closing.{worked-given}
+use Rattle.terms.proofs.Outcomes.{worked-given}
 use Rattle.letters.specs.Tested.{testOf}
 use Rattle.records.proofs.Inside.{written-inside}
 use Rattle.letters.proofs.LetterTests.{test-passed}

@@ -2,19 +2,22 @@
 use mathlib.Core.Path.{_≡_, refl, sym, ap, subst, _∙_}
 use mathlib.Core.Bool.{Bool, true, false}
 use mathlib.Core.Logic.{⊎-elim}
-use mathlib.Core.List.{List}
+use mathlib.Core.List.{List, [], _∷_}
 use Prim.Native.Nat.{ℕ, _+_, _-_, _*_, _/_, _%_, _^_, _<_, _≤_}
 use native.Mathlib.Nat as N
 use native.Mathlib.Omega.{arith}
 use borrow.Author.Tests.{ltb-true, ltb-false}
 use lib.Dec.{T, ltb, leb, leb→le}
-use lib.IntN.{ℤ, negℤ, _*ℤ_}
-use lib.ListN.{length, length-map, getD, take, length-take}
+use lib.IntN.{ℤ, pos, negℤ, _*ℤ_}
+use lib.ListN.{length, length-map, getD, take, drop, length-take}
+use lib.Seq.{getD-drop}
 use lib.Pow.{pow-mono}
 use Rattle.specification.specs.Results.{given}
+use Rattle.specification.specs.Terms.{termInShape}
 use Rattle.specification.specs.Terms as S
 use Rattle.specification.specs.Rules.{ruleLetters, isRule, stepAt}
 use Rattle.theory.specs.Elements as E
+use Rattle.theory.specs.Elements.{all-T}
 use Rattle.theory.specs.Tests.{and-split, given-same, refused≢given}
 use Rattle.theory.specs.Order.{monomial}
 use Rattle.theory.specs.Shape.Forms.{FormInShape}
@@ -23,14 +26,12 @@ use Rattle.theory.specs.Gathering.Coefficients.{termAt}
 use Rattle.theory.specs.Rules.Steps.{step-admitted}
 use Rattle.theory.specs.Shortening.Candidates.{candidate, gain, isCandidate, NoCandidate}
 use Rattle.terms.specs.declared.types.Term.{Term}
-use Rattle.terms.specs.declared.types.Form.{Form}
-use Rattle.terms.specs.Abstraction.{termOf, formOf, Counted}
-use Rattle.terms.specs.Valid.{FormValid, Gives}
+use Rattle.terms.specs.Abstraction.{termOf, Counted}
+use Rattle.terms.specs.Valid.{TermValid}
 use Rattle.terms.specs.Numbers.{lettersOf}
-use Rattle.terms.proofs.Arrays.{noTerm}
-use Rattle.terms.proofs.Forms.{form-long, term-is, term-valid}
-use Rattle.terms.specs.declared.types.Outcome.{Outcome}
-use Rattle.gathering.proofs.Closing.{worked-given, worked-refused}
+use Rattle.gathering.specs.declared.rows.Worked.{Worked}
+use Rattle.gathering.specs.Rows.{headOf, factorsOf, termBy, runOf, formBy, FormRun, RowsGive}
+use Rattle.gathering.proofs.RowRuns.{run-length, run-at}
 use Rattle.rules.specs.declared.steps.Step.{Step}
 use Rattle.rules.specs.Steps.{stepOf}
 use Rattle.rules.proofs.Taking.{few-letters}
@@ -104,50 +105,66 @@ row-all table f at few h w known i k r j c g hi hk rule hj can ex s =
 
 -- ════ the forms of the code
 
-module _ (f : Form) (v : FormValid f) (places : length (f .terms) ≡ 48) where
-  terms-few : (i : ℕ) → i < length (formOf f .terms) → length (termAt (formOf f .terms) i .factors) ≤ 7
-  unfolding termOf
-  terms-few i h =
-      let inside : i < f .count = omega (arith, form-long f v places) in
-      let c = term-valid f v places i inside .counted in
-      subst (λ (t : S.Term). length (t .factors) ≤ 7) (term-is f v places i inside)
-      (omega (
-        arith,
-        length-map (take (getD (f .terms) i noTerm .«factor_count») (getD (f .terms) i noTerm .factors)) lettersOf,
-        c .few,
-        length-take
-            (getD (f .terms) i noTerm .«factor_count») (getD (f .terms) i noTerm .factors),
-      ))
+module _ (kind n : ℕ) (rows : List (List ℕ)) (coefs : List ℤ) (v : FormRun kind n rows coefs) where
+  abbrev long : length (runOf n rows coefs) ≡ n
+  long = run-length rows coefs n (v .run .room) (v .run .beside)
 
-  -- the row by the code's numbers
-  pub row-searched : (table : List ℕ) (first at end : ℕ) → end ≡ f .count * 40960 → end ≤ at → RowPassed table (formOf f) first at → first ≡ 0
-      → AllKnown table (formOf f .terms) → NoCandidate table (formOf f)
-  row-searched table first at end e h w z = row-all table (formOf f) at terms-few (omega (arith, form-long f v places, e, h)) (subst (λ (n : ℕ). RowPassed table (formOf f) n at) z w)
+  module _ (i : ℕ) (h : i < n) where
+    -- the term of a row
+    pub row-term : termBy (getD rows i []) (getD coefs i (pos 0)) ≡ termAt (runOf n rows coefs) i
+    row-term =
+        let ts = runOf n rows coefs in
+        let none : S.Term = record { coef = pos 0; factors = []; part = [] } in
+        sym (ap (λ (k : ℕ). getD ts k none) (sym (N.add-zero i)) ∙ sym (getD-drop i ts 0 none)
+        ∙ ap (λ (l : List S.Term). getD l 0 none) (run-at rows coefs n (v .run .room) (v .run .beside) i h))
+
+    -- as a value it is valid
+    pub row-valid : (t : Term) (z : ℤ) → z ≡ getD coefs i (pos 0) → (termOf t ≡ termBy (getD rows i []) z) × Counted t → TermValid t
+    row-valid t z e q = record {
+      counted = q .1;
+      inShape = subst (λ (t : S.Term). T (termInShape t)) (sym (q .0 ∙ ap (termBy (getD rows i [])) e ∙ row-term))
+          (E.all-at (λ (t : S.Term). T (termInShape t)) (runOf n rows coefs) i _ (all-T termInShape (runOf n rows coefs) (v .inShape .terms)) (omega (arith, long)));
+    }
+
+  terms-few : (i : ℕ) → i < length (runOf n rows coefs) → length (termAt (runOf n rows coefs) i .factors) ≤ 7
+  unfolding termBy factorsOf
+  terms-few i h =
+      let inside : i < n = omega (arith, long) in
+      subst (λ (t : S.Term). length (t .factors) ≤ 7) (row-term i inside)
+      (omega (arith, length-map (take (headOf (getD rows i []) % 8) (drop 1 (getD rows i []))) lettersOf, length-take (headOf (getD rows i []) % 8) (drop 1 (getD rows i []))))
+
+  -- the row of places by the code's numbers
+  pub row-searched : (table : List ℕ) (first at end : ℕ) → end ≡ n * 40960 → end ≤ at → RowPassed table (formBy kind n rows coefs) first at → first ≡ 0
+      → AllKnown table (runOf n rows coefs) → NoCandidate table (formBy kind n rows coefs)
+  row-searched table first at end e h w z = row-all table (formBy kind n rows coefs) at terms-few (omega (arith, long, e, h)) (subst (λ (k : ℕ). RowPassed table (formBy kind n rows coefs) k at) z w)
 
 -- ════ trials
 
-module _ (table : List ℕ) (f : Form) (v : FormValid f) (places : length (f .terms) ≡ 48) (s : Step) (r : Outcome) (w : Gives (stepAt table (formOf f) (stepOf s)) r) where
-  pub refused-useless : (b : Bool) → (r .refusal ≡ 0 → ⊥) → Useless table (formOf f) b s
+module _ (table : List ℕ) (f : S.Form) (s : Step) (r : Worked) (rows : List (List ℕ)) (coefs : List ℤ) (w : RowsGive (stepAt table f (stepOf s)) r rows coefs) where
+  pub refused-useless : (b : Bool) → (r .refusal ≡ 0 → ⊥) → Useless table f b s
   unfolding Useless
-  refused-useless b h e g q = absurd (refused≢given (sym (worked-refused _ r w h) ∙ q))
+  refused-useless b h e g q = absurd (refused≢given (sym (w .refuses h) ∙ q))
 
-  module _ (h : r .refusal ≡ 0) (room : length (r .form .terms) ≡ 48) where
-    pub long-useless : (b : Bool) → f .count ≤ r .form .count → Useless table (formOf f) b s
+  module _ (h : r .refusal ≡ 0) where
+    pub long-useless : (b : Bool) → length (f .terms) ≤ r .count → Useless table f b s
     unfolding Useless
     long-useless b k e g q =
-        let same : formOf (r .form) ≡ g = given-same (sym (worked-given _ r w h) ∙ q) in
-        subst (λ (g : S.Form). length (formOf f .terms) ≤ length (g .terms)) same (omega (arith, form-long f v places, form-long (r .form) (w .valid h) room))
+        let same : formBy (r .kind) (r .count) rows coefs ≡ g = given-same (sym (w .gives h) ∙ q) in
+        let v = w .form h .run in
+        subst (λ (g : S.Form). length (f .terms) ≤ length (g .terms)) same (omega (arith, run-length rows coefs (r .count) (v .room) (v .beside)))
 
-    pub shorter : r .form .count < f .count → Counted (s .m) → (i : ℕ) → i ≤ r .form .count → Shorter table f (record { found = true; behind = i; step = s; form = r .form })
+    pub shorter : r .kind ≡ f .kind → r .count < length (f .terms) → Counted (s .m) → (i : ℕ) → i ≤ r .count
+        → Shorter table f (record { found = true; behind = i; count = r .count; step = s }) rows coefs
     unfolding stepOf
-    shorter k c i few =
-        let a = step-admitted table (formOf f) (stepOf s) (formOf (r .form)) (worked-given _ r w h) in
+    shorter e k c i few =
+        let reached : stepAt table f (stepOf s) ≡ given (formBy (f .kind) (r .count) rows coefs) = w .gives h ∙ ap (λ (n : ℕ). given (formBy n (r .count) rows coefs)) e in
+        let a = step-admitted table f (stepOf s) (formBy (f .kind) (r .count) rows coefs) reached in
         record {
-          admissible = worked-given _ r w h;
+          admissible = reached;
           fewer = k;
-          form = w .valid h;
+          form = subst (λ (n : ℕ). FormRun n (r .count) rows coefs) e (w .form h);
           step = record { rule = a .shape .rule; m = record { counted = c; inShape = a .shape .m } };
-          behind = omega (arith, few, w .valid h .few);
+          behind = omega (arith, few, w .form h .few);
         }
 
 -- no step found

@@ -1,12 +1,12 @@
 -- Arrays up to a count: what stands at a place, what is left from it on, one more behind the others. Assumes nothing.
-use mathlib.Core.Path.{_≡_, refl, ap, _∙_}
+use mathlib.Core.Path.{_≡_, refl, ap, sym, _∙_}
 use mathlib.Core.List.{List, [], _∷_, _++_, map}
 use Prim.Native.Nat.{ℕ, zero, suc, _+_, _<_, _≤_}
 use native.Mathlib.Omega.{arith}
 use native.Mathlib.Numerals.{add-one}
 use lib.IntN.{pos}
 use lib.ListN.{length, getD, take, drop, set, drop-of-length-le}
-use lib.Seq.{drop-cons, getD-take, length-take-le}
+use lib.Seq.{drop-cons, getD-take, length-take-le, take-suc}
 use Rattle.theory.specs.Elements.{All}
 use Rattle.terms.specs.declared.types.Part.the-variants.{Nothing}
 use Rattle.terms.specs.declared.types.Term.{Term}
@@ -42,6 +42,16 @@ module _ {A : Type 0} where
       go (y ∷ l) zero g = refl
       go (y ∷ l) (suc n) g = ap (λ (z : List A). y ∷ z) (go l n (omega arith))
 
+  -- one more copied
+  pub copied-more : (g l : List A) (i : ℕ) (d : A) → take i g ≡ take i l → i < length g → i < length l → take (i + 1) (set g i (getD l i d)) ≡ take (i + 1) l
+  copied-more g l i d e h k = stored-behind g i (getD l i d) h ∙ ap (λ (m : List A). m ++ getD l i d ∷ []) e ∙ sym (rw add-one (take-suc l i d k))
+
   pub mapped-behind : {B : Type 0} (f : A → B) (l : List A) (x : A) → map f (l ++ x ∷ []) ≡ map f l ++ f x ∷ []
   mapped-behind f [] x = refl
   mapped-behind f (y ∷ l) x = ap (_∷_ (f y)) (mapped-behind f l x)
+
+-- what is dropped may be mapped before or after
+pub map-drop : {A B : Type 0} (f : A → B) (i : ℕ) (l : List A) → map f (drop i l) ≡ drop i (map f l)
+map-drop f zero l = refl
+map-drop f (suc i) [] = refl
+map-drop f (suc i) (x ∷ l) = map-drop f i l

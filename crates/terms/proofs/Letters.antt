@@ -2,7 +2,7 @@
 use mathlib.Core.Path.{_≡_, ap, sym, _∙_}
 use mathlib.Core.Bool.{Bool, true, false}
 use mathlib.Core.List.{[], _∷_}
-use Prim.Native.Nat.{ℕ, _-_, _/_, _%_, _<_, _≤_}
+use Prim.Native.Nat.{ℕ, _+_, _-_, _/_, _%_, _<_, _≤_}
 use native.Mathlib.Omega.{arith}
 use lib.Dec.{ltb}
 use lib.ListN.{length}
@@ -11,9 +11,9 @@ use Rattle.terms.specs.declared.factors.Factor.{Factor}
 use Rattle.terms.specs.declared.factors.Factor.the-variants.{Scalar, Dot, Triple}
 use Rattle.terms.specs.declared.types.Part.{Part}
 use Rattle.terms.specs.declared.types.Part.the-variants.{Nothing, Letter, Wedge}
-use Rattle.terms.specs.Numbers.{lettersOf}
+use Rattle.terms.specs.Numbers.{lettersOf, partLettersOf}
 use Rattle.terms.specs.Abstraction.{factorOf, partOf}
-use Rattle.terms.proofs.Numbers.{one-is, two-is, three-is}
+use Rattle.terms.proofs.Numbers.{one-is, two-is, three-is, number-part}
 
 -- ════ the letters as bytes
 
@@ -87,3 +87,22 @@ letter-is p x e = rw e
 pub wedge-is : (p : Part) (x y : ℕ) → p ≡ Wedge x y → partOf p ≡ x ∷ y ∷ []
 unfolding partOf
 wedge-is p x y e = rw e
+
+-- the vector part of a number: nothing
+pub part-nothing : (k : ℕ) → k ≡ 0 → partOf Nothing ≡ partLettersOf k
+unfolding partOf partLettersOf
+part-nothing k e = rw e
+
+module _ (k i : ℕ) (z : k ≡ 0 → ⊥) (e : i ≡ k - 1) where
+  behind-nothing : lettersOf i ≡ partLettersOf k
+  behind-nothing = let q : 1 + i ≡ k = omega arith in sym (number-part i) ∙ ap partLettersOf q
+
+  -- a letter
+  pub part-letter : (a : ℕ) → i < 256 → a ≡ i % 256 → partOf (Letter a) ≡ partLettersOf k
+  unfolding partOf
+  part-letter a h p = let r : i ≡ a = omega arith in sym (one-is i h ∙ rw r) ∙ behind-nothing
+
+  -- a wedge
+  pub part-wedge : (a b : ℕ) → 256 ≤ i → k < 65793 → a ≡ (i - 256) / 256 % 256 → b ≡ (i - 256) % 256 → partOf (Wedge a b) ≡ partLettersOf k
+  unfolding partOf
+  part-wedge a b h g p q = let l : i < 65792 = omega arith in let r : (i - 256) / 256 ≡ a = omega arith in sym (two-is i h l ∙ rw (r, sym q)) ∙ behind-nothing

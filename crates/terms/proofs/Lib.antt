@@ -10,3 +10,4 @@ pub mod Exchanges
 pub mod Tidying
 pub mod Joins
 pub mod Forms
+pub mod Outcomes

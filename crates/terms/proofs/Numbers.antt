@@ -15,7 +15,7 @@ use Rattle.theory.specs.Order.{LtLetters, letters-laws, nat-laws, compares-less
 use Rattle.theory.specs.Sorting as O
 use Rattle.terms.specs.declared.types.Part.{Part}
 use Rattle.terms.specs.declared.types.Part.the-variants.{Nothing, Letter, Wedge}
-use Rattle.terms.specs.Numbers.{lettersOf, partLettersOf, FactorNumber}
+use Rattle.terms.specs.Numbers.{lettersOf, partLettersOf, FactorNumber, PartNumber}
 use Rattle.terms.specs.Abstraction.{partOf}
 
 -- ════ the number of letters
@@ -139,19 +139,30 @@ parts-less (suc k) (suc l) h = letters-less k l (omega arith)
 pub part-order : (k l : ℕ) → compareLetters (partLettersOf k) (partLettersOf l) ≡ order k l
 part-order = by-number partLettersOf parts-less
 
-number-part : (k : ℕ) → partLettersOf (1 + k) ≡ lettersOf k
+pub number-part : (k : ℕ) → partLettersOf (1 + k) ≡ lettersOf k
 unfolding partLettersOf
 number-part k = let e : 1 + k ≡ suc k = omega arith in ap partLettersOf e
 
+-- two letters or fewer are those of a small number
+few-letters : (k : ℕ) → length (lettersOf k) < 3 → k < 65792
+unfolding lettersOf
+few-letters k = go (ltb k 256) refl (ltb k 65792) refl
+  where
+    go : (a : Bool) → ltb k 256 ≡ a → (b : Bool) → ltb k 65792 ≡ b
+        → length (if a then k ∷ [] else if b then (k - 256) / 256 ∷ (k - 256) % 256 ∷ [] else (k - 65792) / 65536 ∷ (k - 65792) / 256 % 256 ∷ (k - 65792) % 256 ∷ []) < 3 → k < 65792
+    go true p b q h = omega (arith, ltb-true k 256 p)
+    go false p true q h = ltb-true k 65792 q
+    go false p false q h = absurd (omega arith)
+
 -- the number of nothing, of a letter, of a wedge
-pub nothing-number : (p : Part) → p ≡ Nothing → partLettersOf 0 ≡ partOf p
+pub nothing-number : (p : Part) → p ≡ Nothing → PartNumber (partOf p) 0
 unfolding partLettersOf partOf
-nothing-number p e = rw e
+nothing-number p e = record { letters = rw e; small = omega arith }
 
-pub letter-number : (p : Part) (x k : ℕ) → FactorNumber (x ∷ []) k → p ≡ Letter x → partLettersOf (1 + k) ≡ partOf p
+pub letter-number : (p : Part) (x k : ℕ) → FactorNumber (x ∷ []) k → p ≡ Letter x → PartNumber (partOf p) (1 + k)
 unfolding partOf
-letter-number p x k h e = number-part k ∙ h .letters ∙ rw e
+letter-number p x k h e = record { letters = number-part k ∙ h .letters ∙ rw e; small = omega (arith, few-letters k (omega (arith, ap length (h .letters)))) }
 
-pub wedge-number : (p : Part) (x y k : ℕ) → FactorNumber (x ∷ y ∷ []) k → p ≡ Wedge x y → partLettersOf (1 + k) ≡ partOf p
+pub wedge-number : (p : Part) (x y k : ℕ) → FactorNumber (x ∷ y ∷ []) k → p ≡ Wedge x y → PartNumber (partOf p) (1 + k)
 unfolding partOf
-wedge-number p x y k h e = number-part k ∙ h .letters ∙ rw e
+wedge-number p x y k h e = record { letters = number-part k ∙ h .letters ∙ rw e; small = omega (arith, few-letters k (omega (arith, ap length (h .letters)))) }

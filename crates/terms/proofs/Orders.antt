@@ -40,7 +40,7 @@ first-none f g n k fl gl h = rw (nothing-left f n k fl h, nothing-left g n k gl 
 
 -- ════ terms
 
-by-numbers : (f g : List ℕ) → firstDifference compareLetters (map lettersOf f) (map lettersOf g) ≡ firstDifference order f g
+pub by-numbers : (f g : List ℕ) → firstDifference compareLetters (map lettersOf f) (map lettersOf g) ≡ firstDifference order f g
 unfolding firstDifference
 by-numbers [] [] = refl
 by-numbers [] (y ∷ g) = refl

@@ -1,12 +1,13 @@
-// Factors as numbers: shorter factors have smaller numbers, and factors of one length are numbered in the order of their letters.
-// Only here does it stand which number is which factor.
+// Factors and vector parts as numbers: shorter ones have smaller numbers, and those of one length are numbered in the order of their letters.
+// Only here does it stand which number is which factor, and which vector part.
 ghost use mathlib.Core.Path.{_≡_};
 ghost use mathlib.Core.List.{[], _∷_};
 ghost use Prim.Native.Nat.{_<_, _%_};
 ghost use lib.ListN.{length};
 ghost use Rattle.specification.specs.Terms.{factorInShape};
-ghost use Rattle.terms.specs.Numbers.{lettersOf, FactorNumber};
-ghost use Rattle.terms.specs.Abstraction.{factorOf};
+ghost use Rattle.terms.specs.Numbers.{lettersOf, partLettersOf, FactorNumber, PartNumber};
+ghost use Rattle.terms.specs.Abstraction.{factorOf, partOf};
+use crate::types::Part;
 
 // The number of the first dot: scalar letters come before.
 const DOTS: u32 = 256;
@@ -100,4 +101,31 @@ pub fn factor_in_shape(k: u32) -> bool
         return j / 256 % 256 < j % 256;
     }
     false
+}
+
+// The number of a vector part: nothing, then the letters, then the wedges.
+pub fn part_number(p: Part) -> u32
+    ensures { λ r. ⌜ PartNumber (partOf p) r ⌝ }
+{
+    match p {
+        Part::Nothing => 0,
+        Part::Letter(x) => 1 + scalar_number(x),
+        Part::Wedge(x, y) => 1 + dot_number(x, y),
+    }
+}
+
+// The vector part of a number.
+pub fn part_of(k: u32) -> Part
+    requires { ⌜ k < 65793 ⌝ }
+    ensures { λ r. ⌜ partOf r ≡ partLettersOf k ⌝ }
+{
+    if k == 0 {
+        return Part::Nothing;
+    }
+    let i = k - 1;
+    if i < DOTS {
+        return Part::Letter(low(i));
+    }
+    let j = i - DOTS;
+    Part::Wedge(low(j / 256), low(j))
 }

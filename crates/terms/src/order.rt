@@ -5,11 +5,8 @@ ghost use lib.Dec.{isEq};
 ghost use lib.ListN.{length, take};
 ghost use Rattle.specification.specs.Lists.{order, isLess, firstDifference};
 ghost use Rattle.specification.specs.Terms.{compareTerms};
-ghost use Rattle.terms.specs.Numbers.{partLettersOf};
-ghost use Rattle.terms.specs.Abstraction.{partOf, termOf, orderingOf, isMore, Counted};
-use crate::factors::dot_number;
-use crate::factors::scalar_number;
-use crate::types::Part;
+ghost use Rattle.terms.specs.Abstraction.{termOf, orderingOf, isMore, Counted};
+use crate::factors::part_number;
 use crate::types::Term;
 
 // What a comparison finds.
@@ -49,17 +46,6 @@ pub fn is_more(o: Order) -> bool
         Order::Less => false,
         Order::Equal => false,
         Order::Greater => true,
-    }
-}
-
-// The number of a vector part: shorter parts first, then in the order of their letters.
-fn part_number(p: Part) -> u32
-    ensures { λ r. ⌜ partLettersOf r ≡ partOf p ⌝ }
-{
-    match p {
-        Part::Nothing => 0,
-        Part::Letter(x) => 1 + scalar_number(x),
-        Part::Wedge(x, y) => 1 + dot_number(x, y),
     }
 }
 

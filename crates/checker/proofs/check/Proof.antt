@@ -85,11 +85,10 @@ returns-5 c =
     (c .before .test-terms2 .ensures) (c .if5 .taken)
 
 replay-requires : tie.Need-replay-requires
-replay-requires c κs = (
-  c .before .before .before .before .before .before .before .before .before .before .before .before .read-log .ensures .first
-      (not-false _ (c .before .before .before .before .before .before .before .before .before .before .if2 .left)),
-  c .before .before .before .before .before .before .before .before .before .before .before .before .read-log .ensures .steps,
-)
+replay-requires c κs =
+    let r = c .before .before .before .before .before .before .before .before .before .before .before .before .read-log .ensures in
+    let ok = not-false _ (c .before .before .before .before .before .before .before .before .before .before .if2 .left) in
+    (r .first ok, r .last ok, r .steps)
 
 returns-6 : tie.Need-returns-6
 unfolding checkedOf partsOf
@@ -108,56 +107,25 @@ returns-6 c =
     (c .before .before .before .before .before .before .before .before .before .before .before .before .before .before .before .read-log .ensures .steps)) _
     (c .before .before .before .before .test-terms2 .ensures) (c .before .before .before .if5 .left) _ (c .before .before .replay .ensures) (c .if6 .taken)
 
-same-form-requires : tie.Need-same-form-requires
-same-form-requires c κs = (
-  c .before .before .before .before .before .before .before .before .before .before .before .before .before .before .before .before .read-log .ensures .last
-      (not-false _ (c .before .before .before .before .before .before .before .before .before .before .before .before .before .before .if2 .left)),
-  c .before .before .before .replay .ensures .valid (c .before .if6 .left),
-)
-
 returns-7 : tie.Need-returns-7
 unfolding checkedOf partsOf
 returns-7 c =
-    let w =
-    c .before .before .before .before .before .before .before .before .before .before .before .before .before .before .before .before .before .before .before .before .before .before .before in
-    not-reached (now (w .args .table)) (now (w .args .log)) _
-    (c .before .before .before .before .before .before .before .before .before .before .before .before .before .before .before .before .before .before .before .before .check-table .ensures)
-    (c .before .before .before .before .before .before .before .before .before .before .before .before .before .before .before .before .before .before .before .if1 .left)
-    _ _ _ _ _
-    (log-parts _ _
-    (c .before .before .before .before .before .before .before .before .before .before .before .before .before .before .before .before .before .before .read-log .ensures)
-    (not-false _ (c .before .before .before .before .before .before .before .before .before .before .before .before .before .before .before .before .if2 .left))) _
-    (c .before .before .before .before .before .before .before .before .before .before .before .before .test-terms .ensures)
-    (c .before .before .before .before .before .before .before .before .before .before .before .if3 .left) _
-    (c .before .before .before .before .before .before .before .before .before .before .test-steps .ensures)
-    (c .before .before .before .before .before .before .before .before .if4 .left) _
-    (steps-long _
-    (c .before .before .before .before .before .before .before .before .before .before .before .before .before .before .before .before .before .before .read-log .ensures .steps))
-    _ (c .before .before .before .before .before .before .before .test-terms2 .ensures) (c .before .before .before .before .before .before .if5 .left) _
-    (c .before .before .before .before .before .replay .ensures) (c .before .before .before .if6 .left) refl _ (c .before .same-form .ensures)
-    (not-true _ (c .if7 .taken))
+    let w = c .before .before .before .before .before .before .before .before .before .before .before .before .before .before .before .before .before .before .before .before .before .before in
+    not-reached (now (w .args .table)) (now (w .args .log)) _ (c .before .before .before .before .before .before .before .before .before .before .before .before .before .before .before .before .before .before .before .check-table .ensures) (c .before .before .before .before .before .before .before .before .before .before .before .before .before .before .before .before .before .before .if1 .left) _ _ _ _ _
+    (log-parts _ _ (c .before .before .before .before .before .before .before .before .before .before .before .before .before .before .before .before .before .read-log .ensures) (not-false _ (c .before .before .before .before .before .before .before .before .before .before .before .before .before .before .before .if2 .left))) _
+    (c .before .before .before .before .before .before .before .before .before .before .before .test-terms .ensures) (c .before .before .before .before .before .before .before .before .before .before .if3 .left) _ (c .before .before .before .before .before .before .before .before .before .test-steps .ensures) (c .before .before .before .before .before .before .before .if4 .left) _
+    (steps-long _ (c .before .before .before .before .before .before .before .before .before .before .before .before .before .before .before .before .before .read-log .ensures .steps)) _ (c .before .before .before .before .before .before .test-terms2 .ensures) (c .before .before .before .before .before .if5 .left) _
+    (c .before .before .before .before .replay .ensures) (c .before .before .if6 .left) refl (not-true _ (c .if7 .taken))
 
 returns-8 : tie.Need-returns-8
 unfolding checkedOf partsOf
 returns-8 c =
-    let w =
-    c .before .before .before .before .before .before .before .before .before .before .before .before .before .before .before .before .before .before .before .before .before .before .before in
-    all-accepted (now (w .args .table)) (now (w .args .log)) _
-    (c .before .before .before .before .before .before .before .before .before .before .before .before .before .before .before .before .before .before .before .before .check-table .ensures)
-    (c .before .before .before .before .before .before .before .before .before .before .before .before .before .before .before .before .before .before .before .if1 .left)
-    _ _ _ _ _
-    (log-parts _ _
-    (c .before .before .before .before .before .before .before .before .before .before .before .before .before .before .before .before .before .before .read-log .ensures)
-    (not-false _ (c .before .before .before .before .before .before .before .before .before .before .before .before .before .before .before .before .if2 .left))) _
-    (c .before .before .before .before .before .before .before .before .before .before .before .before .test-terms .ensures)
-    (c .before .before .before .before .before .before .before .before .before .before .before .if3 .left) _
-    (c .before .before .before .before .before .before .before .before .before .before .test-steps .ensures)
-    (c .before .before .before .before .before .before .before .before .if4 .left) _
-    (steps-long _
-    (c .before .before .before .before .before .before .before .before .before .before .before .before .before .before .before .before .before .before .read-log .ensures .steps))
-    _ (c .before .before .before .before .before .before .before .test-terms2 .ensures) (c .before .before .before .before .before .before .if5 .left) _
-    (c .before .before .before .before .before .replay .ensures) (c .before .before .before .if6 .left) refl _ (c .before .same-form .ensures)
-    (not-false _ (c .if7 .left))
+    let w = c .before .before .before .before .before .before .before .before .before .before .before .before .before .before .before .before .before .before .before .before .before .before in
+    all-accepted (now (w .args .table)) (now (w .args .log)) _ (c .before .before .before .before .before .before .before .before .before .before .before .before .before .before .before .before .before .before .before .check-table .ensures) (c .before .before .before .before .before .before .before .before .before .before .before .before .before .before .before .before .before .before .if1 .left) _ _ _ _ _
+    (log-parts _ _ (c .before .before .before .before .before .before .before .before .before .before .before .before .before .before .before .before .before .read-log .ensures) (not-false _ (c .before .before .before .before .before .before .before .before .before .before .before .before .before .before .before .if2 .left))) _
+    (c .before .before .before .before .before .before .before .before .before .before .before .test-terms .ensures) (c .before .before .before .before .before .before .before .before .before .before .if3 .left) _ (c .before .before .before .before .before .before .before .before .before .test-steps .ensures) (c .before .before .before .before .before .before .before .if4 .left) _
+    (steps-long _ (c .before .before .before .before .before .before .before .before .before .before .before .before .before .before .before .before .before .read-log .ensures .steps)) _ (c .before .before .before .before .before .before .test-terms2 .ensures) (c .before .before .before .before .before .if5 .left) _
+    (c .before .before .before .before .replay .ensures) (c .before .before .if6 .left) refl (not-false _ (c .if7 .left))
 
 pub check-spec : {M : Type 1} → statement M
 check-spec =
@@ -177,6 +145,5 @@ check-spec =
     returns-5
     replay-requires
     returns-6
-    same-form-requires
     returns-7
     returns-8)

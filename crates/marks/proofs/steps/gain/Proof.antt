@@ -16,7 +16,7 @@ use Rattle.rules.specs.Table.{partAt, rowTerm}
 use Rattle.rules.proofs.Tied.{rows-few}
 use Rattle.rules.proofs.Taking.{row-fits}
 use Rattle.marks.specs.Marks.{RowGained}
-use Rattle.marks.proofs.RowsPassed.{Fitting, row-here, row-is, row-marked}
+use Rattle.marks.proofs.RowsPassed.{Fitting, row-here, row-is, mark-here}
 use Rattle.marks.proofs.Gains.{Gained, gained-none, gained-more, gained-apart, gained-all}
 use Rattle.marks.proofs.steps.gain.Statement.{statement}
 use Rattle.marks.proofs.steps.gain.Tie as tie
@@ -100,7 +100,7 @@ loop-again c = let v = c .before .before .before .before .before .loop in
           (subst (λ (k : ℕ). RowGained (termOf t) (timesTerm (termOf (s .m)) (rowTerm (s .letters) k)) (x .1 .result)) (row-is f inside) (x .1 .ensures))
           (ap (toZ w64) (x .3) ∙ back-is (record { sfits = x .2 .ok }) ∙ x .2 .ensures ∙ ap (λ (z : ℤ). toZ w64 (v .g) +ℤ z) (back-is (record { sfits = x .1 .ok }))))
           (λ x. subst (λ (g : ℕ). Gained t s (v .i + 1) (toZ w64 g)) (sym (x .1))
-          (gained-apart t s (v .i) (row-here f inside) _ (v .inv .1) _ _ (row-marked f inside _ (c .before .product-mark .ensures .0)) (c .before .before .before .before .before .before .term-mark .ensures .0) (x .0 .left))) (c .if1 .came),
+          (gained-apart t s (v .i) (row-here f inside) _ (v .inv .1) _ _ (mark-here f inside _ (c .before .product-mark .ensures .0)) (c .before .before .before .before .before .before .term-mark .ensures .0) (x .0 .left))) (c .if1 .came),
     )
 
 returns : tie.Need-returns Inv-loop μ-loop

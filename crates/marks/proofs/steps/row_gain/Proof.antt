@@ -1,4 +1,8 @@
+use mathlib.Core.Path.{_≡_, ap, _∙_}
 use native.Mathlib.Omega.{arith}
+use lib.Dec.{isEq}
+use Rattle.terms.specs.Abstraction.{termOf}
+use Rattle.gathering.specs.Rows.{isLike}
 use borrow.Author.Needs.{needs}
 use Rattle.integers.proofs.Machine.{back-is}
 use Rattle.marks.proofs.Gains.{row-like, row-unlike}
@@ -11,20 +15,30 @@ times-row-requires c κs = search needs
 tidy-requires : tie.Need-tidy-requires
 tidy-requires c κs = search needs
 
-are-like-requires : tie.Need-are-like-requires
-are-like-requires c κs = search needs
+compare-requires : tie.Need-compare-requires
+compare-requires c κs = search needs
+
+is-equal-requires : tie.Need-is-equal-requires
+is-equal-requires c κs = search needs
+
+-- whether the term is like the product in order
+like : (c : tie.After-is-equal) → c .is-equal .result ≡ isLike (termOf (c .before .before .before .before .args .t)) (termOf (c .before .before .tidy .result))
+unfolding isLike
+like c = c .is-equal .ensures ∙ ap isEq (c .before .compare .ensures)
 
 returns : tie.Need-returns
-returns c = let x = c .before .before .before .before .times-row in
-    let u = c .before .before .before .tidy in
-    row-like _ _ (x .result) (u .result) (x .ensures .is) (u .ensures) _ (c .before .before .are-like .ensures) (c .before .if1 .taken) (omega (arith, u .ensures .below, x .ensures .light, c .before .before .before .before .before .pre .0 .3)) _
-    (back-is {z = u .result .coef} (record { sfits = c .struct-told .given .0 .1 }))
+returns c =
+    let x = c .before .before .before .before .before .times-row in
+    let u = c .before .before .before .before .tidy in
+    row-like _ _ (x .result) (u .result) (x .ensures .is) (u .ensures) _ (like (c .before .before)) (c .before .if1 .taken)
+    (omega (arith, u .ensures .below, x .ensures .light, c .before .before .before .before .before .before .pre .0 .3)) _ (back-is {z = u .result .coef} (record { sfits = c .struct-told .given .0 .1 }))
 
 returns-2 : tie.Need-returns-2
-returns-2 c = let x = c .before .before .before .times-row in
-    let u = c .before .before .tidy in
-    row-unlike _ _ (x .result) (u .result) (x .ensures .is) (u .ensures) _ (c .before .are-like .ensures) (c .if1 .left)
+returns-2 c =
+    let x = c .before .before .before .before .times-row in
+    let u = c .before .before .before .tidy in
+    row-unlike _ _ (x .result) (u .result) (x .ensures .is) (u .ensures) _ (like (c .before)) (c .if1 .left)
 
 pub row-gain-spec : {M : Type 1} → statement M
 row-gain-spec =
-    tie.close (tie.spec times-row-requires tidy-requires are-like-requires returns returns-2)
+    tie.close (tie.spec times-row-requires tidy-requires compare-requires is-equal-requires returns returns-2)

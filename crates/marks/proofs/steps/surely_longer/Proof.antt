@@ -6,15 +6,15 @@ use borrow.Author.Needs.{needs}
 use borrow.Author.Tests.{leb-true}
 use lib.ListN.{length, length-set}
 use Rattle.rules.proofs.Tied.{rows-few}
-use Rattle.marks.proofs.RowsPassed.{Fitting, AllPassed, all-none, all-more, all-enough}
+use Rattle.marks.proofs.RowsPassed.{Fitting, AllPassed, all-none, all-seen, all-more, all-enough}
 use Rattle.marks.proofs.steps.surely_longer.Statement.{statement}
 use Rattle.marks.proofs.steps.surely_longer.Tie as tie
 
 abbrev Inv-loop : tie.InvT-loop
-Inv-loop marks v w rule n rows seen₀ score₀ i₀ seen score i = (i ≤ n) × (length seen ≡ 512) × (score ≤ 2 * i) × AllPassed marks v w n rows seen score i
+Inv-loop marks v w rule n rows hs₀ score₀ i₀ hs score i = (i ≤ n) × (length hs ≡ 8) × (score ≤ 2 * i) × AllPassed marks v w n rows hs score i
 
 abbrev μ-loop : tie.MeasureT-loop
-μ-loop marks v w rule n rows seen₀ score₀ i₀ seen score i = n - i
+μ-loop marks v w rule n rows hs₀ score₀ i₀ hs score i = n - i
 
 six : (c : tie.Start Inv-loop μ-loop) → length (c .args .s .letters) ≡ 6
 six c = search needs
@@ -58,28 +58,42 @@ array-read-k c = omega (arith, c .before .loop-test .taken, few (c .before .befo
 product-mark-requires : tie.Need-product-mark-requires Inv-loop μ-loop
 product-mark-requires c κs = let m = c .before .before .before .before .before .before .before .pre .2 in ((m .fewFactors, m .smallPart), (m .letters .places, m .letters .small))
 
-row-score-requires : tie.Need-row-score-requires Inv-loop μ-loop
-row-score-requires c κs = let w = c .before .before .before .before .before .before .before .before .before .before .before in (c .before .before .before .product-mark .ensures .1, w .pre .3, c .before .before .before .before .before .before .before .before .loop .inv .1, w .pre .2 .letters .places)
+is-among-requires : tie.Need-is-among-requires Inv-loop μ-loop
+is-among-requires c κs = (omega (arith, c .before .before .before .before .before .loop-test .taken, few (c .before .before .before .before .before .before .before)), c .before .before .before .before .before .before .loop .inv .1)
 
-add-score : tie.Need-add-score Inv-loop μ-loop
-add-score c = let v = c .before .before .before .before .before .before .before .before .before .loop in omega (arith, v .inv .2, v .inv .0, c .row-score .ensures .few, few (c .before .before .before .before .before .before .before .before .before .before))
+mul-hs : tie.Need-mul-hs Inv-loop μ-loop
+mul-hs c = omega (arith, c .before .before .before .before .before .before .loop-test .taken, few (c .before .before .before .before .before .before .before .before))
 
-array-write-seen : tie.Need-array-write-seen Inv-loop μ-loop
-array-write-seen c = omega (arith, c .before .before .before .before .product-mark .ensures .1, c .before .before .before .before .before .before .before .before .before .loop .inv .1)
+array-write-hs : tie.Need-array-write-hs Inv-loop μ-loop
+array-write-hs c = omega (arith, c .before .before .before .before .before .before .loop-test .taken, few (c .before .before .before .before .before .before .before .before), c .before .before .before .before .before .before .before .loop .inv .1)
 
 add-i : tie.Need-add-i Inv-loop μ-loop
-add-i c = omega (arith, c .before .before .before .before .before .before .before .before .loop-test .taken, few (c .before .before .before .before .before .before .before .before .before .before))
+add-i c = omega (arith, c .before .before .before .before .before .before .loop-test .taken, few (c .before .before .before .before .before .before .before .before))
 
 loop-less : tie.Need-loop-less Inv-loop μ-loop
 loop-less c = omega arith
 
 loop-again : tie.Need-loop-again Inv-loop μ-loop
-loop-again c = let v = c .before .before .before .before .before .before .before .before .before .loop in
-    let here = c .before .before .before .before .before .before .before .before .loop-test .taken in (
+loop-again c = let v = c .before .before .before .before .before .before .before .before .loop in
+    let here = c .before .before .before .before .before .before .before .loop-test .taken in
+    (omega (arith, here), length-set (v .hs) _ _ ∙ v .inv .1, omega (arith, v .inv .2), all-seen (v .inv .3) (v .inv .1) here (omega (arith, few (c .before .before .before .before .before .before .before .before .before))) (c .before .before .before .product-mark .ensures .0))
+
+row-score-requires : tie.Need-row-score-requires Inv-loop μ-loop
+row-score-requires c κs = (c .before .before .before .before .before .product-mark .ensures .1, c .before .before .before .before .before .before .before .before .before .before .before .before .before .pre .3, c .before .before .before .before .before .before .before .before .before .before .before .before .before .pre .2 .letters .places)
+
+add-score : tie.Need-add-score Inv-loop μ-loop
+add-score c = let v = c .before .before .before .before .before .before .before .before .before .before .before .loop in omega (arith, v .inv .2, v .inv .0, c .row-score .ensures .few, few (c .before .before .before .before .before .before .before .before .before .before .before .before))
+
+loop-less-2 : tie.Need-loop-less-2 Inv-loop μ-loop
+loop-less-2 c = omega arith
+
+loop-again-2 : tie.Need-loop-again-2 Inv-loop μ-loop
+loop-again-2 c = let v = c .before .before .before .before .before .before .before .before .before .before .before .loop in
+    let here = c .before .before .before .before .before .before .before .before .before .before .loop-test .taken in (
       omega (arith, here),
-      length-set (v .seen) _ _ ∙ v .inv .1,
+      length-set (v .hs) _ _ ∙ v .inv .1,
       omega (arith, v .inv .2, c .row-score .ensures .few),
-      all-more (v .inv .3) (v .inv .1) here (c .before .before .before .before .product-mark .ensures .0) (c .row-score .ensures),
+      all-more (v .inv .3) (v .inv .1) here (omega (arith, few (c .before .before .before .before .before .before .before .before .before .before .before .before))) (c .before .before .before .before .before .before .product-mark .ensures .0) (c .before .before .before .before .is-among .ensures (c .before .before .before .if2 .left)) (c .row-score .ensures),
     )
 
 returns-2 : tie.Need-returns-2 Inv-loop μ-loop
@@ -98,10 +112,14 @@ surely-longer-spec =
     mul-k
     array-read-k
     product-mark-requires
-    row-score-requires
-    add-score
-    array-write-seen
+    is-among-requires
+    mul-hs
+    array-write-hs
     add-i
     loop-less
     loop-again
+    row-score-requires
+    add-score
+    loop-less-2
+    loop-again-2
     returns-2)

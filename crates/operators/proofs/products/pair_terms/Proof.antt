@@ -2,14 +2,15 @@ use mathlib.Core.Path.{_≡_}
 use Prim.Native.Nat.{_+_, _≤_}
 use native.Mathlib.Omega.{arith}
 use lib.ListN.{length}
-use Rattle.gathering.specs.Sums.{Bringable}
+use Rattle.terms.specs.Abstraction.{termOf}
+use Rattle.gathering.specs.Rows.{Bringable}
 use Rattle.operators.proofs.Pairs.{Base, pair-few, joins-counts, joins-fits, joins-part, base, piece-counts, piece-fits, piece-part, piece-is, piece-size, made-few, made-two}
 use borrow.Author.Needs.{needs}
 use Rattle.operators.proofs.products.pair_terms.Statement.{statement}
 use Rattle.operators.proofs.products.pair_terms.Tie as tie
 
 few-factors : (c : tie.Start) → c .args .t .«factor_count» + c .args .u .«factor_count» ≤ 5
-few-factors c = pair-few (c .args .t) (c .args .u) (omega (arith, left c, c .pre .left .few)) (omega (arith, right c, c .pre .right .few)) (c .pre .letters)
+few-factors c = pair-few (c .args .t) (c .args .u) (omega (arith, left c, c .pre .left .few)) (omega (arith, right c, c .pre .right .few)) (c .pre .fits .letters)
   where
     left : (c : tie.Start) → length (c .args .t .factors) ≡ 7
     left c = search needs
@@ -22,7 +23,8 @@ joined : (c : tie.After-join) → Base (c .before .before .before .before .args 
 joined c = base _ _ _ _ _ (c .before .before .before .before .pre) (c .before .before .scalars .ensures) (c .before .scalars2 .ensures) (few-factors (c .before .before .before .before)) _ (c .join .ensures)
 
 parts-requires : tie.Need-parts-requires
-parts-requires c κs = search needs
+unfolding termOf
+parts-requires c κs = c .pre .fits .together
 
 scalars-requires : tie.Need-scalars-requires
 scalars-requires c κs = search needs

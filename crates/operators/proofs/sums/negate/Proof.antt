@@ -1,89 +1,85 @@
--- `operators::sums::negate`. The loop: the first i terms have the other sign; kind and count are those of the form. Assumes nothing.
-use Rattle.terms.proofs.Arrays.{noTerm}
-use Rattle.operators.proofs.Largest.{size-asks, form-size}
-use lib.ListN.{length, length-map, length-set, take, getD}
-use Prim.Native.Nat.{ℕ, _-_, _≤_}
-use mathlib.Core.List.{map}
-use mathlib.Core.Path.{_≡_, refl, sym, subst, _∙_}
+-- `operators::sums::negate` meets its contract. The loop: the signs of the first i are turned, the others stand. Assumes nothing.
+use mathlib.Core.Path.{_≡_, refl, ap, sym, subst, _∙_}
+use mathlib.Core.List.{List}
+use Prim.Native.Nat.{ℕ, _-_, _≤_, _<_}
+use denote.Ref.{now}
+use lib.IntN.{ℤ, pos, negℤ, natAbs}
+use lib.ListN.{length, length-set, getD}
+use Rattle.integers.proofs.Machine.{back-is}
+use Rattle.terms.proofs.Arrays.{all-at}
+use Rattle.gathering.specs.Rows.{Light}
+use Rattle.operators.proofs.Largest.{size-asks}
+use Rattle.operators.proofs.Adding.{turned, turned-at, turned-more, turned-all}
 use native.Mathlib.Omega.{arith}
-use Rattle.operators.proofs.Adding.{turned, one-turned, all-turned}
+use borrow.Author.Needs.{needs}
 use Rattle.operators.proofs.sums.negate.Statement.{statement}
 use Rattle.operators.proofs.sums.negate.Tie as tie
 
 abbrev Inv-loop : tie.InvT-loop
-Inv-loop f g₀ n i₀ g i = (i ≤ n) × (take i (g .terms) ≡ map turned (take i (f .terms))) × (length (g .terms) ≡ 48) × (g .kind ≡ f .kind) × (g .count ≡ f .count)
+Inv-loop coefs₀ n i₀ coefs i = (i ≤ n) × (coefs ≡ turned i coefs₀) × (length coefs ≡ length coefs₀)
 
 abbrev μ-loop : tie.MeasureT-loop
-μ-loop f g₀ n i₀ g i = n - i
+μ-loop coefs₀ n i₀ coefs i = n - i
 
-places : (c : tie.Start Inv-loop μ-loop) → length (c .args .t1 .terms) ≡ 48
-places c = sym (length-map (c .args .t1 .terms) _) ∙ c .good .0 .1 .1 .1 .1 .0 .1 .0 .1
+-- the coefficient at i stands as it was lent
+stands : (c : tie.Start Inv-loop μ-loop) (coefs : List ℤ) (i : ℕ) → i < c .args .n → coefs ≡ turned i (now (c .args .coefs))
+    → getD coefs i (pos 0) ≡ getD (now (c .args .coefs)) i (pos 0)
+stands c coefs i h e = ap (λ (l : List ℤ). getD l i (pos 0)) e ∙ turned-at (now (c .args .coefs)) i (omega (arith, c .pre .0))
 
-few : (c : tie.Start Inv-loop μ-loop) → c .args .t1 .count ≤ length (c .args .t1 .terms)
-few c = omega (arith, places c, c .pre .few)
+light-at : (c : tie.Start Inv-loop μ-loop) (coefs : List ℤ) (i : ℕ) → i < c .args .n → coefs ≡ turned i (now (c .args .coefs))
+    → natAbs (getD coefs i (pos 0)) ≤ 2147483647
+unfolding Light
+light-at c coefs i h e =
+    subst (λ (z : ℤ). natAbs z ≤ 2147483647) (sym (stands c coefs i h e))
+    (all-at (λ (z : ℤ). natAbs z ≤ 2147483647) (now (c .args .coefs)) (c .args .n) i (pos 0) (c .pre .0) h (c .pre .1))
 
 loop-holds : tie.Need-loop-holds Inv-loop μ-loop
-loop-holds c = (omega arith, refl, places c, refl, refl)
+loop-holds c = (omega arith, refl, refl)
 
-mul-t : tie.Need-mul-t Inv-loop μ-loop
-mul-t c = omega (arith, (c .before .before .pre .few))
+mul-neg : tie.Need-mul-neg Inv-loop μ-loop
+mul-neg c = omega arith
 
-element-copy-out-t : tie.Need-element-copy-out-t Inv-loop μ-loop
-element-copy-out-t c = omega (arith, (c .before .before .pre .few))
+slice-copy-out-neg : tie.Need-slice-copy-out-neg Inv-loop μ-loop
+slice-copy-out-neg c = omega arith
 
 neg-requires : tie.Need-neg-requires Inv-loop μ-loop
 neg-requires c κs =
-    let w = c .before .before .before .before in
-    size-asks (getD (w .args .t1 .terms) (c .before .before .before .loop .i) noTerm .coef)
-    (form-size (w .args .t1) (c .before .before .before .loop .i) (c .before .before .before .before .pre) (few (c .before .before .before .before))
-    (c .before .before .loop-test .taken))
+    let v = c .before .before .loop in size-asks (getD (v .coefs) (v .i) (pos 0))
+    (light-at (c .before .before .before) (v .coefs) (v .i) (c .before .loop-test .taken) (v .inv .1))
 
-mul-t-2 : tie.Need-mul-t-2 Inv-loop μ-loop
-mul-t-2 c = omega (arith, (c .before .before .before .before .before .pre .few))
+mul-c : tie.Need-mul-c Inv-loop μ-loop
+mul-c c = omega arith
 
-element-set-from-t : tie.Need-element-set-from-t Inv-loop μ-loop
-element-set-from-t c = omega (arith, (c .before .before .before .before .before .pre .few), (c .before .before .before .before .loop .inv .2))
+slice-set-from-c : tie.Need-slice-set-from-c Inv-loop μ-loop
+slice-set-from-c c = omega arith
 
 add-i : tie.Need-add-i Inv-loop μ-loop
-add-i c = omega (arith, (c .before .before .before .before .before .pre .few))
+add-i c = omega arith
 
 loop-less : tie.Need-loop-less Inv-loop μ-loop
 loop-less c = omega arith
 
 loop-again : tie.Need-loop-again Inv-loop μ-loop
 loop-again c =
-    let w = c .before .before .before .before .before in
-    let l = c .before .before .before .before .loop in (
+    let v = c .before .before .before .loop in (
       omega arith,
-      one-turned (l .g .terms) (w .args .t1 .terms) (l .i) _ (l .inv .1) (omega (arith, w .pre .few, l .inv .2, (c .before .before .before .loop-test .taken)))
-          (omega (arith, w .pre .few, places w, (c .before .before .before .loop-test .taken))) (form-size (c .before .before .before .before .before .args .t1)
-          (c .before .before .before .before .loop .i) (c .before .before .before .before .before .pre) (few (c .before .before .before .before .before))
-          (c .before .before .before .loop-test .taken)) (c .neg .ensures),
-      length-set (l .g .terms) (l .i) _ ∙ l .inv .2,
-      l .inv .3,
-      l .inv .4,
+      turned-more _ _ _ _ (v .inv .1) (omega arith)
+          (back-is (record { sfits = c .neg .ok }) ∙ c .neg .ensures
+          ∙ ap negℤ (back-is (record { sfits = c .before .neg-arg .given })
+          ∙ stands (c .before .before .before .before) (v .coefs) (v .i) (c .before .before .loop-test .taken) (v .inv .1))),
+      length-set (v .coefs) (v .i) _
+          ∙ v .inv .2,
     )
+
+same-length : tie.Need-same-length Inv-loop μ-loop
+same-length c = search needs
 
 returns : tie.Need-returns Inv-loop μ-loop
 returns c =
-    let w = c .before .before in
-    let l = c .before .loop in
-    let e : l .i ≡ w .args .t1 .count = omega (arith, l .inv .0) in
-    all-turned (w .args .t1) (l .g) (w .pre) (l .inv .3) (l .inv .4) (subst (λ (n : ℕ). take n (l .g .terms) ≡ map turned (take n (w .args .t1 .terms))) e (l .inv .1))
+    let e : c .before .loop .i ≡ c .before .before .args .n = omega (arith, c .before .loop .inv .0) in
+    turned-all _ _ _ _ (c .before .loop .inv .1) e (c .before .before .pre .0)
 
 pub negate-spec : {M : Type 1} → statement M
 negate-spec =
     tie.close
-    (tie.spec
-    Inv-loop
-    μ-loop
-    loop-holds
-    mul-t
-    element-copy-out-t
-    neg-requires
-    mul-t-2
-    element-set-from-t
-    add-i
-    loop-less
-    loop-again
-    returns)
+    (tie.spec Inv-loop μ-loop loop-holds mul-neg slice-copy-out-neg neg-requires mul-c slice-set-from-c add-i loop-less loop-again same-length returns)

@@ -1,17 +1,25 @@
-use Rattle.reduction.specs.Trees.{Sound}
+-- `reduction::trees::apply_one` meets its contract: refused, or the signs turned. Assumes nothing.
 use Rattle.reduction.proofs.Levels.{one-refused, one-negated}
+use native.Mathlib.Omega.{arith}
+use borrow.Author.Needs.{needs}
 use Rattle.reduction.proofs.trees.apply_one.Statement.{statement}
 use Rattle.reduction.proofs.trees.apply_one.Tie as tie
 
 returns : tie.Need-returns
-returns c = one-refused _ (c .if1 .taken)
+returns c = λ rows s. one-refused _ rows _ _ (c .if1 .taken)
 
 negate-requires : tie.Need-negate-requires
-unfolding Sound
-negate-requires c κs = (c .before .before .before .pre) (c .before .if1 .left)
+negate-requires c κs = c .before .before .before .pre (c .before .if1 .left)
+
+same-length : tie.Need-same-length
+same-length c = search needs
 
 returns-2 : tie.Need-returns-2
-returns-2 c = one-negated _ _ (c .before .before .if1 .left) (c .negate .ensures)
+returns-2 c =
+    let h = c .before .before .before .before .before .pre (c .before .before .before .if1 .left) in
+    λ rows s. one-negated _ rows _ _ (c .before .before .before .if1 .left) s (c .before .negate .ensures) (omega (arith, h .0))
 
 pub apply-one-spec : {M : Type 1} → statement M
-apply-one-spec = tie.close (tie.spec returns negate-requires returns-2)
+apply-one-spec =
+    tie.close
+    (tie.spec returns negate-requires same-length returns-2)

@@ -1,34 +1,36 @@
+-- `rules::steps::take_step` meets its contract. Assumes nothing.
 use mathlib.Core.Path.{refl}
-use native.Mathlib.Omega.{arith}
-use Rattle.gathering.proofs.Closing.{refuses}
-use Rattle.terms.specs.Abstraction.{formOf}
-use Rattle.rules.proofs.Taking.{step-refused, step-fitting, step-closed}
+use denote.Ref.{now}
+use Rattle.gathering.specs.Rows.{formBy}
+use Rattle.rules.proofs.Taking.{step-fitting, step-stays, step-moves}
+use borrow.Author.Needs.{needs}
 use Rattle.rules.proofs.steps.take_step.Statement.{statement}
 use Rattle.rules.proofs.steps.take_step.Tie as tie
 
 test-step-requires : tie.Need-test-step-requires
-test-step-requires c κs = c .pre .1
+test-step-requires c κs = search needs
 
 returns : tie.Need-returns
-unfolding formOf
-returns c = refuses _ _ _ refl (c .if1 .taken) (step-refused (formOf (c .before .before .args .f)) (c .before .before .args .s) _ (c .before .test-step .ensures) (c .if1 .taken))
+returns c = (step-stays _ _ _ _ _ _ (c .before .test-step .ensures) _ _ (c .if1 .taken), refl)
 
-step-terms-requires : tie.Need-step-terms-requires
-unfolding formOf
-step-terms-requires c κs = (c .before .before .pre .1, step-fitting (formOf (c .before .before .args .f)) (c .before .before .args .s) _ (c .before .test-step .ensures) (c .if1 .left))
+bring-step-requires : tie.Need-bring-step-requires
+bring-step-requires c κs = let a = c .before .before .before .before in (
+  (a .pre .0 .run, a .pre .0 .light, a .pre .2, a .pre .3),
+  (a .pre .1, step-fitting (formBy (a .args .kind) (a .args .n) (now (a .args .rows)) (now (a .args .coefs))) (a .args .s) _ (c .before .before .before .test-step .ensures) (c .before .before .if1 .left)),
+)
 
-holding-requires : tie.Need-holding-requires
-holding-requires c κs = c .before .before .before .before .pre .0
+test-limits-requires : tie.Need-test-limits-requires
+test-limits-requires c κs = search needs
 
-bring-all-requires : tie.Need-bring-all-requires
-bring-all-requires c κs = let a = c .before .before .step-terms .ensures in let g = c .holding .ensures in (g .valid, omega (arith, g .brought, c .before .before .before .before .before .pre .0 .few, a .few), omega (arith, a .few), a .bringable)
+same-length : tie.Need-same-length
+same-length c = search needs
 
-close-requires : tie.Need-close-requires
-close-requires c κs = c .bring-all .ensures .valid
+same-length-2 : tie.Need-same-length-2
+same-length-2 c = search needs
 
 returns-2 : tie.Need-returns-2
-unfolding formOf
-returns-2 c = step-closed (formOf (c .before .before .before .before .before .before .before .args .f)) (c .before .before .before .before .before .before .before .args .s) _ (c .before .before .before .before .before .before .test-step .ensures) (c .before .before .before .before .before .if1 .left) (c .before .before .before .before .before .before .before .pre .1) (c .before .before .before .before .before .before .before .pre .0 .inShape) _ _ (c .before .before .holding .ensures .is) _ (c .before .before .before .before .step-terms .ensures) (c .before .bring-all .ensures) _ (c .close .ensures)
+returns-2 c = let a = c .before .before .before .before .before .before .before .before .before in
+    (step-moves _ _ _ _ _ _ (c .before .before .before .before .before .before .before .before .test-step .ensures) (c .before .before .before .before .before .before .before .if1 .left) (a .pre .0) (a .pre .1) _ _ _ (c .before .before .before .before .bring-step .ensures) _ (c .test-limits .ensures), refl)
 
 pub take-step-spec : {M : Type 1} → statement M
 take-step-spec =
@@ -36,8 +38,8 @@ take-step-spec =
     (tie.spec
     test-step-requires
     returns
-    step-terms-requires
-    holding-requires
-    bring-all-requires
-    close-requires
+    bring-step-requires
+    test-limits-requires
+    same-length
+    same-length-2
     returns-2)

@@ -1,120 +1,60 @@
--- `shortening::rounds::derive`. The loop: the n steps so far lead from the first form to the form reached, each admissible and each with fewer terms; and its search has been made. Assumes nothing.
+-- `shortening::rounds::derive` meets its contract: the form is held in rows, the rounds are taken there, and what they reach is given back. Assumes nothing.
+use native.Mathlib.Omega.{arith}
+use Rattle.gathering.proofs.RowSums.{held-run}
+use Rattle.shortening.proofs.Derivations.{rounds-derived}
+use borrow.Author.Needs.{needs}
 use Rattle.shortening.proofs.rounds.derive.Statement.{statement}
 use Rattle.shortening.proofs.rounds.derive.Tie as tie
-use native.Mathlib.Omega.{arith}
-use mathlib.Core.Path.{refl}
-use denote.Ref.{now}
-use borrow.Author.Tests.{not-false}
-use Rattle.shortening.specs.Searching.{SearchedBy}
-use Rattle.shortening.proofs.Derivations.{found-anywhere, Rounds, rounds-none, round-room, round-behind, round-fewer, round-more, rounds-end}
 
-abbrev Inv-loop : tie.InvT-loop
-Inv-loop table steps₀ n₀ g₀ r₀ steps n g r = Rounds table g₀ steps n g × SearchedBy (r .found) 0 table g r
+slice-aggregate-hold : tie.Need-slice-aggregate-hold
+slice-aggregate-hold c = search needs
 
-abbrev μ-loop : tie.MeasureT-loop
-μ-loop table steps₀ n₀ g₀ r₀ steps n g r = g .count
+slice-aggregate-hold-2 : tie.Need-slice-aggregate-hold-2
+slice-aggregate-hold-2 c = search needs
 
-no-step-requires : tie.Need-no-step-requires Inv-loop μ-loop
-no-step-requires c κs = tt
+hold-requires : tie.Need-hold-requires
+hold-requires c κs = search needs
 
-search-requires : tie.Need-search-requires Inv-loop μ-loop
-search-requires c κs = (c .before .before .pre, omega arith)
+slice-aggregate-take-rounds : tie.Need-slice-aggregate-take-rounds
+slice-aggregate-take-rounds c = search needs
 
-loop-holds : tie.Need-loop-holds Inv-loop μ-loop
-loop-holds c = (rounds-none _ _ _ (c .before .before .before .pre) refl, c .search .ensures)
+slice-aggregate-take-rounds-2 : tie.Need-slice-aggregate-take-rounds-2
+slice-aggregate-take-rounds-2 c = search needs
 
-mul-steps : tie.Need-mul-steps Inv-loop μ-loop
-mul-steps c =
-    let w = c .before .before .before .before .before .before in
-    let v = c .before .before .loop in
-    omega (arith, round-room (now (w .args .table)) (w .args .f) (w .pre) (v .steps) (v .n) (v .g) (v .inv .0) (v .r) _ (v .inv .1) (c .before .loop-test .taken))
+slice-aggregate-take-rounds-3 : tie.Need-slice-aggregate-take-rounds-3
+slice-aggregate-take-rounds-3 c = search needs
 
-array-set-from-steps : tie.Need-array-set-from-steps Inv-loop μ-loop
-array-set-from-steps c =
-    let w = c .before .before .before .before .before .before in
-    let v = c .before .before .loop in
-    omega (
-      arith,
-      round-room (now (w .args .table)) (w .args .f) (w .pre) (v .steps) (v .n) (v .g) (v .inv .0) (v .r) _ (v .inv .1) (c .before .loop-test .taken),
-      v .inv .0 .places,
-    )
+slice-aggregate-take-rounds-4 : tie.Need-slice-aggregate-take-rounds-4
+slice-aggregate-take-rounds-4 c = search needs
 
-add-n : tie.Need-add-n Inv-loop μ-loop
-add-n c =
-    let w = c .before .before .before .before .before .before in
-    let v = c .before .before .loop in
-    omega (arith, round-room (now (w .args .table)) (w .args .f) (w .pre) (v .steps) (v .n) (v .g) (v .inv .0) (v .r) _ (v .inv .1) (c .before .loop-test .taken))
+take-rounds-requires : tie.Need-take-rounds-requires
+take-rounds-requires c κs = (held-run _ _ _ (c .before .before .before .before .before .before .before .before .before .before .pre) (c .before .before .before .before .before .before .hold .ensures), omega arith, omega arith)
 
-search-requires-2 : tie.Need-search-requires-2 Inv-loop μ-loop
-search-requires-2 c κs =
-    let w = c .before .before .before .before .before .before .before in
-    let v = c .before .before .before .loop in (
-      round-more (now (w .args .table)) (w .args .f) (w .pre) (v .steps) (v .n) (v .g) (v .inv .0) (v .r) _ (v .inv .1) (c .before .before .loop-test .taken) .form,
-      round-behind (now (w .args .table)) (w .args .f) (w .pre) (v .steps) (v .n) (v .g) (v .inv .0) (v .r) _ (v .inv .1) (c .before .before .loop-test .taken),
-    )
+slice-aggregate-form-of : tie.Need-slice-aggregate-form-of
+slice-aggregate-form-of c = search needs
 
-search-requires-3 : tie.Need-search-requires-3 Inv-loop μ-loop
-search-requires-3 c κs =
-    let w = c .before .before .before .before .before .before .before .before .before .before in
-    let v = c .before .before .before .before .before .before .loop in (
-      round-more (now (w .args .table)) (w .args .f) (w .pre) (v .steps) (v .n) (v .g) (v .inv .0) (v .r) _ (v .inv .1)
-          (c .before .before .before .before .before .loop-test .taken) .form,
-      omega arith,
-    )
+slice-aggregate-form-of-2 : tie.Need-slice-aggregate-form-of-2
+slice-aggregate-form-of-2 c = search needs
 
-loop-less : tie.Need-loop-less Inv-loop μ-loop
-loop-less c =
-    let w = c .before .before .before .before .before .before .before .before .before .before .before in
-    let v = c .before .before .before .before .before .before .before .loop in
-    round-fewer (now (w .args .table)) (w .args .f) (w .pre) (v .steps) (v .n) (v .g) (v .inv .0) (v .r) _ (v .inv .1)
-    (c .before .before .before .before .before .before .loop-test .taken)
+form-of-requires : tie.Need-form-of-requires
+form-of-requires c κs = let w = c .before .before .before .before .before .before .before .take-rounds .ensures in (w .form .run, w .form .few)
 
-loop-again : tie.Need-loop-again Inv-loop μ-loop
-loop-again c =
-    let w = c .before .before .before .before .before .before .before .before .before .before .before in
-    let v = c .before .before .before .before .before .before .before .loop in (
-      round-more (now (w .args .table)) (w .args .f) (w .pre) (v .steps) (v .n) (v .g) (v .inv .0) (v .r) _ (v .inv .1)
-          (c .before .before .before .before .before .before .loop-test .taken),
-      c .search3 .ensures,
-    )
-
-loop-less-2 : tie.Need-loop-less-2 Inv-loop μ-loop
-loop-less-2 c =
-    let w = c .before .before .before .before .before .before .before .before .before .before in
-    let v = c .before .before .before .before .before .before .loop in
-    round-fewer (now (w .args .table)) (w .args .f) (w .pre) (v .steps) (v .n) (v .g) (v .inv .0) (v .r) _ (v .inv .1)
-    (c .before .before .before .before .before .loop-test .taken)
-
-loop-again-2 : tie.Need-loop-again-2 Inv-loop μ-loop
-loop-again-2 c =
-    let w = c .before .before .before .before .before .before .before .before .before .before in
-    let v = c .before .before .before .before .before .before .loop in (
-      round-more (now (w .args .table)) (w .args .f) (w .pre) (v .steps) (v .n) (v .g) (v .inv .0) (v .r) _ (v .inv .1)
-          (c .before .before .before .before .before .loop-test .taken),
-      found-anywhere (now (w .args .table)) _ _ _ _ (c .before .before .search2 .ensures) (not-false _ (c .if1 .left)),
-    )
-
-returns : tie.Need-returns Inv-loop μ-loop
-returns c =
-    let w = c .before .before .before .before .before in
-    let v = c .before .loop in rounds-end (now (w .args .table)) (w .args .f) (w .pre) (v .steps) (v .n) (v .g) (v .inv .0) (v .r) _ (v .inv .1) (c .loop-test .left)
+returns : tie.Need-returns
+returns c = rounds-derived _ (c .before .before .before .before .before .before .before .before .before .before .before .before .before .before .before .before .before .before .before .args .f) _ _ _ _ _ _ (c .before .before .before .before .before .before .before .before .before .before .before .before .before .before .before .before .before .before .before .pre) (c .before .before .before .before .before .before .before .before .before .before .before .before .before .before .before .hold .ensures) (c .before .before .before .before .before .before .before .before .take-rounds .ensures) (c .form-of .ensures)
 
 pub derive-spec : {M : Type 1} → statement M
 derive-spec =
     tie.close
     (tie.spec
-    Inv-loop
-    μ-loop
-    no-step-requires
-    search-requires
-    loop-holds
-    mul-steps
-    array-set-from-steps
-    add-n
-    search-requires-2
-    search-requires-3
-    loop-less
-    loop-again
-    loop-less-2
-    loop-again-2
+    slice-aggregate-hold
+    slice-aggregate-hold-2
+    hold-requires
+    slice-aggregate-take-rounds
+    slice-aggregate-take-rounds-2
+    slice-aggregate-take-rounds-3
+    slice-aggregate-take-rounds-4
+    take-rounds-requires
+    slice-aggregate-form-of
+    slice-aggregate-form-of-2
+    form-of-requires
     returns)

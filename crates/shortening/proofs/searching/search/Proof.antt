@@ -1,157 +1,155 @@
--- `shortening::searching::search`. The loop: no place passed so far, from the first on, is a step to fewer terms. Assumes nothing.
+-- `shortening::searching::search` meets its contract. The loop: no place passed so far, from the first on, is a step to fewer terms. Assumes nothing.
+use mathlib.Core.Path.{_≡_, refl, ap, subst, sym, _∙_}
+use mathlib.Core.List.{[]}
+use Prim.Native.Nat.{_*_, _+_, _-_, _/_, _%_, _<_}
+use native.Mathlib.Omega.{arith}
+use denote.Ref.{now}
+use lib.ListN.{length, getD}
+use lib.IntN.{pos}
+use Rattle.specification.specs.Terms as S
+use Rattle.integers.proofs.Machine.{back-is}
+use Rattle.terms.specs.Abstraction.{termOf}
+use Rattle.terms.proofs.Arrays.{all-at}
+use Rattle.gathering.specs.Rows.{termBy, RowValid, formBy}
+use Rattle.gathering.proofs.RowRuns.{run-length}
+use Rattle.theory.specs.Gathering.Coefficients.{termAt}
+use Rattle.shortening.specs.Trying.{NextPlace}
+use Rattle.shortening.specs.Searching.{SearchedBy}
+use Rattle.shortening.proofs.Searches.{RowPassed, Useless, row-none, row-more, row-term, row-valid, row-searched, refused-useless, long-useless, shorter, not-found}
+use borrow.Author.Needs.{needs}
 use Rattle.shortening.proofs.searching.search.Statement.{statement}
 use Rattle.shortening.proofs.searching.search.Tie as tie
-use native.Mathlib.Omega.{arith}
-use mathlib.Core.Path.{_≡_, sym, refl, subst, _∙_}
-use Prim.Native.Nat.{_<_, _-_, _/_, _%_}
-use lib.ListN.{length, length-map}
-use denote.Ref.{now}
-use Rattle.terms.specs.Abstraction.{formOf}
-use Rattle.terms.proofs.Forms.{term-is, term-valid}
-use Rattle.shortening.specs.Trying.{NextPlace}
-use Rattle.shortening.proofs.Searches.{RowPassed, row-none, row-more, row-searched, refused-useless, long-useless, shorter, not-found}
-use Rattle.specification.specs.Terms as S
-use Rattle.shortening.specs.Searching.{SearchedBy}
 
 abbrev Inv-loop : tie.InvT-loop
-Inv-loop table first f n kind marks end at₀ at = RowPassed table (formOf f) first at
+Inv-loop table marks kind n rows coefs first to₀ tos₀ end at₀ to tos at = RowPassed table (formBy kind n rows coefs) first at × (length to ≡ length to₀) × (length tos ≡ length tos₀)
 
 abbrev μ-loop : tie.MeasureT-loop
-μ-loop table first f n kind marks end at₀ at = end - at
+μ-loop table marks kind n rows coefs first to₀ tos₀ end at₀ to tos at = end - at
 
-places : (c : tie.Start Inv-loop μ-loop) → length (c .args .t2 .terms) ≡ 48
-places c = sym (length-map (c .args .t2 .terms) _) ∙ c .good .1 .0 .1 .1 .1 .1 .0 .1 .0 .1
+-- the form that the rows stand for
+abbrev form : (c : tie.Start Inv-loop μ-loop) → S.Form
+form c = formBy (c .args .kind) (c .args .n) (now (c .args .rows)) (now (c .args .coefs))
 
-reached-places : (c : tie.After-step-at Inv-loop μ-loop) → length (c .step-at .result .form .terms) ≡ 48
-reached-places c = sym (length-map (c .step-at .result .form .terms) _) ∙ c .step-at .ok .1 .1 .1 .0 .1 .1 .1 .1 .0 .1 .0 .1
+-- the term whose candidates are looked at
+inside : (c : tie.In-loop Inv-loop μ-loop) → c .before .loop .at / 40960 < c .before .before .before .args .n
+inside c = omega (arith, c .loop-test .taken)
 
-mark-form-requires : tie.Need-mark-form-requires Inv-loop μ-loop
-mark-form-requires c κs = c .before .pre .0
+own : (c : tie.After-term-of Inv-loop μ-loop) → termOf (c .term-of .result) ≡ termAt (form (c .before .before .before .before .before .before) .terms) (c .before .before .before .before .loop .at / 40960)
+own c =
+    c .term-of .ensures .0 ∙ ap (termBy (getD (now (c .before .before .before .before .before .before .args .rows)) (c .before .before .before .before .loop .at / 40960) [])) (back-is (record { sfits = c .before .term-of-arg .given }))
+    ∙ row-term _ _ _ _ (c .before .before .before .before .before .before .pre .0) (c .before .before .before .before .loop .at / 40960) (inside (c .before .before .before))
+
+-- the places up to the next candidate, where it does not shorten
+onward : (c : tie.After-next-candidate Inv-loop μ-loop)
+    → Useless (now (c .before .before .before .before .before .before .before .args .table)) (form (c .before .before .before .before .before .before .before)) (c .next-candidate .result .found) (c .next-candidate .result .step)
+    → RowPassed (now (c .before .before .before .before .before .before .before .args .table)) (form (c .before .before .before .before .before .before .before)) (c .before .before .before .before .before .before .before .args .first) (c .before .before .before .before .before .loop .at / 40960 * 40960 + c .next-candidate .result .next)
+onward c u = let w = c .before .before .before .before .before .before .before in
+    let v = c .before .before .before .before .before .loop in
+    row-more (now (w .args .marks)) (now (w .args .table)) (form w) (w .args .first) (v .at) (v .at / 40960) (c .next-candidate .result) (w .pre .0 .inShape) (w .pre .3) refl (v .inv .0)
+    (subst (λ (t : S.Term). NextPlace (now (w .args .marks)) (w .args .kind) t (v .at % 40960) (c .next-candidate .result)) (own (c .before)) (c .next-candidate .ensures)) u
+
+-- and they are more
+further : (c : tie.After-next-candidate Inv-loop μ-loop) → c .before .before .before .before .before .before .before .args .n * 40960 - (c .before .before .before .before .before .loop .at / 40960 * 40960 + c .next-candidate .result .next) < c .before .before .before .before .before .before .before .args .n * 40960 - c .before .before .before .before .before .loop .at
+further c = let n = c .next-candidate .ensures in omega (arith, c .before .before .before .before .loop-test .taken, n .forward, n .inside)
 
 mul-end : tie.Need-mul-end Inv-loop μ-loop
-mul-end c = omega (arith, c .before .before .pre .0 .few)
+mul-end c = omega (arith, c .before .pre .0 .few)
 
 mul-at : tie.Need-mul-at Inv-loop μ-loop
-mul-at c = omega (arith, c .before .before .pre .1)
+mul-at c = omega (arith, c .before .pre .1)
 
 loop-holds : tie.Need-loop-holds Inv-loop μ-loop
-loop-holds c = row-none _ _ _
+loop-holds c = (row-none _ _ _, refl, refl)
 
-mul-t : tie.Need-mul-t Inv-loop μ-loop
-mul-t c = omega (arith, c .before .before .before .before .pre .0 .few, c .loop-test .taken)
+mul-row : tie.Need-mul-row Inv-loop μ-loop
+mul-row c = omega (arith, inside c, c .before .before .before .pre .0 .few)
 
-element-copy-out-t : tie.Need-element-copy-out-t Inv-loop μ-loop
-element-copy-out-t c = omega (arith, c .before .before .before .before .pre .0 .few, c .loop-test .taken)
+shared-slice-copy-out-row : tie.Need-shared-slice-copy-out-row Inv-loop μ-loop
+shared-slice-copy-out-row c = omega (arith, inside c, c .before .before .before .pre .0 .run .room)
+
+mul-term-of : tie.Need-mul-term-of Inv-loop μ-loop
+mul-term-of c = omega (arith, inside (c .before), c .before .before .before .before .pre .0 .few)
+
+shared-slice-copy-out-term-of : tie.Need-shared-slice-copy-out-term-of Inv-loop μ-loop
+shared-slice-copy-out-term-of c = omega (arith, inside (c .before), c .before .before .before .before .pre .0 .run .beside)
+
+term-of-requires : tie.Need-term-of-requires Inv-loop μ-loop
+term-of-requires c κs = let w = c .before .before .before .before .before in
+    all-at RowValid (now (w .args .rows)) (w .args .n) (c .before .before .before .loop .at / 40960) [] (w .pre .0 .run .room) (inside (c .before .before)) (w .pre .0 .run .valid)
 
 next-candidate-requires : tie.Need-next-candidate-requires Inv-loop μ-loop
-next-candidate-requires c κs =
-    let w = c .before .before .before .before .before .before in (
-      c .before .before .before .before .mark-form .ensures .1,
-      term-valid (w .args .t2) (w .pre .0) (places w) (c .before .before .before .loop .at / 40960) (omega (arith, c .before .before .loop-test .taken)),
-      omega arith,
-    )
+next-candidate-requires c κs = let w = c .before .before .before .before .before .before in
+    (w .pre .2, row-valid _ _ _ _ (w .pre .0) (c .before .before .before .before .loop .at / 40960) (inside (c .before .before .before)) (c .term-of .result) _ (back-is (record { sfits = c .before .term-of-arg .given })) (c .term-of .ensures), omega arith)
 
 mul-at-2 : tie.Need-mul-at-2 Inv-loop μ-loop
-mul-at-2 c = omega (arith, c .before .before .before .before .before .before .before .pre .0 .few, c .before .before .before .loop-test .taken)
+mul-at-2 c = omega (arith, inside (c .before .before .before .before), c .before .before .before .before .before .before .before .pre .0 .few)
 
 add-at : tie.Need-add-at Inv-loop μ-loop
-add-at c =
-    omega (
-      arith,
-      c .before .before .before .before .before .before .before .before .pre .0 .few,
-      c .before .before .before .before .loop-test .taken,
-      c .before .next-candidate .ensures .inside,
-    )
+add-at c = omega (arith, inside (c .before .before .before .before .before), c .before .before .before .before .before .before .before .before .pre .0 .few, c .before .next-candidate .ensures .inside)
 
-step-at-requires : tie.Need-step-at-requires Inv-loop μ-loop
-step-at-requires c κs = (c .before .before .before .before .before .before .before .before .before .before .pre .0, c .before .before .before .next-candidate .ensures .counted)
+try-step-requires : tie.Need-try-step-requires Inv-loop μ-loop
+try-step-requires c κs = let w = c .before .before .before .before .before .before .before .before .before .before .before .before in
+    let v = c .before .before .before .before .before .before .before .before .before .before .loop in
+    (w .pre .0, c .before .before .before .before .before .next-candidate .ensures .counted, omega (arith, w .pre .0 .few, w .pre .4, v .inv .1), omega (arith, w .pre .0 .few, w .pre .5, v .inv .2))
 
-place-in-requires : tie.Need-place-in-requires Inv-loop μ-loop
-place-in-requires c κs =
-    let w = c .before .before .before .before .before .before .before .before .before .before .before .before .before .before .before .before in (
-      c .before .before .before .before .before .step-at .ensures .valid (c .before .before .if2 .taken),
-      term-valid (w .args .t2) (w .pre .0) (places w)
-          (c .before .before .before .before .before .before .before .before .before .before .before .before .before .loop .at / 40960)
-          (omega (arith, c .before .before .before .before .before .before .before .before .before .before .before .before .loop-test .taken)) .counted,
-    )
+find-place-requires : tie.Need-find-place-requires Inv-loop μ-loop
+find-place-requires c κs = let w = c .before .before .before .before .before .before .before .before .before .before .before .before .before .before .before .before .before .before .before .before in
+    let g = c .before .before .before .before .before .before .before .try-step .ensures .0 .form (c .before .before .before .if2 .taken) .run in
+    (g .room, g .valid, all-at RowValid (now (w .args .rows)) (w .args .n) (c .before .before .before .before .before .before .before .before .before .before .before .before .before .before .before .before .before .before .loop .at / 40960) [] (w .pre .0 .run .room) (inside (c .before .before .before .before .before .before .before .before .before .before .before .before .before .before .before .before .before)) (w .pre .0 .run .valid))
+
+same-length : tie.Need-same-length Inv-loop μ-loop
+same-length c = omega (arith, c .before .before .before .before .before .before .before .before .before .before .before .before .before .before .before .before .before .before .before .loop .inv .1)
+
+same-length-2 : tie.Need-same-length-2 Inv-loop μ-loop
+same-length-2 c = omega (arith, c .before .before .before .before .before .before .before .before .before .before .before .before .before .before .before .before .before .before .before .loop .inv .2)
 
 returns : tie.Need-returns Inv-loop μ-loop
 unfolding SearchedBy
-returns c =
-    let w = c .before .before .before .before .before .before .before .before .before .before .before .before .before .before .before .before .before in
-    shorter (now (w .args .table)) (w .args .t2) (w .pre .0) (places w) _ _ (c .before .before .before .before .before .before .step-at .ensures)
-    (c .before .before .before .if2 .taken) (reached-places (c .before .before .before .before .before .before)) (c .before .if3 .taken)
-    (c .before .before .before .before .before .before .before .before .before .before .next-candidate .ensures .counted) _ (c .place-in .ensures .inside)
+returns c = let w = c .before .before .before .before .before .before .before .before .before .before .before .before .before .before .before .before .before .before .before .before .before in
+    let l = run-length (now (w .args .rows)) (now (w .args .coefs)) (w .args .n) (w .pre .0 .run .room) (w .pre .0 .run .beside) in
+    shorter (now (w .args .table)) (form w) _ _ _ _ (c .before .before .before .before .before .before .before .before .try-step .ensures .0) (c .before .before .before .before .if2 .taken) (c .before .before .before .before .before .before .before .before .try-step .ensures .1) (omega (arith, c .before .before .before .if3 .taken, l))
+    (c .before .before .before .before .before .before .before .before .before .before .before .before .before .before .next-candidate .ensures .counted) _ (c .find-place .ensures .inside)
 
 loop-less : tie.Need-loop-less Inv-loop μ-loop
-loop-less c =
-    let n = c .before .before .before .before .before .before .before .before .before .next-candidate .ensures in
-    let v = c .before .before .before .before .before .before .before .before .before .before .before .before .before .loop in
-    omega (arith, c .before .before .before .before .before .before .before .before .before .before .before .before .loop-test .taken, n .forward, n .inside)
+loop-less c = further (c .before .before .before .before .before .before .before .before .before .before .before)
 
 loop-again : tie.Need-loop-again Inv-loop μ-loop
-unfolding formOf
-loop-again c = let w = c .before .before .before .before .before .before .before .before .before .before .before .before .before .before .before .before in
-    let f = w .args .t2 in
-    let v = c .before .before .before .before .before .before .before .before .before .before .before .before .before .loop in
-    let marks = c .before .before .before .before .before .before .before .before .before .before .before .before .before .before .mark-form .result in
-    let inside : v .at / 40960 < f .count = omega (arith, c .before .before .before .before .before .before .before .before .before .before .before .before .loop-test .taken) in
-    row-more marks (now (w .args .table)) (formOf f) (w .args .first) (v .at) (v .at / 40960)
-    (c .before .before .before .before .before .before .before .before .before .next-candidate .result) (w .pre .0 .inShape)
-    (c .before .before .before .before .before .before .before .before .before .before .before .before .before .before .mark-form .ensures .0) refl (v .inv)
-    (subst
-    (λ (t : S.Term). NextPlace marks (f .kind) t (v .at % 40960) (c .before .before .before .before .before .before .before .before .before .next-candidate .result))
-    (term-is f (w .pre .0) (places w) (v .at / 40960) inside) (c .before .before .before .before .before .before .before .before .before .next-candidate .ensures))
-    (long-useless (now (w .args .table)) f (w .pre .0) (places w) _ _ (c .before .before .before .before .before .step-at .ensures) (c .before .before .if2 .taken)
-    (reached-places (c .before .before .before .before .before)) _ (c .if3 .left))
+loop-again c = let w = c .before .before .before .before .before .before .before .before .before .before .before .before .before .before .before .before .before .before in
+    let l = run-length (now (w .args .rows)) (now (w .args .coefs)) (w .args .n) (w .pre .0 .run .room) (w .pre .0 .run .beside) in (
+      onward (c .before .before .before .before .before .before .before .before .before .before .before) (long-useless (now (w .args .table)) (form w) _ _ _ _ (c .before .before .before .before .before .try-step .ensures .0) (c .before .if2 .taken) _ (omega (arith, c .if3 .left, l))),
+      omega (arith, c .before .before .before .before .before .before .before .before .before .before .before .before .before .before .before .before .loop .inv .1),
+      omega (arith, c .before .before .before .before .before .before .before .before .before .before .before .before .before .before .before .before .loop .inv .2),
+    )
 
 loop-less-2 : tie.Need-loop-less-2 Inv-loop μ-loop
-loop-less-2 c =
-    let n = c .before .before .before .before .before .before .before .next-candidate .ensures in
-    let v = c .before .before .before .before .before .before .before .before .before .before .before .loop in
-    omega (arith, c .before .before .before .before .before .before .before .before .before .before .loop-test .taken, n .forward, n .inside)
+loop-less-2 c = further (c .before .before .before .before .before .before .before .before .before .before)
 
 loop-again-2 : tie.Need-loop-again-2 Inv-loop μ-loop
-unfolding formOf
-loop-again-2 c = let w = c .before .before .before .before .before .before .before .before .before .before .before .before .before .before in
-    let f = w .args .t2 in
-    let v = c .before .before .before .before .before .before .before .before .before .before .before .loop in
-    let marks = c .before .before .before .before .before .before .before .before .before .before .before .before .mark-form .result in
-    let inside : v .at / 40960 < f .count = omega (arith, c .before .before .before .before .before .before .before .before .before .before .loop-test .taken) in
-    row-more marks (now (w .args .table)) (formOf f) (w .args .first) (v .at) (v .at / 40960)
-    (c .before .before .before .before .before .before .before .next-candidate .result) (w .pre .0 .inShape)
-    (c .before .before .before .before .before .before .before .before .before .before .before .before .mark-form .ensures .0) refl (v .inv)
-    (subst (λ (t : S.Term). NextPlace marks (f .kind) t (v .at % 40960) (c .before .before .before .before .before .before .before .next-candidate .result))
-    (term-is f (w .pre .0) (places w) (v .at / 40960) inside) (c .before .before .before .before .before .before .before .next-candidate .ensures))
-    (refused-useless (now (w .args .table)) f (w .pre .0) (places w) _ _ (c .before .before .before .step-at .ensures) _ (c .if2 .left))
+loop-again-2 c = (
+  onward (c .before .before .before .before .before .before .before .before .before .before) (refused-useless (now (c .before .before .before .before .before .before .before .before .before .before .before .before .before .before .before .before .before .args .table)) (form (c .before .before .before .before .before .before .before .before .before .before .before .before .before .before .before .before .before)) _ _ _ _ (c .before .before .before .before .try-step .ensures .0) _ (c .if2 .left)),
+  omega (arith, c .before .before .before .before .before .before .before .before .before .before .before .before .before .before .before .loop .inv .1),
+  omega (arith, c .before .before .before .before .before .before .before .before .before .before .before .before .before .before .before .loop .inv .2),
+)
 
 loop-less-3 : tie.Need-loop-less-3 Inv-loop μ-loop
-loop-less-3 c =
-    let n = c .before .before .next-candidate .ensures in
-    let v = c .before .before .before .before .before .before .loop in omega (arith, c .before .before .before .before .before .loop-test .taken, n .forward, n .inside)
+loop-less-3 c = further (c .before .before)
 
 loop-again-3 : tie.Need-loop-again-3 Inv-loop μ-loop
-unfolding formOf
-loop-again-3 c = let w = c .before .before .before .before .before .before .before .before .before in
-    let f = w .args .t2 in
-    let v = c .before .before .before .before .before .before .loop in
-    let marks = c .before .before .before .before .before .before .before .mark-form .result in
-    let inside : v .at / 40960 < f .count = omega (arith, c .before .before .before .before .before .loop-test .taken) in
-    row-more marks (now (w .args .table)) (formOf f) (w .args .first) (v .at) (v .at / 40960) (c .before .before .next-candidate .result) (w .pre .0 .inShape)
-    (c .before .before .before .before .before .before .before .mark-form .ensures .0) refl (v .inv)
-    (subst (λ (t : S.Term). NextPlace marks (f .kind) t (v .at % 40960) (c .before .before .next-candidate .result))
-    (term-is f (w .pre .0) (places w) (v .at / 40960) inside) (c .before .before .next-candidate .ensures))
-    (not-found (now (w .args .table)) (formOf f) _ _ (c .if1 .left))
+loop-again-3 c = (onward (c .before .before) (not-found (now (c .before .before .before .before .before .before .before .before .before .args .table)) (form (c .before .before .before .before .before .before .before .before .before)) _ _ (c .if1 .left)), c .before .before .before .before .before .before .before .loop .inv .1, c .before .before .before .before .before .before .before .loop .inv .2)
 
 no-step-requires : tie.Need-no-step-requires Inv-loop μ-loop
 no-step-requires c κs = tt
 
+same-length-3 : tie.Need-same-length-3 Inv-loop μ-loop
+same-length-3 c = c .before .before .loop .inv .1
+
+same-length-4 : tie.Need-same-length-4 Inv-loop μ-loop
+same-length-4 c = c .before .before .loop .inv .2
+
 returns-2 : tie.Need-returns-2 Inv-loop μ-loop
 unfolding SearchedBy
-returns-2 c =
-    let w = c .before .before .before .before .before in
-    row-searched (w .args .t2) (w .pre .0) (places w) (now (w .args .table)) (w .args .first) (c .before .before .loop .at) _ refl (c .before .loop-test .left)
-    (c .before .before .loop .inv)
+returns-2 c = let w = c .before .before .before .before in
+    row-searched _ _ _ _ (w .pre .0) (now (w .args .table)) (w .args .first) (c .before .before .loop .at) _ refl (c .before .loop-test .left) (c .before .before .loop .inv .0)
 
 pub search-spec : {M : Type 1} → statement M
 search-spec =
@@ -159,17 +157,21 @@ search-spec =
     (tie.spec
     Inv-loop
     μ-loop
-    mark-form-requires
     mul-end
     mul-at
     loop-holds
-    mul-t
-    element-copy-out-t
+    mul-row
+    shared-slice-copy-out-row
+    mul-term-of
+    shared-slice-copy-out-term-of
+    term-of-requires
     next-candidate-requires
     mul-at-2
     add-at
-    step-at-requires
-    place-in-requires
+    try-step-requires
+    find-place-requires
+    same-length
+    same-length-2
     returns
     loop-less
     loop-again
@@ -178,4 +180,6 @@ search-spec =
     loop-less-3
     loop-again-3
     no-step-requires
+    same-length-3
+    same-length-4
     returns-2)

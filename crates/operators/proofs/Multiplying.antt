@@ -1,0 +1,444 @@
+-- Products in rows: the tests of the pairs, their terms brought in, what is gathered closed, and the kinds. Assumes nothing.
+use mathlib.Core.Path.{_≡_, refl, ap, sym, subst, _∙_}
+use mathlib.Core.Logic.{_⊎_, inl, inr}
+use mathlib.Core.Bool.{Bool, true, false, _&&_}
+use mathlib.Core.List.{List, [], _∷_, _++_, map, flatMap, append-assoc, append-nil}
+use Prim.Native.Nat.{ℕ, _+_, _*_, _≤_, _<_}
+use native.Mathlib.Nat as N
+use native.Mathlib.Numerals.{add-one}
+use native.Mathlib.Omega.{arith}
+use borrow.Author.Tests.{eq-eqb, ne-eqb}
+use lib.Dec.{T, leb, leb→le, eqb}
+use lib.IntN.{ℤ, pos}
+use lib.ListN.{length, take, getD}
+use Rattle.specification.specs.Lists.{all}
+use Rattle.specification.specs.Letters.{scalar, vector}
+use Rattle.specification.specs.Results.{Result, Test, given, _>>=_, _>>_, require}
+use Rattle.specification.specs.Terms.{gather, within}
+use Rattle.specification.specs.Terms as S
+use Rattle.specification.specs.Reduction.{timesParts, dotParts, wedgeParts, pairTerms, pairsOf, pairLettersFit, pairCoefFits}
+use Rattle.specification.specs.Reduction.{product, timesForms, dotForms, wedgeForms, tripleForms}
+use Rattle.theory.specs.Tests.{and-false, required, passed}
+use Rattle.theory.specs.Elements.{All, all-split, all-implies, all-of, all-T}
+use Rattle.theory.specs.Shape.Terms.{Fits, no-part}
+use Rattle.theory.specs.Shape.Forms.{AllFit, form-fits}
+use Rattle.theory.specs.Order.{monomial}
+use Rattle.theory.specs.Reduction.Products.{product-fits}
+use Rattle.theory.specs.Reduction.Operators.{timesLeft-follows, timesRight-follows, dot-follows, wedge-follows}
+use Rattle.terms.specs.declared.types.Term.{Term}
+use Rattle.terms.specs.Abstraction.{termOf, Counted}
+use Rattle.terms.proofs.Arrays.{mapped-behind}
+use Rattle.letters.specs.Tested.{testOf}
+use Rattle.letters.proofs.LetterTests.{test-passed, test-refused}
+use Rattle.gathering.specs.declared.rows.Worked.{Worked}
+use Rattle.gathering.specs.Rows.{termBy, termsBy, runOf, Run, Light, formBy, RowsGive}
+use Rattle.gathering.proofs.RowRuns.{run-length}
+use Rattle.gathering.proofs.RowSums.{light-more, rows-refused, rows-as}
+use Rattle.operators.specs.declared.parts.Few.{Few}
+use Rattle.operators.specs.declared.parts.Operation.{Operation}
+use Rattle.operators.specs.declared.parts.Operation.the-variants.{Times, Dot, Wedge}
+use Rattle.operators.specs.Parts.{partsOf, listOf, Together}
+use Rattle.operators.specs.Limits.{testPairs}
+use Rattle.operators.specs.Results.{Brought, GatheredRows}
+use Rattle.operators.specs.Products.{PairFits, Pair, PairMade, rowTerms, pairsBound, fewBound, PairsFit, Kinds, Operands}
+use Rattle.operators.proofs.Bringing.{run-taken, run-all, run-holds, brought-none, brought-both, brought-as}
+
+-- ════ at most two terms brought in
+
+module _ (n : ℕ) (rows : List (List ℕ)) (coefs : List ℤ) (few : Few) where
+  pub few-none : few .count ≡ 0 → Run n rows coefs → Brought 2 n rows coefs (listOf few) n rows coefs
+  unfolding listOf
+  few-none e v = let l : [] ≡ listOf few = rw e in brought-as n rows coefs 0 2 [] (listOf few) n rows coefs (omega arith) l (brought-none n rows coefs v)
+
+  module _ (r : ℕ) (rows' : List (List ℕ)) (coefs' : List ℤ) (b : Brought 1 n rows coefs (termOf (few .first) ∷ []) r rows' coefs') where
+    pub few-one : few .count ≡ 1 → Brought 2 n rows coefs (listOf few) r rows' coefs'
+    unfolding listOf
+    few-one e =
+        let l : (termOf (few .first) ∷ []) ≡ listOf few = rw e in
+        brought-as n rows coefs 1 2 (termOf (few .first) ∷ []) (listOf few) r rows' coefs' (omega arith) l b
+
+    pub few-two : (s : ℕ) (rows″ : List (List ℕ)) (coefs″ : List ℤ) → few .count ≤ 2 → (few .count ≡ 0 → ⊥) → (few .count ≡ 1 → ⊥)
+        → Brought 1 r rows' coefs' (termOf (few .second) ∷ []) s rows″ coefs″ → Brought 2 n rows coefs (listOf few) s rows″ coefs″
+    unfolding listOf
+    few-two s rows″ coefs″ h z o d =
+        let e : few .count ≡ 2 = omega arith in
+        let l : (termOf (few .first) ∷ termOf (few .second) ∷ []) ≡ listOf few = rw e in
+        brought-as n rows coefs 2 2 (termOf (few .first) ∷ termOf (few .second) ∷ []) (listOf few) s rows″ coefs″ (omega arith) l
+        (brought-both n rows coefs 1 1 (termOf (few .first) ∷ []) (termOf (few .second) ∷ []) r s rows' coefs' rows″ coefs″ b d)
+
+-- ════ the pairs of one left term
+
+flatMap-join : {A B : Type 0} (f : A → List B) (xs ys : List A) → flatMap f (xs ++ ys) ≡ flatMap f xs ++ flatMap f ys
+unfolding flatMap
+flatMap-join f [] ys = refl
+flatMap-join f (x ∷ xs) ys = ap (λ (l : List _). f x ++ l) (flatMap-join f xs ys) ∙ sym (append-assoc (f x) (flatMap f xs) (flatMap f ys))
+
+flatMap-behind : {A B : Type 0} (f : A → List B) (xs : List A) (y : A) → flatMap f (xs ++ y ∷ []) ≡ flatMap f xs ++ f y
+unfolding flatMap
+flatMap-behind f xs y = flatMap-join f xs (y ∷ []) ∙ ap (λ (l : List _). flatMap f xs ++ l) (append-nil (f y))
+
+row-behind : (op : Operation) (t : S.Term) (us : List S.Term) (u : S.Term) → rowTerms op t (us ++ u ∷ []) ≡ rowTerms op t us ++ pairTerms (partsOf op) (t, u)
+unfolding rowTerms
+row-behind op t us u =
+    ap (flatMap (pairTerms (partsOf op))) (mapped-behind (λ (u : S.Term). (t, u)) us u) ∙ flatMap-behind (pairTerms (partsOf op)) (map (λ u. (t, u)) us) (t, u)
+
+-- none yet
+pub row-none : (op : Operation) (t : S.Term) (n : ℕ) (rows : List (List ℕ)) (coefs : List ℤ) → Run n rows coefs
+    → Brought (2 * 0) n rows coefs (rowTerms op t []) n rows coefs
+unfolding rowTerms flatMap
+row-none op t n rows coefs v = brought-none n rows coefs v
+
+module _ (op : Operation) (t : Term) (m : ℕ) (right : List (List ℕ)) (rights : List ℤ) (v : Run m right rights) (j : ℕ) (h : j < m) (u : Term) (z : ℤ)
+    (q : (termOf u ≡ termBy (getD right j []) z) × Counted u) (e : z ≡ getD rights j (pos 0)) where
+  right-is : termOf u ≡ termBy (getD right j []) (getD rights j (pos 0))
+  right-is = q .0 ∙ ap (termBy (getD right j [])) e
+
+  -- the pair at a place passed the tests
+  pub pair-fits : Counted t → All (PairFits op (termOf t)) (runOf m right rights) → Pair op t u
+  pair-fits k a =
+      record {
+        left = k;
+        right = q .1;
+        fits = subst (PairFits op (termOf t)) (sym right-is)
+            (run-holds m right rights (v .room) (v .beside) (PairFits op (termOf t)) j h a);
+      }
+
+  -- its terms brought in
+  pub row-more : (n : ℕ) (rows₀ : List (List ℕ)) (coefs₀ : List ℤ) (count : ℕ) (rows : List (List ℕ)) (coefs : List ℤ) (few : Few) (s : ℕ)
+      (rows' : List (List ℕ)) (coefs' : List ℤ)
+      → PairMade op t u few → Brought (2 * j) n rows₀ coefs₀ (rowTerms op (termOf t) (take j (runOf m right rights))) count rows coefs
+      → Brought 2 count rows coefs (listOf few) s rows' coefs'
+      → Brought (2 * (j + 1)) n rows₀ coefs₀ (rowTerms op (termOf t) (take (j + 1) (runOf m right rights))) s rows' coefs'
+  row-more n rows₀ coefs₀ count rows coefs few s rows' coefs' p w b =
+      let x = termBy (getD right j []) (getD rights j (pos 0)) in
+      let us = take j (runOf m right rights) in
+      let l : rowTerms op (termOf t) us ++ listOf few ≡ rowTerms op (termOf t) (take (j + 1) (runOf m right rights)) =
+      ap (λ (l : List S.Term). rowTerms op (termOf t) us ++ l) (p .is ∙ ap (λ (x : S.Term). pairTerms (partsOf op) (termOf t, x)) right-is)
+      ∙ sym (ap (rowTerms op (termOf t)) (run-taken m right rights (v .room) (v .beside) j h) ∙ row-behind op (termOf t) us x) in
+      brought-as n rows₀ coefs₀ (2 * j + 2) (2 * (j + 1)) (rowTerms op (termOf t) us ++ listOf few)
+      (rowTerms op (termOf t) (take (j + 1) (runOf m right rights))) s rows' coefs' (omega arith) l
+      (brought-both n rows₀ coefs₀ (2 * j) 2 (rowTerms op (termOf t) us) (listOf few) count s rows coefs rows' coefs' w b)
+
+-- no coefficient is too large for the next
+pub row-light : (j m n : ℕ) (rows₀ : List (List ℕ)) (coefs₀ : List ℤ) (ts : List S.Term) (count : ℕ) (rows : List (List ℕ)) (coefs : List ℤ) → j < m → m ≤ 48
+    → Light pairsBound n coefs₀
+    → Brought (2 * j) n rows₀ coefs₀ ts count rows coefs → Light fewBound count coefs
+row-light j m n rows₀ coefs₀ ts count rows coefs h k l w =
+    light-more (pairsBound + 2 * j * 2147483647) fewBound count coefs (omega arith) (w .light pairsBound l)
+
+-- all of them
+pub row-all : (op : Operation) (t : S.Term) (m : ℕ) (right : List (List ℕ)) (rights : List ℤ) → Run m right rights
+    → (j n : ℕ) (rows₀ : List (List ℕ)) (coefs₀ : List ℤ) (s : ℕ) (rows : List (List ℕ)) (coefs : List ℤ)
+    → j ≤ m → m ≤ j → Brought (2 * j) n rows₀ coefs₀ (rowTerms op t (take j (runOf m right rights))) s rows coefs
+    → Brought (2 * m) n rows₀ coefs₀ (rowTerms op t (runOf m right rights)) s rows coefs
+row-all op t m right rights v j n rows₀ coefs₀ s rows coefs g h w =
+    brought-as n rows₀ coefs₀ (2 * j) (2 * m) _ _ s rows coefs (omega arith) (ap (rowTerms op t) (run-all m right rights (v .room) (v .beside) j h)) w
+
+-- ════ all pairs
+
+-- the terms of all pairs
+abbrev pub termsOfPairs : Operation → (ts us : List S.Term) → List S.Term
+termsOfPairs op ts us = flatMap (pairTerms (partsOf op)) (pairsOf ts us)
+
+pairs-behind : (op : Operation) (ts : List S.Term) (t : S.Term) (us : List S.Term)
+    → termsOfPairs op (ts ++ t ∷ []) us ≡ termsOfPairs op ts us ++ rowTerms op t us
+unfolding pairsOf rowTerms
+pairs-behind op ts t us =
+    ap (flatMap (pairTerms (partsOf op))) (flatMap-behind (λ (t : S.Term). map (λ u. (t, u)) us) ts t)
+    ∙ flatMap-join (pairTerms (partsOf op)) (pairsOf ts us) (map (λ u. (t, u)) us)
+
+-- none yet
+pub pairs-none : (op : Operation) (m : ℕ) (us : List S.Term) (more : List (List ℕ)) (beside : List ℤ)
+    → Brought (2 * (0 * m)) 0 more beside (termsOfPairs op [] us) 0 more beside
+unfolding pairsOf flatMap runOf termsBy
+pairs-none op m us more beside =
+    brought-as 0 more beside 0 (2 * (0 * m)) [] [] 0 more beside (omega arith) refl
+    (brought-none 0 more beside (record { room = omega arith; beside = omega arith; valid = tt; ascending = tt }))
+
+-- so many pairs so far, and those of one more left term
+pub pairs-so-far : (i n m : ℕ) → i < n → n * m ≤ 48 → i * m + m ≤ 48
+pairs-so-far i n m h k =
+    let e : (i + 1) * m ≡ i * m + m = ap (λ (n : ℕ). n * m) (add-one i) ∙ N.suc-mul i m in
+    let g : i + 1 ≤ n = omega arith in
+    omega (arith, e, N.mul-le-mul g (N.le-refl m))
+
+-- no coefficient is too large for the next left term
+pub pairs-light : (i m : ℕ) (more₀ : List (List ℕ)) (beside₀ : List ℤ) (ts : List S.Term) (count : ℕ) (more : List (List ℕ)) (beside : List ℤ) → i * m ≤ 48
+    → Brought (2 * (i * m)) 0 more₀ beside₀ ts count more beside → Light pairsBound count beside
+unfolding Light
+pairs-light i m more₀ beside₀ ts count more beside h w = light-more (0 + 2 * (i * m) * 2147483647) pairsBound count beside (omega arith) (w .light 0 tt)
+
+module _ (op : Operation) (n : ℕ) (rows : List (List ℕ)) (coefs : List ℤ) (v : Run n rows coefs) (m : ℕ) (us : List S.Term) (i : ℕ) (h : i < n) (t : Term)
+    (z : ℤ)
+    (q : (termOf t ≡ termBy (getD rows i []) z) × Counted t) (e : z ≡ getD coefs i (pos 0)) where
+  left-is : termOf t ≡ termBy (getD rows i []) (getD coefs i (pos 0))
+  left-is = q .0 ∙ ap (termBy (getD rows i [])) e
+
+  -- the pairs of a left term passed the tests
+  pub left-fits : PairsFit op n (runOf n rows coefs) m us → All (PairFits op (termOf t)) us
+  left-fits p =
+      subst (λ (x : S.Term). All (PairFits op x) us) (sym left-is)
+      (run-holds n rows coefs (v .room) (v .beside) (λ (x : S.Term). All (PairFits op x) us) i h (p .fits))
+
+  -- their terms brought in
+  pub pairs-more : (more₀ : List (List ℕ)) (beside₀ : List ℤ) (count : ℕ) (more : List (List ℕ)) (beside : List ℤ) (s : ℕ) (more' : List (List ℕ))
+      (beside' : List ℤ)
+      → Brought (2 * (i * m)) 0 more₀ beside₀ (termsOfPairs op (take i (runOf n rows coefs)) us) count more beside
+      → Brought (2 * m) count more beside (rowTerms op (termOf t) us) s more' beside'
+      → Brought (2 * ((i + 1) * m)) 0 more₀ beside₀ (termsOfPairs op (take (i + 1) (runOf n rows coefs)) us) s more' beside'
+  pairs-more more₀ beside₀ count more beside s more' beside' w b =
+      let k : (i + 1) * m ≡ i * m + m = ap (λ (n : ℕ). n * m) (add-one i) ∙ N.suc-mul i m in
+      let ts = take i (runOf n rows coefs) in
+      let l : termsOfPairs op ts us ++ rowTerms op (termOf t) us ≡ termsOfPairs op (take (i + 1) (runOf n rows coefs)) us =
+      ap (λ (x : S.Term). termsOfPairs op ts us ++ rowTerms op x us) left-is
+      ∙ sym (ap (λ (l : List S.Term). termsOfPairs op l us) (run-taken n rows coefs (v .room) (v .beside) i h)
+      ∙ pairs-behind op ts (termBy (getD rows i []) (getD coefs i (pos 0))) us) in
+      brought-as 0 more₀ beside₀ (2 * (i * m) + 2 * m) (2 * ((i + 1) * m)) (termsOfPairs op ts us ++ rowTerms op (termOf t) us)
+      (termsOfPairs op (take (i + 1) (runOf n rows coefs)) us) s more' beside'
+      (omega (arith, k)) l
+      (brought-both 0 more₀ beside₀ (2 * (i * m)) (2 * m) (termsOfPairs op ts us) (rowTerms op (termOf t) us) count s more beside more' beside' w b)
+
+-- all of them
+pub pairs-all : (op : Operation) (n : ℕ) (rows : List (List ℕ)) (coefs : List ℤ) → Run n rows coefs
+    → (m : ℕ) (us : List S.Term) (i : ℕ) (more₀ : List (List ℕ)) (beside₀ : List ℤ) (s : ℕ) (more : List (List ℕ)) (beside : List ℤ)
+    → i ≤ n → n ≤ i → Brought (2 * (i * m)) 0 more₀ beside₀ (termsOfPairs op (take i (runOf n rows coefs)) us) s more beside
+    → Brought (2 * (n * m)) 0 more₀ beside₀ (termsOfPairs op (runOf n rows coefs) us) s more beside
+pairs-all op n rows coefs v m us i more₀ beside₀ s more beside g h w =
+    let e : i ≡ n = omega arith in
+    let k : 2 * (i * m) ≤ 2 * (n * m) = N.mul-le-mul (N.le-refl 2) (N.mul-le-mul g (N.le-refl m)) in
+    brought-as 0 more₀ beside₀ (2 * (i * m)) (2 * (n * m)) _ _ s more beside k
+    (ap (λ (l : List S.Term). termsOfPairs op l us) (run-all n rows coefs (v .room) (v .beside) i h)) w
+
+-- ════ the tests of the pairs
+
+-- they come first
+product-tested : (kind : ℕ) (parts : List ℕ → List ℕ → List S.Term) (f g : S.Form)
+    → product kind parts f g ≡ (testPairs (f .terms) (g .terms) >> within kind (gather (flatMap (pairTerms parts) (pairsOf (f .terms) (g .terms)))))
+unfolding product testPairs
+product-tested kind parts f g =
+    three (leb (length (f .terms) * length (g .terms)) 48) (all pairLettersFit (pairsOf (f .terms) (g .terms)))
+    (all pairCoefFits (pairsOf (f .terms) (g .terms)))
+    (within kind (gather (flatMap (pairTerms parts) (pairsOf (f .terms) (g .terms)))))
+  where
+    three : (a b c : Bool) (r : Result S.Form) → (require a 7 >> (require b 8 >> (require c 9 >> r))) ≡ ((require a 7 >> (require b 8 >> require c 9)) >> r)
+    three false b c r = refl
+    three true false c r = refl
+    three true true false r = refl
+    three true true true r = refl
+
+-- what holds of all pairs, by their left terms
+by-left : (P : S.Term × S.Term → Type 0) (ts us : List S.Term) → All P (pairsOf ts us) → All (λ (t : S.Term). All (λ (u : S.Term). P (t, u)) us) ts
+unfolding pairsOf flatMap
+by-left P [] us a = tt
+by-left P (t ∷ ts) us a = let w = all-split P (map (λ u. (t, u)) us) (pairsOf ts us) a in (by-right us (w .0), by-left P ts us (w .1))
+  where
+    by-right : (us : List S.Term) → All P (map (λ (u : S.Term). (t, u)) us) → All (λ (u : S.Term). P (t, u)) us
+    by-right [] a = tt
+    by-right (u ∷ us) a = (a .0, by-right us (a .1))
+
+-- three facts of each pair
+each-fits : (op : Operation) (ts us : List S.Term) → All (λ (t : S.Term). All (λ (u : S.Term). Together op (t .part) (u .part)) us) ts
+    → All (λ (t : S.Term). All (λ (u : S.Term). T (pairLettersFit (t, u))) us) ts → All (λ (t : S.Term). All (λ (u : S.Term). T (pairCoefFits (t, u))) us) ts
+    → All (λ (t : S.Term). All (PairFits op t) us) ts
+each-fits op [] us a b c = tt
+each-fits op (t ∷ ts) us a b c = (one us (a .0) (b .0) (c .0), each-fits op ts us (a .1) (b .1) (c .1))
+  where
+    one : (us : List S.Term) → All (λ (u : S.Term). Together op (t .part) (u .part)) us → All (λ (u : S.Term). T (pairLettersFit (t, u))) us
+        → All (λ (u : S.Term). T (pairCoefFits (t, u))) us
+        → All (PairFits op t) us
+    one [] a b c = tt
+    one (u ∷ us) a b c = (record { together = a .0; letters = b .0; coef = c .0 }, one us (a .1) (b .1) (c .1))
+
+-- the terms of a scalar form have no vector part
+no-parts : (ts : List S.Term) → AllFit scalar ts → All (λ (t : S.Term). t .part ≡ []) ts
+no-parts ts = all-implies (λ (t : S.Term). Fits scalar (monomial t)) (λ (t : S.Term). t .part ≡ []) (λ t f. no-part (t .part) (f .kindIs)) ts
+
+kinds-together : (op : Operation) (kind a b : ℕ) (ts us : List S.Term) → Kinds op kind a b → AllFit a ts → AllFit b us
+    → All (λ (t : S.Term). All (λ (u : S.Term). Together op (t .part) (u .part)) us) ts
+unfolding Kinds Together
+kinds-together Times kind a b ts us (inl k) f g =
+    all-implies (λ (t : S.Term). t .part ≡ []) (λ (t : S.Term). All (λ (u : S.Term). (t .part ≡ []) ⊎ (u .part ≡ [])) us)
+    (λ t e. all-of (λ (u : S.Term). (t .part ≡ []) ⊎ (u .part ≡ [])) (λ u. inl e) us) ts (no-parts ts (subst (λ (n : ℕ). AllFit n ts) (k .0) f))
+kinds-together Times kind a b ts us (inr k) f g =
+    all-of (λ (t : S.Term). All (λ (u : S.Term). (t .part ≡ []) ⊎ (u .part ≡ [])) us)
+    (λ t. all-implies (λ (u : S.Term). u .part ≡ []) (λ (u : S.Term). (t .part ≡ []) ⊎ (u .part ≡ [])) (λ u e. inr e) us
+    (no-parts us (subst (λ (n : ℕ). AllFit n us) (k .0) g))) ts
+kinds-together Dot kind a b ts us k f g = all-of (λ (t : S.Term). All (λ (u : S.Term). Unit {0}) us) (λ t. all-of (λ (u : S.Term). Unit {0}) (λ u. tt) us) ts
+kinds-together Wedge kind a b ts us k f g = all-of (λ (t : S.Term). All (λ (u : S.Term). Unit {0}) us) (λ t. all-of (λ (u : S.Term). Unit {0}) (λ u. tt) us) ts
+
+-- the products are of the kind
+products-fit : (op : Operation) (kind a b : ℕ) (ts us : List S.Term) → Kinds op kind a b → AllFit a ts → AllFit b us → T (all pairLettersFit (pairsOf ts us))
+    → AllFit kind (termsOfPairs op ts us)
+unfolding Kinds partsOf
+products-fit Times kind a b ts us (inl k) f g l =
+    product-fits _ timesParts scalar kind kind (timesLeft-follows kind) ts us (subst (λ (n : ℕ). AllFit n ts) (k .0) f)
+    (subst (λ (n : ℕ). AllFit n us) (k .1) g) l
+products-fit Times kind a b ts us (inr k) f g l =
+    product-fits _ timesParts kind scalar kind (timesRight-follows kind) ts us (subst (λ (n : ℕ). AllFit n ts) (k .1) f)
+    (subst (λ (n : ℕ). AllFit n us) (k .0) g) l
+products-fit Dot kind a b ts us k f g l =
+    subst (λ (n : ℕ). AllFit n (flatMap (pairTerms dotParts) (pairsOf ts us))) (sym (k .2))
+    (product-fits _ dotParts vector vector scalar dot-follows ts us (subst (λ (n : ℕ). AllFit n ts) (k .0) f) (subst (λ (n : ℕ). AllFit n us) (k .1) g) l)
+products-fit Wedge kind a b ts us k f g l =
+    subst (λ (n : ℕ). AllFit n (flatMap (pairTerms wedgeParts) (pairsOf ts us))) (sym (k .2))
+    (product-fits _ wedgeParts vector vector vector wedge-follows ts us (subst (λ (n : ℕ). AllFit n ts) (k .0) f) (subst (λ (n : ℕ). AllFit n us) (k .1) g) l)
+
+kind-small : (op : Operation) (kind a b : ℕ) → Kinds op kind a b → a ≤ 1 → b ≤ 1 → kind ≤ 1
+unfolding Kinds
+kind-small Times kind a b (inl k) f g = omega (arith, k .1)
+kind-small Times kind a b (inr k) f g = omega (arith, k .1)
+kind-small Dot kind a b k f g = omega (arith, k .2)
+kind-small Wedge kind a b k f g = omega (arith, k .2)
+
+-- ════ the product
+
+module _ (op : Operation) (kind n : ℕ) (rows : List (List ℕ)) (coefs : List ℤ) (m : ℕ) (right : List (List ℕ)) (rights : List ℤ) (t : ℕ)
+    (e : testOf t ≡ testPairs (runOf n rows coefs) (runOf m right rights)) where
+  -- a pair is refused
+  pub pairs-refused : (w : Worked) (rows' : List (List ℕ)) (coefs' : List ℤ) → (t ≡ 0 → ⊥) → w .refusal ≡ t
+      → (a b : ℕ) → RowsGive (product kind (partsOf op) (formBy a n rows coefs) (formBy b m right rights)) w rows' coefs'
+  pairs-refused w rows' coefs' h p a b =
+      rows-refused (product kind (partsOf op) (formBy a n rows coefs) (formBy b m right rights)) w t rows' coefs' p h
+      (product-tested kind (partsOf op) (formBy a n rows coefs) (formBy b m right rights)
+      ∙ ap (λ (x : Test). x >> within kind (gather (termsOfPairs op (runOf n rows coefs) (runOf m right rights)))) (sym e ∙ test-refused t h))
+
+  module _ (z : t ≡ 0) where
+    all-passed : testPairs (runOf n rows coefs) (runOf m right rights) ≡ given tt
+    all-passed = sym e ∙ test-passed t z
+
+    few-pairs : T (leb (length (runOf n rows coefs) * length (runOf m right rights)) 48)
+    unfolding testPairs
+    few-pairs = required (leb (length (runOf n rows coefs) * length (runOf m right rights)) 48) 7
+        (require (all pairLettersFit (pairsOf (runOf n rows coefs) (runOf m right rights))) 8 >> require
+        (all pairCoefFits (pairsOf (runOf n rows coefs) (runOf m right rights))) 9) tt all-passed .0
+
+    few-letters : T (all pairLettersFit (pairsOf (runOf n rows coefs) (runOf m right rights)))
+        × T (all pairCoefFits (pairsOf (runOf n rows coefs) (runOf m right rights)))
+    unfolding testPairs
+    few-letters =
+        let a = required (leb (length (runOf n rows coefs) * length (runOf m right rights)) 48) 7
+        (require (all pairLettersFit (pairsOf (runOf n rows coefs) (runOf m right rights))) 8 >> require
+        (all pairCoefFits (pairsOf (runOf n rows coefs) (runOf m right rights))) 9) tt all-passed in
+        let b = required (all pairLettersFit (pairsOf (runOf n rows coefs) (runOf m right rights))) 8
+        (require (all pairCoefFits (pairsOf (runOf n rows coefs) (runOf m right rights))) 9) tt (a .1) in
+        (b .0, passed (all pairCoefFits (pairsOf (runOf n rows coefs) (runOf m right rights))) 9 (b .1))
+
+    module _ (o : Operands op kind n rows coefs m right rights) where
+      left-all-fit : AllFit (o .leftKind) (runOf n rows coefs)
+      left-all-fit = form-fits (formBy (o .leftKind) n rows coefs) (o .leftForm .inShape)
+
+      right-all-fit : AllFit (o .rightKind) (runOf m right rights)
+      right-all-fit = form-fits (formBy (o .rightKind) m right rights) (o .rightForm .inShape)
+
+      -- no pair is refused
+      pub pairs-fit : PairsFit op n (runOf n rows coefs) m (runOf m right rights)
+      pairs-fit = record {
+        few =
+            subst (λ (k : ℕ). k ≤ 48) (λ i. run-length rows coefs n (o .leftForm .run .room) (o .leftForm .run .beside) i * run-length right rights m
+            (o .rightForm .run .room) (o .rightForm .run .beside) i)
+            (leb→le (length (runOf n rows coefs) * length (runOf m right rights)) 48 few-pairs);
+        right = o .rightForm .few;
+        fits = each-fits op (runOf n rows coefs) (runOf m right rights)
+            (kinds-together op kind (o .leftKind) (o .rightKind) (runOf n rows coefs) (runOf m right rights) (o .kinds) left-all-fit right-all-fit)
+            (by-left (λ (p : S.Term × S.Term). T (pairLettersFit p)) (runOf n rows coefs) (runOf m right rights)
+            (all-T pairLettersFit (pairsOf (runOf n rows coefs) (runOf m right rights)) (few-letters .0)))
+            (by-left (λ (p : S.Term × S.Term). T (pairCoefFits p)) (runOf n rows coefs) (runOf m right rights)
+            (all-T pairCoefFits (pairsOf (runOf n rows coefs) (runOf m right rights)) (few-letters .1)));
+      }
+
+      module _ (k : ℕ) (more₀ : List (List ℕ)) (beside₀ : List ℤ) (r : ℕ) (more : List (List ℕ)) (beside : List ℤ)
+          (b : Brought k 0 more₀ beside₀ (termsOfPairs op (runOf n rows coefs) (runOf m right rights)) r more beside) where
+        brought-is : runOf r more beside ≡ gather (termsOfPairs op (runOf n rows coefs) (runOf m right rights))
+        unfolding gather runOf termsBy
+        brought-is = b .is
+
+        -- what was gathered can be closed
+        pub pairs-gathered : GatheredRows kind r more beside
+        pairs-gathered = record {
+          run = b .run;
+          small = kind-small op kind (o .leftKind) (o .rightKind) (o .kinds) (o .leftForm .inShape .kind) (o .rightForm .inShape .kind);
+          terms = termsOfPairs op (runOf n rows coefs) (runOf m right rights);
+          is = brought-is;
+          fit = products-fit op kind (o .leftKind) (o .rightKind) (runOf n rows coefs) (runOf m right rights) (o .kinds) left-all-fit right-all-fit
+              (few-letters .0);
+        }
+
+        -- and gives the product
+        pub pairs-give : (w : Worked) (rows' : List (List ℕ)) (coefs' : List ℤ) → RowsGive (within kind (runOf r more beside)) w rows' coefs'
+            → (a b : ℕ) → RowsGive (product kind (partsOf op) (formBy a n rows coefs) (formBy b m right rights)) w rows' coefs'
+        pairs-give w rows' coefs' g a d =
+            rows-as (within kind (runOf r more beside)) (product kind (partsOf op) (formBy a n rows coefs) (formBy d m right rights)) w rows' coefs'
+            (ap (within kind) brought-is ∙ sym (product-tested kind (partsOf op) (formBy a n rows coefs) (formBy d m right rights)
+            ∙ ap (λ (x : Test). x >> within kind (gather (termsOfPairs op (runOf n rows coefs) (runOf m right rights)))) all-passed)) g
+
+-- ════ the kinds
+
+module _ (f g : S.Form) (w : Worked) (rows : List (List ℕ)) (coefs : List ℤ) where
+  -- a scalar times anything
+  pub times-left : f .kind ≡ 0 → RowsGive (product (g .kind) (partsOf Times) f g) w rows coefs → RowsGive (timesForms f g) w rows coefs
+  unfolding timesForms partsOf
+  times-left e = rows-as _ _ w rows coefs (rw (eq-eqb (f .kind) 0 e))
+
+  -- anything times a scalar
+  pub times-right : (f .kind ≡ 0 → ⊥) → g .kind ≡ 0 → RowsGive (product (f .kind) (partsOf Times) f g) w rows coefs → RowsGive (timesForms f g) w rows coefs
+  unfolding timesForms partsOf
+  times-right h e = rows-as _ _ w rows coefs (rw (ne-eqb (f .kind) 0 h, eq-eqb (g .kind) 0 e))
+
+  -- neither is a scalar
+  pub times-six : (f .kind ≡ 0 → ⊥) → (g .kind ≡ 0 → ⊥) → w .refusal ≡ 6 → RowsGive (timesForms f g) w rows coefs
+  unfolding timesForms
+  times-six h k e = rows-refused (timesForms f g) w 6 rows coefs e (λ z. omega arith) (rw (ne-eqb (f .kind) 0 h, ne-eqb (g .kind) 0 k))
+
+  -- two vectors
+  pub dot-vectors : f .kind ≡ 1 → g .kind ≡ 1 → RowsGive (product scalar (partsOf Dot) f g) w rows coefs → RowsGive (dotForms f g) w rows coefs
+  unfolding dotForms partsOf
+  dot-vectors e h = rows-as _ _ w rows coefs (rw (eq-eqb (f .kind) 1 e, eq-eqb (g .kind) 1 h))
+
+  pub wedge-vectors : f .kind ≡ 1 → g .kind ≡ 1 → RowsGive (product vector (partsOf Wedge) f g) w rows coefs → RowsGive (wedgeForms f g) w rows coefs
+  unfolding wedgeForms partsOf
+  wedge-vectors e h = rows-as _ _ w rows coefs (rw (eq-eqb (f .kind) 1 e, eq-eqb (g .kind) 1 h))
+
+  -- one of them is none
+  no-vectors : (f .kind ≡ 1 → ⊥) ⊎ (g .kind ≡ 1 → ⊥) → (eqb (f .kind) 1 && eqb (g .kind) 1) ≡ false
+  no-vectors (inl h) = rw (ne-eqb (f .kind) 1 h)
+  no-vectors (inr h) = rw (ne-eqb (g .kind) 1 h) (and-false (eqb (f .kind) 1))
+
+  pub dot-six : (f .kind ≡ 1 → ⊥) ⊎ (g .kind ≡ 1 → ⊥) → w .refusal ≡ 6 → RowsGive (dotForms f g) w rows coefs
+  unfolding dotForms
+  dot-six h e = rows-refused (dotForms f g) w 6 rows coefs e (λ z. omega arith) (rw (no-vectors h))
+
+  pub wedge-six : (f .kind ≡ 1 → ⊥) ⊎ (g .kind ≡ 1 → ⊥) → w .refusal ≡ 6 → RowsGive (wedgeForms f g) w rows coefs
+  unfolding wedgeForms
+  wedge-six h e = rows-refused (wedgeForms f g) w 6 rows coefs e (λ z. omega arith) (rw (no-vectors h))
+
+-- ════ the triple
+
+module _ (f g h : S.Form) where
+  -- the third is no vector
+  pub triple-six : (w : Worked) (rows : List (List ℕ)) (coefs : List ℤ) → (h .kind ≡ 1 → ⊥) → w .refusal ≡ 6 → RowsGive (tripleForms f g h) w rows coefs
+  unfolding tripleForms
+  triple-six w rows coefs n e =
+      rows-refused (tripleForms f g h) w 6 rows coefs e (λ z. omega arith) (rw (ne-eqb (h .kind) 1 n, and-false (eqb (f .kind) 1 && eqb (g .kind) 1)))
+
+  -- with a third vector it is a wedge and a dot
+  triple-is : h .kind ≡ 1 → tripleForms f g h ≡ (wedgeForms f g >>= λ fg. dotForms fg h)
+  unfolding tripleForms wedgeForms
+  triple-is e = rw (eq-eqb (h .kind) 1 e) (again (eqb (f .kind) 1 && eqb (g .kind) 1) (product vector wedgeParts f g) (λ fg. dotForms fg h))
+    where
+      again : (b : Bool) (x : Result S.Form) (k : S.Form → Result S.Form) → (require (b && true) 6 >> ((require b 6 >> x) >>= k)) ≡ ((require b 6 >> x) >>= k)
+      again true x k = refl
+      again false x k = refl
+
+  module _ (w : Worked) (rows : List (List ℕ)) (coefs : List ℤ) (e : h .kind ≡ 1) (x : RowsGive (wedgeForms f g) w rows coefs) where
+    -- the wedge is refused
+    pub triple-refused : (rows' : List (List ℕ)) (coefs' : List ℤ) → (w .refusal ≡ 0 → ⊥) → RowsGive (tripleForms f g h) w rows' coefs'
+    triple-refused rows' coefs' n =
+        rows-refused (tripleForms f g h) w (w .refusal) rows' coefs' refl n (triple-is e ∙ ap (λ (r : Result S.Form). r >>= λ fg. dotForms fg h) (x .refuses n))
+
+    -- the dot follows
+    pub triple-dot : (r : Worked) (rows' : List (List ℕ)) (coefs' : List ℤ) → w .refusal ≡ 0
+        → RowsGive (dotForms (formBy (w .kind) (w .count) rows coefs) h) r rows' coefs'
+        → RowsGive (tripleForms f g h) r rows' coefs'
+    triple-dot r rows' coefs' z =
+        rows-as (dotForms (formBy (w .kind) (w .count) rows coefs) h) (tripleForms f g h) r rows' coefs'
+        (sym (triple-is e ∙ ap (λ (r : Result S.Form). r >>= λ fg. dotForms fg h) (x .gives z)))
