@@ -29,7 +29,7 @@ use Rattle.rules.specs.Steps.{stepOf, StepValid, StepFits}
 use Rattle.rules.proofs.Tied.{tied, rows-inside, row-next, row-given}
 use Rattle.rules.proofs.Taking.{rows, row-fits}
 use Rattle.marks.specs.declared.steps.StepMarks.{StepMarks}
-use Rattle.marks.specs.Marks.{lettersMark, factorsMark, markOf, Shows, Covering, Carried, Sized, NotShorter, LettersMarked, StepMarked, productMark, Among, SurelyKept, Scored}
+use Rattle.marks.specs.Marks.{markOf, Shows, Covering, Carried, Sized, NotShorter, LettersMarked, StepMarked, productMark, Among, SurelyKept, Scored}
 use Rattle.marks.proofs.Growth.{Ahead, ahead-none, ahead-more, ahead-kept, ahead-new, into-long, into-covered}
 use Rattle.marks.proofs.MarkedTerms.{size-same}
 use Rattle.marks.proofs.RowMarks.{row-good, sign-one, product-mark, product-stands}

@@ -1,20 +1,14 @@
 -- Rows closed by their limits. Assumes nothing.
-use mathlib.Core.Path.{_≡_, refl, ap, sym, subst, _∙_}
-use mathlib.Core.List.{List, [], _∷_, _++_}
-use Prim.Native.Nat.{ℕ, _+_, _≤_, _<_}
-use native.Mathlib.Numerals.{add-one}
+use mathlib.Core.Path.{_≡_, refl, ap, sym, _∙_}
+use mathlib.Core.List.{List}
+use Prim.Native.Nat.{ℕ, _≤_}
 use borrow.Author.Tests.{eq-eqb, ne-eqb}
-use lib.IntN.{ℤ, pos, natAbs}
-use lib.ListN.{length, take, getD, set}
-use lib.Seq.{take-suc}
-use Rattle.specification.specs.Results.{Result, given, refused}
+use lib.IntN.{ℤ}
+use lib.ListN.{length}
+use Rattle.specification.specs.Results.{given, refused}
 use Rattle.specification.specs.Terms.{within}
 use Rattle.specification.specs.Terms as S
-use Rattle.theory.specs.Elements.{All}
-use Rattle.theory.specs.Gathering.Coefficients.{Ascending}
-use Rattle.theory.specs.Shape.Forms.{FormInShape, within-given, within-in-shape}
-use Rattle.terms.proofs.Arrays.{stored-behind}
-use Rattle.gathering.specs.declared.rows.Worked.{Worked}
+use Rattle.theory.specs.Shape.Forms.{within-given, within-in-shape}
 use Rattle.gathering.specs.Rows.{runOf, formBy, FormRun, Copied, RunTested, RowsGive, limitedOf}
 use Rattle.gathering.proofs.RowSums.{run-copied, form-copied}
 use Rattle.operators.specs.Results.{GatheredRows}

@@ -1,5 +1,4 @@
 -- Lemmas that belong to no one function.
-pub mod Few
 pub mod Pairs
 pub mod Closing
 pub mod Bringing

@@ -34,10 +34,10 @@ use Rattle.gathering.specs.declared.rows.Worked.{Worked}
 use Rattle.gathering.specs.Rows.{termBy, termsBy, runOf, Run, Light, formBy, RowsGive}
 use Rattle.gathering.proofs.RowRuns.{run-length}
 use Rattle.gathering.proofs.RowSums.{light-more, rows-refused, rows-as}
-use Rattle.operators.specs.declared.parts.Few.{Few}
-use Rattle.operators.specs.declared.parts.Operation.{Operation}
-use Rattle.operators.specs.declared.parts.Operation.the-variants.{Times, Dot, Wedge}
-use Rattle.operators.specs.Parts.{partsOf, listOf, Together}
+use Rattle.pairing.specs.declared.parts.Few.{Few}
+use Rattle.pairing.specs.declared.parts.Operation.{Operation}
+use Rattle.pairing.specs.declared.parts.Operation.the-variants.{Times, Dot, Wedge}
+use Rattle.pairing.specs.Parts.{partsOf, listOf, Together}
 use Rattle.operators.specs.Limits.{testPairs}
 use Rattle.operators.specs.Results.{Brought, GatheredRows}
 use Rattle.operators.specs.Products.{PairFits, Pair, PairMade, rowTerms, pairsBound, fewBound, PairsFit, Kinds, Operands}

@@ -18,9 +18,9 @@ use Rattle.terms.specs.declared.types.Term.{Term}
 use Rattle.terms.specs.Abstraction.{partOf, termOf, Counted}
 use Rattle.terms.specs.Tidy.{Joined}
 use Rattle.terms.proofs.InShape.{factors-count}
-use Rattle.operators.specs.declared.parts.Operation.{Operation}
-use Rattle.operators.specs.declared.parts.Few.{Few}
-use Rattle.operators.specs.Parts.{partsOf, Small, listOf, FewMade}
+use Rattle.pairing.specs.declared.parts.Operation.{Operation}
+use Rattle.pairing.specs.declared.parts.Few.{Few}
+use Rattle.pairing.specs.Parts.{partsOf, Small, listOf, FewMade}
 use Rattle.operators.specs.Products.{Scalars, Pair}
 
 -- ════ few factors

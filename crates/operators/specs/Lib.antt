@@ -1,5 +1,4 @@
 -- What the contracts cite.
-pub mod Parts
 pub mod Results
 pub mod Limits
 pub mod Products

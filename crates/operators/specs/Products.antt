@@ -12,10 +12,10 @@ use Rattle.theory.specs.Elements.{All}
 use Rattle.terms.specs.declared.types.Term.{Term}
 use Rattle.terms.specs.Abstraction.{termOf, Counted}
 use Rattle.gathering.specs.Rows.{FormRun, Bringable}
-use Rattle.operators.specs.declared.parts.Few.{Few}
-use Rattle.operators.specs.declared.parts.Operation.{Operation}
-use Rattle.operators.specs.declared.parts.Operation.the-variants.{Times, Dot, Wedge}
-use Rattle.operators.specs.Parts.{partsOf, listOf, Together}
+use Rattle.pairing.specs.declared.parts.Few.{Few}
+use Rattle.pairing.specs.declared.parts.Operation.{Operation}
+use Rattle.pairing.specs.declared.parts.Operation.the-variants.{Times, Dot, Wedge}
+use Rattle.pairing.specs.Parts.{partsOf, listOf, Together}
 
 -- a term without its vector part
 pub record Scalars (t r : Term) : Type 0 where

@@ -22,11 +22,11 @@ use Rattle.forms.specs.Written.{FormWritten}
 use Rattle.terms.specs.Valid.{Gives}
 use Rattle.terms.proofs.Outcomes.{refuses, works-as, worked-given, worked-refused}
 use Rattle.gathering.specs.Rows.{OutcomeOf}
-use Rattle.reduction.specs.declared.trees.Tree.{Tree}
+use Rattle.expressions.specs.declared.trees.Tree.{Tree}
 use Rattle.reduction.specs.declared.Reduced.the-variants.{Written, Refused}
 use Rattle.reduction.specs.Answers.{reducedOf}
-use Rattle.reduction.specs.Trees.{ReadAs}
-use Rattle.reduction.proofs.Levels.{TreeFound, read-refused, read-given}
+use Rattle.expressions.specs.Trees.{ReadAs}
+use Rattle.expressions.proofs.Levels.{TreeFound, read-refused, read-given}
 
 -- ════ an expression whole
 

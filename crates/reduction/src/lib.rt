@@ -3,18 +3,13 @@ ghost use mathlib.Core.Path.{_≡_};
 ghost use Rattle.specification.specs.Reduction.{reduced, reduceCall};
 ghost use Rattle.terms.specs.Valid.{Gives};
 ghost use Rattle.reduction.specs.Answers.{reducedOf};
+use expressions::trees::read_tree;
 use forms::FORM_BYTES;
 use forms::write_form;
 use gathering::rows::outcome;
 use letters::check_table;
 use terms::build::refuse;
 use terms::types::Outcome;
-
-pub mod leaves;
-pub mod tokens;
-pub mod trees;
-
-use trees::read_tree;
 
 // A call's answer: the length of the record written, or the number of the refusal.
 pub enum Reduced {

@@ -2,7 +2,7 @@
 use mathlib.Core.Path.{_≡_, refl, sym, ap, subst, _∙_}
 use mathlib.Core.Bool.{Bool, true, false}
 use mathlib.Core.Logic.{⊎-elim}
-use mathlib.Core.List.{List, [], _∷_}
+use mathlib.Core.List.{List, []}
 use Prim.Native.Nat.{ℕ, _+_, _-_, _*_, _/_, _%_, _^_, _<_, _≤_}
 use native.Mathlib.Nat as N
 use native.Mathlib.Omega.{arith}
@@ -35,8 +35,8 @@ use Rattle.gathering.proofs.RowRuns.{run-length, run-at}
 use Rattle.rules.specs.declared.steps.Step.{Step}
 use Rattle.rules.specs.Steps.{stepOf}
 use Rattle.rules.proofs.Taking.{few-letters}
-use Rattle.shortening.specs.declared.trying.Next.{Next}
-use Rattle.shortening.specs.Trying.{Hopeless, OnlyStep, Settled, maskOf, ruleOf, pickOf, NextPlace}
+use Rattle.candidates.specs.declared.trying.Next.{Next}
+use Rattle.candidates.specs.Trying.{Hopeless, OnlyStep, Settled, maskOf, ruleOf, pickOf, NextPlace}
 use Rattle.marks.specs.Marks.{Covering}
 use Rattle.shortening.specs.Searching.{Shorter}
 

@@ -1,6 +1,4 @@
 -- What the contracts cite.
-pub mod Choosing
-pub mod Trying
 pub mod Searching
 pub mod Derived
 pub mod Answers

@@ -3,10 +3,8 @@ ghost use Prim.Native.Nat.{_≤_};
 ghost use Rattle.specification.specs.Shortening.{shorteningBytes, logLength, Shortened};
 ghost use Rattle.shortening.specs.Answers.{shorteningOf};
 
-mod choosing;
 pub mod rounds;
 mod searching;
-mod trying;
 
 use crate::rounds::derive;
 use forms::read_form;

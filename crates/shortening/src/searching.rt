@@ -8,7 +8,7 @@ ghost use Rattle.gathering.specs.Rows.{runOf, formBy, FormRun, RowsGive};
 ghost use Rattle.rules.specs.Steps.{stepOf};
 ghost use Rattle.marks.specs.Marks.{Covering};
 ghost use Rattle.shortening.specs.Searching.{SearchedBy};
-use crate::trying::next_candidate;
+use candidates::trying::next_candidate;
 use gathering::bringing::find_place;
 use gathering::rows::Worked;
 use gathering::rows::copy;

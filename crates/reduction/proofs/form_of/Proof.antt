@@ -1,6 +1,6 @@
 -- `reduction::form_of` meets its contract: the length, the tree read, the bytes left over, and the form by value. Assumes nothing.
-use Rattle.reduction.specs.Trees.{Sound}
-use Rattle.reduction.proofs.Levels.{read-sound}
+use Rattle.expressions.specs.Trees.{Sound}
+use Rattle.expressions.proofs.Levels.{read-sound}
 use Rattle.reduction.proofs.Calls.{too-long, not-read, left-over, read-whole}
 use native.Mathlib.Omega.{arith}
 use borrow.Author.Needs.{needs}

@@ -1,6 +1,5 @@
 -- `checker::replay::same_row` meets its contract. Assumes nothing.
 use mathlib.Core.Path.{_≡_, _∙_}
-use mathlib.Core.Bool.{true, false}
 use borrow.Author.Tests.{not-true, not-false}
 use Rattle.specification.specs.Logs.{sameCoef}
 use Rattle.integers.proofs.Machine.{back-is}

@@ -1,6 +1,5 @@
 -- `rules::admissible::step_at` meets its contract: the shape, the letters, then the step. Assumes nothing.
 use mathlib.Core.Path.{_≡_, refl, ap, _∙_}
-use mathlib.Core.Bool.{true, false}
 use native.Mathlib.Omega.{arith}
 use lib.ListN.{length}
 use lib.IntN.{ℤ}

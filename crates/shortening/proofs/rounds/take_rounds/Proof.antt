@@ -14,7 +14,6 @@ use Rattle.marks.specs.Marks.{Covering}
 use Rattle.shortening.specs.Searching.{Shorter, SearchedBy}
 use Rattle.shortening.specs.Derived.{Leads}
 use Rattle.shortening.proofs.Derivations.{rounds-none, found-anywhere, shorter, round-room, round-covered, round-more, rounds-end}
-use borrow.Author.Needs.{needs}
 use Rattle.shortening.proofs.rounds.take_rounds.Statement.{statement}
 use Rattle.shortening.proofs.rounds.take_rounds.Tie as tie
 

@@ -1,11 +1,10 @@
 -- `shortening::searching::search` meets its contract. The loop: no place passed so far, from the first on, is a step to fewer terms. Assumes nothing.
-use mathlib.Core.Path.{_≡_, refl, ap, subst, sym, _∙_}
+use mathlib.Core.Path.{_≡_, refl, ap, subst, _∙_}
 use mathlib.Core.List.{[]}
 use Prim.Native.Nat.{_*_, _+_, _-_, _/_, _%_, _<_}
 use native.Mathlib.Omega.{arith}
 use denote.Ref.{now}
 use lib.ListN.{length, getD}
-use lib.IntN.{pos}
 use Rattle.specification.specs.Terms as S
 use Rattle.integers.proofs.Machine.{back-is}
 use Rattle.terms.specs.Abstraction.{termOf}
@@ -13,10 +12,9 @@ use Rattle.terms.proofs.Arrays.{all-at}
 use Rattle.gathering.specs.Rows.{termBy, RowValid, formBy}
 use Rattle.gathering.proofs.RowRuns.{run-length}
 use Rattle.theory.specs.Gathering.Coefficients.{termAt}
-use Rattle.shortening.specs.Trying.{NextPlace}
+use Rattle.candidates.specs.Trying.{NextPlace}
 use Rattle.shortening.specs.Searching.{SearchedBy}
 use Rattle.shortening.proofs.Searches.{RowPassed, Useless, row-none, row-more, row-term, row-valid, row-searched, refused-useless, long-useless, shorter, not-found}
-use borrow.Author.Needs.{needs}
 use Rattle.shortening.proofs.searching.search.Statement.{statement}
 use Rattle.shortening.proofs.searching.search.Tie as tie
 

@@ -1,0 +1,4 @@
+-- Lemmas that belong to no one function.
+pub mod Heads
+pub mod Levels
+pub mod Single

@@ -1,0 +1,37 @@
+-- `expressions::trees::apply_two` meets its contract: the first refusal, or the operator. Assumes nothing.
+use Rattle.expressions.specs.Trees.{Sound}
+use Rattle.expressions.proofs.Levels.{left-refused, right-refused, both-worked}
+use borrow.Author.Needs.{needs}
+use Rattle.expressions.proofs.trees.apply_two.Statement.{statement}
+use Rattle.expressions.proofs.trees.apply_two.Tie as tie
+
+returns : tie.Need-returns
+returns c = left-refused _ _ _ _ _ _ _ _ _ (c .if1 .taken)
+
+returns-2 : tie.Need-returns-2
+returns-2 c = right-refused _ _ _ _ _ _ _ _ _ (c .before .before .if1 .left) (c .if2 .taken)
+
+operate-requires : tie.Need-operate-requires
+unfolding Sound
+operate-requires c κs =
+    let p = c .before .before .before .before .before .before .before .pre in
+    (p .0 (c .before .before .before .before .before .if1 .left), p .1 (c .before .before .before .if2 .left), p .2, p .3)
+
+same-length : tie.Need-same-length
+same-length c = search needs
+
+same-length-2 : tie.Need-same-length-2
+same-length-2 c = search needs
+
+same-length-3 : tie.Need-same-length-3
+same-length-3 c = search needs
+
+returns-3 : tie.Need-returns-3
+returns-3 c =
+    both-worked _ _ _ _ _ _ _ _ _ _ (c .before .before .before .before .before .before .before .before .before .if1 .left)
+    (c .before .before .before .before .before .before .before .if2 .left) (c .before .before .before .operate .ensures)
+
+pub apply-two-spec : {M : Type 1} → statement M
+apply-two-spec =
+    tie.close
+    (tie.spec returns returns-2 operate-requires same-length same-length-2 same-length-3 returns-3)

@@ -1,0 +1,94 @@
+// Leaves: the form of a letter alone, and of a constant, in the first of the lent rows.
+ghost use mathlib.Core.List.{[], _∷_};
+ghost use Prim.Native.Nat.{_≤_};
+ghost use lib.ListN.{length};
+ghost use Rattle.specification.specs.Results.{given};
+ghost use Rattle.specification.specs.Terms.{plus};
+ghost use Rattle.specification.specs.Reduction.{letterForm, constantForm};
+ghost use Rattle.theory.specs.Shape.Forms.{FormInShape};
+ghost use Rattle.terms.specs.Abstraction.{partOf, termOf, Counted};
+ghost use Rattle.gathering.specs.Rows.{RowsGive};
+ghost use Rattle.expressions.specs.Leaves.{TermAs};
+use gathering::rows::Worked;
+use gathering::rows::row_of;
+use integers::is_zero;
+use integers::within;
+use operators::results::refuse;
+use terms::factors::scalar_number;
+use terms::types::Part;
+use terms::types::Term;
+
+// A form of one term.
+fn alone(kind: u8, t: Term, rows: &mut [[u32; 8]], coefs: &mut [i64]) -> Worked
+    requires { ⌜ Counted t × FormInShape (record { kind = kind; terms = termOf t ∷ [] }) × (1 ≤ length (now rows)) × (1 ≤ length (now coefs)) ⌝ }
+    ensures { λ w. ⌜ RowsGive (given (record { kind = kind; terms = termOf t ∷ [] })) w (now (rows .exit)) (now (coefs .exit)) ⌝ }
+{
+    let r = row_of(t);
+    rows[0] = r;
+    let c = t.coef;
+    coefs[0] = c;
+    Worked {
+        refusal: 0,
+        kind: kind,
+        count: 1,
+    }
+}
+
+// A scalar letter as a term.
+fn scalar_letter(n: u8) -> Term
+    ensures { λ r. ⌜ TermAs (plus ((n ∷ []) ∷ []) []) r ⌝ }
+{
+    let mut f = [0u32; 7];
+    f[0] = scalar_number(n);
+    let p = Part::Nothing;
+    Term {
+        coef: 1,
+        factors: f,
+        factor_count: 1,
+        part: p,
+    }
+}
+
+// A vector part without factors as a term.
+fn bare(k: i64, p: Part) -> Term
+    ensures { λ r. ⌜ TermAs (record { coef = k; factors = []; part = partOf p }) r ⌝ }
+{
+    let f = [0u32; 7];
+    Term {
+        coef: k,
+        factors: f,
+        factor_count: 0,
+        part: p,
+    }
+}
+
+// A letter of a kind.
+pub fn letter(n: u8, kind: u8, rows: &mut [[u32; 8]], coefs: &mut [i64]) -> Worked
+    requires { ⌜ (1 ≤ length (now rows)) × (1 ≤ length (now coefs)) ⌝ }
+    ensures { λ w. ⌜ RowsGive (given (letterForm n kind)) w (now (rows .exit)) (now (coefs .exit)) ⌝ }
+{
+    if kind == 0 {
+        return alone(0, scalar_letter(n), rows, coefs);
+    }
+    let p = Part::Letter(n);
+    alone(1, bare(1, p), rows, coefs)
+}
+
+// A constant: 9 where it is beyond ±2147483647, the empty form where it is 0.
+pub fn constant(k: i64, rows: &mut [[u32; 8]], coefs: &mut [i64]) -> Worked
+    requires { ⌜ (1 ≤ length (now rows)) × (1 ≤ length (now coefs)) ⌝ }
+    ensures { λ w. ⌜ RowsGive (constantForm k) w (now (rows .exit)) (now (coefs .exit)) ⌝ }
+{
+    if !within(k) {
+        return refuse(9);
+    }
+    if is_zero(k) {
+        return Worked {
+            refusal: 0,
+            kind: 0,
+            count: 0,
+        };
+    }
+    let p = Part::Nothing;
+    alone(0, bare(k, p), rows, coefs)
+}

@@ -1,0 +1,50 @@
+use Rattle.specification.specs.Reduction.{dotParts}
+use mathlib.Core.List.{[], _∷_}
+use Rattle.pairing.proofs.Few.{at-nothing, at-letter, at-wedge}
+use borrow.Author.Needs.{needs}
+use Rattle.pairing.proofs.parts.dot_wedge.Statement.{statement}
+use Rattle.pairing.proofs.parts.dot_wedge.Tie as tie
+
+enum-told : tie.Need-enum-told
+enum-told c = search needs
+
+none-requires : tie.Need-none-requires
+none-requires c κs = search needs
+
+enum-known-q : tie.Need-enum-known-q
+enum-known-q c = search needs
+
+triple-alone-requires : tie.Need-triple-alone-requires
+triple-alone-requires c κs = search needs
+
+enum-known-q-2 : tie.Need-enum-known-q-2
+enum-known-q-2 c = search needs
+
+dot-wedges-requires : tie.Need-dot-wedges-requires
+dot-wedges-requires c κs = search needs
+
+returns : tie.Need-returns
+unfolding dotParts
+returns c = at-nothing (dotParts ((c .before .before .before .args .a) ∷ (c .before .before .before .args .b) ∷ [])) _ _ (c .before .enum-told .given .1) (c .none .ensures)
+
+returns-2 : tie.Need-returns-2
+unfolding dotParts
+returns-2 c = at-letter (dotParts ((c .before .before .before .before .args .a) ∷ (c .before .before .before .before .args .b) ∷ [])) _ _ _ (c .before .before .q .given .1) (c .triple-alone .ensures)
+
+returns-3 : tie.Need-returns-3
+unfolding dotParts
+returns-3 c = at-wedge (dotParts ((c .before .before .before .before .args .a) ∷ (c .before .before .before .before .args .b) ∷ [])) _ _ _ _ (c .before .before .q2 .given .1) (c .dot-wedges .ensures)
+
+pub dot-wedge-spec : {M : Type 1} → statement M
+dot-wedge-spec =
+    tie.close
+    (tie.spec
+    enum-told
+    none-requires
+    enum-known-q
+    triple-alone-requires
+    enum-known-q-2
+    dot-wedges-requires
+    returns
+    returns-2
+    returns-3)

@@ -1,0 +1,22 @@
+use Rattle.terms.specs.Abstraction.{partOf}
+use Rattle.pairing.proofs.Few.{one-factor}
+use borrow.Author.Needs.{needs}
+use Rattle.pairing.proofs.parts.triple_alone.Statement.{statement}
+use Rattle.pairing.proofs.parts.triple_alone.Tie as tie
+
+triple-number-requires : tie.Need-triple-number-requires
+triple-number-requires c κs = search needs
+
+with-factor-requires : tie.Need-with-factor-requires
+with-factor-requires c κs = search needs
+
+one-requires : tie.Need-one-requires
+one-requires c κs = search needs
+
+returns : tie.Need-returns
+unfolding partOf
+returns c = one-factor _ _ _ _ (c .before .before .triple-number .ensures) (c .before .with-factor .ensures) (c .one .ensures)
+
+pub triple-alone-spec : {M : Type 1} → statement M
+triple-alone-spec =
+    tie.close (tie.spec triple-number-requires with-factor-requires one-requires returns)

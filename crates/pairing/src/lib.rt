@@ -1,0 +1,2 @@
+// Pairs of terms: what their two vector parts make.
+pub mod parts;
