@@ -29,24 +29,21 @@ pub fn check(table: &[u8], log: &[u8]) -> Checked
     if !q.ok {
         return Checked::Refused(11, 0);
     }
-    let f = q.first;
-    let steps = q.steps;
-    let g = q.last;
-    let n = steps.count;
+    let n = q.steps.count;
     let behind = (n + 1) as u8;
-    let at_first = test_terms(table, f);
+    let at_first = test_terms(table, q.first);
     if at_first != 0 {
         return Checked::Refused(at_first, 0);
     }
-    let found = test_steps(table, steps);
+    let found = test_steps(table, q.steps);
     if found.number != 0 {
         return Checked::Refused(found.number, found.step);
     }
-    let at_last = test_terms(table, g);
+    let at_last = test_terms(table, q.last);
     if at_last != 0 {
         return Checked::Refused(at_last, behind);
     }
-    let reached = replay(f, steps, g);
+    let reached = replay(q.first, q.steps, q.last);
     if reached.number != 0 {
         return Checked::Refused(reached.number, reached.step);
     }

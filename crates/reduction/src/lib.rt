@@ -53,6 +53,5 @@ pub fn reduce(table: &[u8], s: &[u8], out: &mut [u8]) -> Reduced
     if n != 0 {
         return Reduced::Refused(n);
     }
-    let f = w.form;
-    Reduced::Written(write_form(out, f))
+    Reduced::Written(write_form(out, w.form))
 }

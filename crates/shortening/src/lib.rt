@@ -38,11 +38,8 @@ pub fn shorten(table: &[u8], form: &[u8], out: &mut [u8]) -> Shortening
     if p != 0 {
         return Shortening::Refused(p);
     }
-    let f = a.form;
-    let d = derive(table, f);
-    let steps = d.steps;
-    let last = d.last;
-    let n = steps.count;
-    let size = write_log(out, f, steps, last);
+    let d = derive(table, a.form);
+    let n = d.steps.count;
+    let size = write_log(out, a.form, d.steps, d.last);
     Shortening::Written(size, n)
 }

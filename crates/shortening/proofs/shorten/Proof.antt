@@ -47,13 +47,13 @@ returns-3 c =
     )
 
 derive-requires : tie.Need-derive-requires
-derive-requires c κs = c .before .before .read-form .ensures .valid (c .before .if3 .left)
+derive-requires c κs = c .before .read-form .ensures .valid (c .if3 .left)
 
 write-log-requires : tie.Need-write-log-requires
 write-log-requires c κs =
-    let a = c .before .before .before .before .before .before .read-form .ensures .valid (c .before .before .before .before .before .if3 .left) in
-    let d = c .before .before .before .derive .ensures in
-    (a, d .valid .steps, d .valid .last, omega (arith, d .saves, a .few, c .before .before .before .before .before .before .before .if2 .left))
+    let a = c .before .before .before .read-form .ensures .valid (c .before .before .if3 .left) in
+    let d = c .before .derive .ensures in
+    (a, d .valid .steps, d .valid .last, omega (arith, d .saves, a .few, c .before .before .before .before .if2 .left))
 
 same-length : tie.Need-same-length
 same-length c = search needs
@@ -61,26 +61,13 @@ same-length c = search needs
 returns-4 : tie.Need-returns-4
 unfolding shorteningOf logLength
 returns-4 c =
-    let w = c .before .before .before .before .before .before .before .before .before .before .before .before .before .before .before .before in (
-      log-written (now (w .args .table)) (now (w .args .form)) (now (w .args .out)) _
-          (c .before .before .before .before .before .before .before .before .before .before .before .before .check-table .ensures)
-          (c .before .before .before .before .before .before .before .before .before .before .before .if1 .left)
-          (c .before .before .before .before .before .before .before .before .before .before .if2 .left) _
-          (c .before .before .before .before .before .before .before .before .before .read-form .ensures)
-          (c .before .before .before .before .before .before .before .before .if3 .left)
-          (form-places (c .before .before .before .before .before .before .before .before .before)) _ (c .before .before .before .before .before .before .derive .ensures)
-          (last-places (c .before .before .before .before .before .before))
-          (bytes-all (now (w .args .form))
-          (λ (k : ℕ). c .before .before .before .before .before .before .before .before .before .before .before .before .before .before .shared-slice-known2 .given k .fits))
+    let w = c .before .before .before .before .before .before .before .before .before .before .before .before .before in (
+      log-written (now (w .args .table)) (now (w .args .form)) (now (w .args .out)) _ (c .before .before .before .before .before .before .before .before .before .check-table .ensures) (c .before .before .before .before .before .before .before .before .if1 .left) (c .before .before .before .before .before .before .before .if2 .left) _
+          (c .before .before .before .before .before .before .read-form .ensures) (c .before .before .before .before .before .if3 .left) (form-places (c .before .before .before .before .before .before)) _ (c .before .before .before .before .derive .ensures) (last-places (c .before .before .before .before))
+          (bytes-all (now (w .args .form)) (λ (k : ℕ). c .before .before .before .before .before .before .before .before .before .before .before .shared-slice-known2 .given k .fits)) _ _ (c .before .before .write-log .ensures),
+      log-fits (now (w .args .table)) (now (w .args .form)) (now (w .args .out)) _ (c .before .before .before .before .before .before .before .before .before .check-table .ensures) (c .before .before .before .before .before .before .before .before .if1 .left) (c .before .before .before .before .before .before .before .if2 .left) _
+          (c .before .before .before .before .before .before .read-form .ensures) (c .before .before .before .before .before .if3 .left) (form-places (c .before .before .before .before .before .before)) _ (c .before .before .before .before .derive .ensures) (last-places (c .before .before .before .before))
           _ _ (c .before .before .write-log .ensures),
-      log-fits (now (w .args .table)) (now (w .args .form)) (now (w .args .out)) _
-          (c .before .before .before .before .before .before .before .before .before .before .before .before .check-table .ensures)
-          (c .before .before .before .before .before .before .before .before .before .before .before .if1 .left)
-          (c .before .before .before .before .before .before .before .before .before .before .if2 .left) _
-          (c .before .before .before .before .before .before .before .before .before .read-form .ensures)
-          (c .before .before .before .before .before .before .before .before .if3 .left)
-          (form-places (c .before .before .before .before .before .before .before .before .before)) _ (c .before .before .before .before .before .before .derive .ensures)
-          (last-places (c .before .before .before .before .before .before)) _ _ (c .before .before .write-log .ensures),
     )
 
 pub shorten-spec : {M : Type 1} → statement M
