@@ -26,7 +26,7 @@ use Rattle.letters.proofs.LetterTests.{test-passed, test-refused}
 use Rattle.gathering.proofs.RowSums.{rows-refused, rows-as}
 use Rattle.operators.proofs.Adding.{form-negated, negated-run}
 use Rattle.expressions.specs.declared.trees.Tree.{Tree}
-use Rattle.expressions.specs.Trees.{operandCount, testToken, testHead, binary, onOne, onTwo, onThree, workedOf, Sound, ReadAs, LeafAt, readLeaf}
+use Rattle.expressions.specs.Trees.{operandCount, testToken, testHead, binary, onOne, onTwo, onThree, workedOf, Sound, ReadAs, LeafAt, readLeaf, LeafSecond}
 use Rattle.expressions.proofs.Heads.{more, chain, read-is, chain-more, bytes-passed, own-byte}
 
 -- one of two, by cases
@@ -559,3 +559,18 @@ module _ (depth : ℕ) (table s : List ℕ) (at : ℕ) (v : Level depth table s 
                 (read-given (readTree (depth - 1) table s (b .next)) d rd cd read-d e) (v .token) shape operand operands three-of (m .0) (m .1)
                 (subst (λ (w : Worked). RowsGive (onThree (workedOf (a .work) ra ca) (workedOf (b .work) rb cb) (workedOf (d .work) rd cd)) w rows coefs)
                 (sym (m .2)) h))
+
+-- two operands of which the second is a leaf
+pub level-leafy : (depth : ℕ) (table s : List ℕ) (at : ℕ) (v : Level depth table s at) (rows : List (List ℕ)) (coefs : List ℤ) (k : ℕ) → k ≡ operandCount (getD s at 0)
+    → (a : Tree) (ra : List (List ℕ)) (ca : List ℤ) → ReadAs (readTree (depth - 1) table s (at + 1)) a ra ca → (k ≡ 0 → ⊥) → a .unread ≡ 0 → (k ≡ 1 → ⊥) → (r : Tree) → k ≡ 2
+    → LeafSecond (depth - 1) table s (getD s at 0) a ra ca r rows coefs → ReadAs (readTree depth table s at) r rows coefs
+level-leafy depth table s at v rows coefs k count a ra ca read-a some ea none r both w = go (w .second .unread) refl
+  where
+    go : (n : ℕ) → w .second .unread ≡ n → ReadAs (readTree depth table s at) r rows coefs
+    go zero e =
+        level-two depth table s at v rows coefs k count a ra ca read-a some ea (w .second) (w .right) (w .rights) (w .read) none e r (r .work) both (w .works e)
+        (w .made e .0, w .made e .1, refl)
+    go (suc n) e =
+        let h : w .second .unread ≡ 0 → ⊥ = λ z. absurd (omega (arith, sym e ∙ z)) in
+        subst (λ (x : Tree). ReadAs (readTree depth table s at) x rows coefs) (sym (w .refuses h))
+        (level-second depth table s at v rows coefs k count a ra ca read-a some ea (w .second) (w .right) (w .rights) (w .read) none h)

@@ -8,7 +8,7 @@ use lib.IntN.{ℤ}
 use lib.ListN.{length, getD}
 use Rattle.specification.specs.Results.{Result, Test, refused, given, _>>=_, _>>_, require, if_then_else_}
 use Rattle.specification.specs.Terms.{Form}
-use Rattle.specification.specs.Expressions.{Expr, tokenBytes, testBytes, readToken, readOperands}
+use Rattle.specification.specs.Expressions.{Expr, tokenBytes, testBytes, readToken, readOperands, readTree}
 use Rattle.specification.specs.Reduction.{negateForm, sumForms, timesForms, dotForms, wedgeForms, tripleForms, work}
 use Rattle.gathering.specs.declared.rows.Worked.{Worked}
 use Rattle.gathering.specs.Rows.{formBy, FormRun, RowsGive}
@@ -102,3 +102,13 @@ unfoldable pub readLeaf : (table s : List ℕ) (at : ℕ) → Result (Expr × �
 readLeaf table s at = do
   token ← readToken table s at
   readOperands (λ next. refused 4) (at + tokenBytes (getD s at 0)) token
+
+-- the second operand is the leaf behind the first: what reading refuses of it, or the operator worked on both
+pub record LeafSecond (depth : ℕ) (table s : List ℕ) (token : ℕ) (a : Tree) (rows : List (List ℕ)) (coefs : List ℤ) (r : Tree) (rows' : List (List ℕ)) (coefs' : List ℤ) : Type 0 where
+  pub second : Tree
+  pub right : List (List ℕ)
+  pub rights : List ℤ
+  pub read : ReadAs (readTree depth table s (a .next)) second right rights
+  pub refuses : (second .unread ≡ 0 → ⊥) → r ≡ second
+  pub works : second .unread ≡ 0 → RowsGive (onTwo token (workedOf (a .work) rows coefs) (workedOf (second .work) right rights)) (r .work) rows' coefs'
+  pub made : second .unread ≡ 0 → (r .unread ≡ 0) × (r .next ≡ second .next)

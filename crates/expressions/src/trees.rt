@@ -2,10 +2,11 @@
 ghost use mathlib.Core.Path.{_≡_};
 ghost use mathlib.Core.List.{List};
 ghost use Prim.Native.Nat.{ℕ, _≤_};
-ghost use lib.ListN.{length};
+ghost use mathlib.Core.Bool.{true};
+ghost use lib.ListN.{length, getD};
 ghost use Rattle.specification.specs.Expressions.{readTree};
 ghost use Rattle.gathering.specs.Rows.{Light, formBy, FormRun, RowsGive};
-ghost use Rattle.expressions.specs.Trees.{binary, onOne, onTwo, onThree, workedOf, Sound, LeafAt, readLeaf, ReadAs};
+ghost use Rattle.expressions.specs.Trees.{operandCount, binary, onOne, onTwo, onThree, workedOf, Sound, LeafAt, readLeaf, ReadAs, LeafSecond};
 use crate::leaves::constant;
 use crate::leaves::letter;
 use crate::tokens::operands;
@@ -146,7 +147,7 @@ fn apply_three(
 
 // A letter or a constant, whole with its bytes.
 fn leaf(table: &[u8], s: &[u8], at: usize, rows: &mut [[u32; 8]], coefs: &mut [i64]) -> Tree
-    requires { ⌜ LeafAt (now table) (now s) at × (48 ≤ length (now rows)) × (48 ≤ length (now coefs)) ⌝ }
+    requires { ⌜ LeafAt (now table) (now s) at × (1 ≤ length (now rows)) × (1 ≤ length (now coefs)) ⌝ }
     ensures { λ r. ⌜ ReadAs (readLeaf (now (table .entry)) (now (s .entry)) at) r (now (rows .exit)) (now (coefs .exit)) ⌝ }
 {
     let token = s[at];
@@ -164,6 +165,66 @@ fn leaf(table: &[u8], s: &[u8], at: usize, rows: &mut [[u32; 8]], coefs: &mut [i
     Tree {
         unread: 0,
         next: at + 5,
+        work: w,
+    }
+}
+
+// Whether a token has two operands and the second, at a position, is a leaf; bytes that are missing are refused as one.
+fn ends_in_leaf(k: u8, s: &[u8], at: usize) -> bool
+    ensures { λ r. ⌜ (r ≡ true → (k ≡ 2) × (operandCount (getD (now (s .entry)) at 0) ≡ 0)) ⌝ }
+{
+    if k != 2 {
+        return false;
+    }
+    if at >= s.len() {
+        return true;
+    }
+    operands(s[at]) == 0
+}
+
+// The leaf at a position, with so much depth left.
+fn read_leaf(
+    table: &[u8],
+    s: &[u8],
+    at: usize,
+    depth: usize,
+    rows: &mut [[u32; 8]],
+    coefs: &mut [i64],
+) -> Tree
+    requires { ⌜ (operandCount (getD (now s) at 0) ≡ 0) × (1 ≤ length (now rows)) × (1 ≤ length (now coefs)) ⌝ }
+    ensures { λ r. ⌜ ReadAs (readTree depth (now (table .entry)) (now (s .entry)) at) r (now (rows .exit)) (now (coefs .exit)) ⌝ }
+{
+    let n = test_head(table, s, at, depth);
+    if n != 0 {
+        return unread(n);
+    }
+    leaf(table, s, at, rows, coefs)
+}
+
+// The operator of a token with two operands of which the second is a leaf: it needs no more than one row of its own.
+fn with_leaf(
+    table: &[u8],
+    s: &[u8],
+    depth: usize,
+    token: u8,
+    a: Tree,
+    rows: &mut [[u32; 8]],
+    coefs: &mut [i64],
+) -> Tree
+    requires { ⌜ (operandCount (getD (now s) (a .next) 0) ≡ 0) × Sound (a .work) (now rows) (now coefs) × (48 ≤ length (now rows)) × (48 ≤ length (now coefs)) ⌝ }
+    ensures { λ r. ⌜ LeafSecond depth (now (table .entry)) (now (s .entry)) token a (now (rows .entry)) (now (coefs .entry)) r (now (rows .exit)) (now (coefs .exit)) ⌝ }
+{
+    let e = [0u32; 8];
+    let mut right = [e; 1];
+    let mut rights = [0i64; 1];
+    let b = read_leaf(table, s, a.next, depth, &mut right, &mut rights);
+    if b.unread != 0 {
+        return b;
+    }
+    let w = apply_two(token, a.work, rows, coefs, b.work, &right, &mut rights);
+    Tree {
+        unread: 0,
+        next: b.next,
         work: w,
     }
 }
@@ -201,6 +262,9 @@ pub fn read_tree(
             next: a.next,
             work: w,
         };
+    }
+    if ends_in_leaf(k, s, a.next) {
+        return with_leaf(table, s, depth - 1, token, a, rows, coefs);
     }
     let e = [0u32; 8];
     let mut right = [e; 48];

@@ -8,14 +8,16 @@ use borrow.Fn.Kinds.{In}
 use borrow.Fn.PlainCycle.{Measures, is, falls, and}
 use Rattle.expressions.proofs.Heads.{starts, some-depth}
 use Rattle.expressions.proofs.Levels.{level, level-refused, leaf-at, level-leaf, one-light, read-sound}
-use Rattle.expressions.proofs.Levels.{level-first, level-one, level-second, level-two, level-third, level-three}
+use Rattle.expressions.proofs.Levels.{level-first, level-one, level-leafy, level-second, level-two, level-third, level-three}
 use Rattle.expressions.proofs.tokens.operands.Reads as operands-reads
 use Rattle.expressions.proofs.tokens.test_head.Reads as test-head-reads
 use Rattle.expressions.proofs.trees.apply_one.Reads as apply-one-reads
 use Rattle.expressions.proofs.trees.apply_three.Reads as apply-three-reads
 use Rattle.expressions.proofs.trees.apply_two.Reads as apply-two-reads
+use Rattle.expressions.proofs.trees.ends_in_leaf.Reads as ends-in-leaf-reads
 use Rattle.expressions.proofs.trees.leaf.Reads as leaf-reads
 use Rattle.expressions.proofs.trees.unread.Reads as unread-reads
+use Rattle.expressions.proofs.trees.with_leaf.Reads as with-leaf-reads
 use Rattle.expressions.proofs.trees.read_tree.Reads as reads
 use Rattle.expressions.proofs.trees.read_tree.Kinds as kinds
 use Rattle.expressions.proofs.trees.+read_tree.Lts-read_tree as lts
@@ -45,6 +47,10 @@ module _ (t : ℕ) where
     reads.Post,
     apply-one-reads.Asked,
     apply-one-reads.Learnt,
+    ends-in-leaf-reads.Asked,
+    ends-in-leaf-reads.Learnt,
+    with-leaf-reads.Asked,
+    with-leaf-reads.Learnt,
     apply-two-reads.Asked,
     apply-two-reads.Learnt,
     apply-three-reads.Asked,
@@ -71,8 +77,8 @@ module _ (t : ℕ) where
     leaf-at _ _ _ _ (level _ _ _ _ _ (c .before .before .before .before .before .before .test-head .ensures)
         (c .before .before .before .before .before .if1 .left)) [] []
         (sym (c .before .before .before .operands .ensures) ∙ c .before .before .if2 .taken),
-    c .before .before .before .before .before .before .before .before .before .pre .1 .0,
-    c .before .before .before .before .before .before .before .before .before .pre .1 .1,
+    omega (arith, c .before .before .before .before .before .before .before .before .before .pre .1 .0),
+    omega (arith, c .before .before .before .before .before .before .before .before .before .pre .1 .1),
   )
 
   same-length : lts.Need-same-length claims given-at reads.Post
@@ -150,9 +156,34 @@ module _ (t : ℕ) where
       (read-sound _ _ _ _ (c .before .before .before .before .before .before .before .before .before .read-tree .ensures)
       (c .before .before .before .before .before .if3 .left))) (refl, refl, refl)
 
+  ends-in-leaf-requires : lts.Need-ends-in-leaf-requires claims given-at reads.Post
+  ends-in-leaf-requires c κs = tt
+
+  sub-with-leaf : lts.Need-sub-with-leaf claims given-at reads.Post
+  sub-with-leaf c = omega (arith, some-depth _ ((level _ _ _ _ _ (c .before .before .before .before .before .before .before .before .before .before .before .before .before .before .before .test-head .ensures) (c .before .before .before .before .before .before .before .before .before .before .before .before .before .before .if1 .left)) .deep))
+
+  with-leaf-requires : lts.Need-with-leaf-requires claims given-at reads.Post
+  with-leaf-requires c κs = (
+    c .before .before .before .ends-in-leaf .ensures (c .before .before .if5 .taken) .1,
+    read-sound _ _ _ _ (c .before .before .before .before .before .before .before .before .before .before .read-tree .ensures) (c .before .before .before .before .before .before .if3 .left),
+    omega (arith, c .before .before .before .before .before .before .before .before .before .before .read-tree .kept .1 .1 .1 .1 .0, c .before .before .before .before .before .before .before .before .before .before .before .before .before .before .before .before .before .before .before .before .pre .1 .0),
+    omega (arith, c .before .before .before .before .before .before .before .before .before .before .read-tree .kept .1 .1 .1 .1 .1 .0, c .before .before .before .before .before .before .before .before .before .before .before .before .before .before .before .before .before .before .before .before .pre .1 .1),
+  )
+
+  same-length-7 : lts.Need-same-length-7 claims given-at reads.Post
+  same-length-7 c = c .before .before .with-leaf .kept .1 .1 .1 .1 .1 .0 ∙ c .before .before .before .before .before .before .before .before .before .before .before .before .before .read-tree .kept .1 .1 .1 .1 .0
+
+  same-length-8 : lts.Need-same-length-8 claims given-at reads.Post
+  same-length-8 c = c .before .before .with-leaf .kept .1 .1 .1 .1 .1 .1 .0 ∙ c .before .before .before .before .before .before .before .before .before .before .before .before .before .read-tree .kept .1 .1 .1 .1 .1 .0
+
+  returns-5 : lts.Need-returns-5 claims given-at reads.Post
+  returns-5 c =
+      level-leafy _ _ _ _ (level _ _ _ _ _ (c .before .before .before .before .before .before .before .before .before .before .before .before .before .before .before .before .before .before .before .before .test-head .ensures) (c .before .before .before .before .before .before .before .before .before .before .before .before .before .before .before .before .before .before .before .if1 .left)) _ _ _ (c .before .before .before .before .before .before .before .before .before .before .before .before .before .before .before .before .before .operands .ensures) _ _ _ (c .before .before .before .before .before .before .before .before .before .before .before .before .before .read-tree .ensures)
+      (c .before .before .before .before .before .before .before .before .before .before .before .before .before .before .before .before .if2 .left) (c .before .before .before .before .before .before .before .before .before .if3 .left) (c .before .before .before .before .before .before .before .if4 .left) _ (c .before .before .before .before .before .before .ends-in-leaf .ensures (c .before .before .before .before .before .if5 .taken) .0) (c .before .before .with-leaf .ensures)
+
   sub-read-tree-2 : lts.Need-sub-read-tree-2 claims given-at reads.Post
   sub-read-tree-2 c =
-      let a = c .before .before .before .before .before .before in
+      let a = c .before .before .before .before .before .before .before .before in
       omega (
         arith,
         some-depth _ ((level _ _ _ _ _ (a .before .before .before .before .before .before .before .test-head .ensures)
@@ -167,7 +198,7 @@ module _ (t : ℕ) where
 
   read-tree-requires-2 : lts.Need-read-tree-requires-2 claims given-at reads.Post
   read-tree-requires-2 c κs =
-      let a = c .before .before .before .before .before .before .before .before in (
+      let a = c .before .before .before .before .before .before .before .before .before .before in (
         omega (
           arith,
           a .before .before .before .before .before .before .before .before .before .before .pre .0,
@@ -178,26 +209,26 @@ module _ (t : ℕ) where
         (omega arith, omega arith),
       )
 
-  same-length-7 : lts.Need-same-length-7 claims given-at reads.Post
-  same-length-7 c =
+  same-length-9 : lts.Need-same-length-9 claims given-at reads.Post
+  same-length-9 c =
       let b = c .before .before .before .before in
-      let a = b .before .before .before .before .before .before .before .before .before in
+      let a = b .before .before .before .before .before .before .before .before .before .before .before in
       a .read-tree .kept .1 .1 .1 .1 .0
 
-  same-length-8 : lts.Need-same-length-8 claims given-at reads.Post
-  same-length-8 c =
+  same-length-10 : lts.Need-same-length-10 claims given-at reads.Post
+  same-length-10 c =
       let b = c .before .before .before .before in
-      let a = b .before .before .before .before .before .before .before .before .before in
+      let a = b .before .before .before .before .before .before .before .before .before .before .before in
       a .read-tree .kept .1 .1 .1 .1 .1 .0
 
-  returns-5 : lts.Need-returns-5 claims given-at reads.Post
-  returns-5 c =
+  returns-6 : lts.Need-returns-6 claims given-at reads.Post
+  returns-6 c =
       let b = c .before .before .before .before in
-      let a = b .before .before .before .before .before .before .before .before .before in
+      let a = b .before .before .before .before .before .before .before .before .before .before .before in
       level-second _ _ _ _ (level _ _ _ _ _ (a .before .before .before .before .before .before .before .test-head .ensures)
       (a .before .before .before .before .before .before .if1 .left)) _ _ _ (a .before .before .before .before .operands .ensures) _ _ _ (a .read-tree .ensures)
-      (a .before .before .before .if2 .left) (b .before .before .before .before .before .if3 .left) _ _ _ (b .read-tree2 .ensures)
-      (b .before .before .before .if4 .left) (c .if5 .taken)
+      (a .before .before .before .if2 .left) (b .before .before .before .before .before .before .before .if3 .left) _ _ _ (b .read-tree2 .ensures)
+      (b .before .before .before .before .before .if4 .left) (c .if6 .taken)
 
   slice-aggregate-apply-two : lts.Need-slice-aggregate-apply-two claims given-at reads.Post
   slice-aggregate-apply-two c = search needs
@@ -207,53 +238,53 @@ module _ (t : ℕ) where
 
   apply-two-requires : lts.Need-apply-two-requires claims given-at reads.Post
   apply-two-requires c κs = (
-    read-sound _ _ _ _ (c .before .before .before .before .before .before .before .before .before .before .before .before .before .before .before .before .before .before .before .read-tree .ensures)
-        (c .before .before .before .before .before .before .before .before .before .before .before .before .before .before .before .if3 .left),
+    read-sound _ _ _ _ (c .before .before .before .before .before .before .before .before .before .before .before .before .before .before .before .before .before .before .before .before .before .read-tree .ensures)
+        (c .before .before .before .before .before .before .before .before .before .before .before .before .before .before .before .before .before .if3 .left),
     read-sound _ _ _ _
         (c .before .before .before .before .before .before .before .before .before .before .read-tree2 .ensures)
-        (c .before .before .before .before .before .before .if5 .left),
+        (c .before .before .before .before .before .before .if6 .left),
     omega (
       arith,
-      c .before .before .before .before .before .before .before .before .before .before .before .before .before .before .before .before .before .before .before .read-tree .kept .1 .1 .1 .1
+      c .before .before .before .before .before .before .before .before .before .before .before .before .before .before .before .before .before .before .before .before .before .read-tree .kept .1 .1 .1 .1
           .0,
-      c .before .before .before .before .before .before .before .before .before .before .before .before .before .before .before .before .before .before .before .before .before .before .before .before .before .before .before .before .before .pre .1
+      c .before .before .before .before .before .before .before .before .before .before .before .before .before .before .before .before .before .before .before .before .before .before .before .before .before .before .before .before .before .before .before .pre .1
           .0,
     ),
     omega (
       arith,
-      c .before .before .before .before .before .before .before .before .before .before .before .before .before .before .before .before .before .before .before .read-tree .kept .1 .1 .1 .1 .1
+      c .before .before .before .before .before .before .before .before .before .before .before .before .before .before .before .before .before .before .before .before .before .read-tree .kept .1 .1 .1 .1 .1
           .0,
-      c .before .before .before .before .before .before .before .before .before .before .before .before .before .before .before .before .before .before .before .before .before .before .before .before .before .before .before .before .before .pre .1
+      c .before .before .before .before .before .before .before .before .before .before .before .before .before .before .before .before .before .before .before .before .before .before .before .before .before .before .before .before .before .before .before .pre .1
           .1,
     ),
   )
 
-  same-length-9 : lts.Need-same-length-9 claims given-at reads.Post
-  same-length-9 c =
+  same-length-11 : lts.Need-same-length-11 claims given-at reads.Post
+  same-length-11 c =
       let b = c .before .before .before .before .before .before .before .before .before .before .before .before .before .before in
-      let a = b .before .before .before .before .before .before .before .before .before in
+      let a = b .before .before .before .before .before .before .before .before .before .before .before in
       c .before .before .before .apply-two .kept .1 .1 .0 ∙ a .read-tree .kept .1 .1 .1 .1 .0
 
-  same-length-10 : lts.Need-same-length-10 claims given-at reads.Post
-  same-length-10 c =
+  same-length-12 : lts.Need-same-length-12 claims given-at reads.Post
+  same-length-12 c =
       let b = c .before .before .before .before .before .before .before .before .before .before .before .before .before .before in
-      let a = b .before .before .before .before .before .before .before .before .before in
+      let a = b .before .before .before .before .before .before .before .before .before .before .before in
       c .before .before .before .apply-two .kept .1 .1 .1 .0 ∙ a .read-tree .kept .1 .1 .1 .1 .1 .0
 
-  returns-6 : lts.Need-returns-6 claims given-at reads.Post
-  returns-6 c =
+  returns-7 : lts.Need-returns-7 claims given-at reads.Post
+  returns-7 c =
       let b = c .before .before .before .before .before .before .before .before .before .before .before .before .before .before in
-      let a = b .before .before .before .before .before .before .before .before .before in
+      let a = b .before .before .before .before .before .before .before .before .before .before .before in
       level-two _ _ _ _ (level _ _ _ _ _ (a .before .before .before .before .before .before .before .test-head .ensures)
       (a .before .before .before .before .before .before .if1 .left)) _ _ _ (a .before .before .before .before .operands .ensures) _ _ _ (a .read-tree .ensures)
-      (a .before .before .before .if2 .left) (b .before .before .before .before .before .if3 .left) _ _ _ (b .read-tree2 .ensures)
-      (b .before .before .before .if4 .left) (c .before .before .before .before .before .before .before .before .before .before .if5 .left) _ _
-      (c .before .before .before .before .before .before .before .before .if6 .taken) (c .before .before .before .apply-two .ensures) (refl, refl, refl)
+      (a .before .before .before .if2 .left) (b .before .before .before .before .before .before .before .if3 .left) _ _ _ (b .read-tree2 .ensures)
+      (b .before .before .before .before .before .if4 .left) (c .before .before .before .before .before .before .before .before .before .before .if6 .left) _ _
+      (c .before .before .before .before .before .before .before .before .if7 .taken) (c .before .before .before .apply-two .ensures) (refl, refl, refl)
 
   sub-read-tree-3 : lts.Need-sub-read-tree-3 claims given-at reads.Post
   sub-read-tree-3 c =
       let b = c .before .before .before .before .before .before in
-      let a = b .before .before .before .before .before .before .before .before .before in
+      let a = b .before .before .before .before .before .before .before .before .before .before .before in
       omega (
         arith,
         some-depth _ ((level _ _ _ _ _ (a .before .before .before .before .before .before .before .test-head .ensures)
@@ -269,7 +300,7 @@ module _ (t : ℕ) where
   read-tree-requires-3 : lts.Need-read-tree-requires-3 claims given-at reads.Post
   read-tree-requires-3 c κs =
       let b = c .before .before .before .before .before .before .before .before in
-      let a = b .before .before .before .before .before .before .before .before .before in (
+      let a = b .before .before .before .before .before .before .before .before .before .before .before in (
         omega (
           arith,
           a .before .before .before .before .before .before .before .before .before .before .pre .0,
@@ -280,30 +311,30 @@ module _ (t : ℕ) where
         (omega arith, omega arith),
       )
 
-  same-length-11 : lts.Need-same-length-11 claims given-at reads.Post
-  same-length-11 c =
+  same-length-13 : lts.Need-same-length-13 claims given-at reads.Post
+  same-length-13 c =
       let d = c .before .before .before .before in
       let b = d .before .before .before .before .before .before .before .before .before in
-      let a = b .before .before .before .before .before .before .before .before .before in
+      let a = b .before .before .before .before .before .before .before .before .before .before .before in
       a .read-tree .kept .1 .1 .1 .1 .0
 
-  same-length-12 : lts.Need-same-length-12 claims given-at reads.Post
-  same-length-12 c =
+  same-length-14 : lts.Need-same-length-14 claims given-at reads.Post
+  same-length-14 c =
       let d = c .before .before .before .before in
       let b = d .before .before .before .before .before .before .before .before .before in
-      let a = b .before .before .before .before .before .before .before .before .before in
+      let a = b .before .before .before .before .before .before .before .before .before .before .before in
       a .read-tree .kept .1 .1 .1 .1 .1 .0
 
-  returns-7 : lts.Need-returns-7 claims given-at reads.Post
-  returns-7 c =
+  returns-8 : lts.Need-returns-8 claims given-at reads.Post
+  returns-8 c =
       let d = c .before .before .before .before in
       let b = d .before .before .before .before .before .before .before .before .before in
-      let a = b .before .before .before .before .before .before .before .before .before in
+      let a = b .before .before .before .before .before .before .before .before .before .before .before in
       level-third _ _ _ _ (level _ _ _ _ _ (a .before .before .before .before .before .before .before .test-head .ensures)
       (a .before .before .before .before .before .before .if1 .left)) _ _ _ (a .before .before .before .before .operands .ensures) _ _ _ (a .read-tree .ensures)
-      (a .before .before .before .if2 .left) (b .before .before .before .before .before .if3 .left) _ _ _ (b .read-tree2 .ensures)
-      (b .before .before .before .if4 .left) (d .before .before .before .before .before .if5 .left) _ _ _ (d .read-tree3 .ensures)
-      (d .before .before .before .if6 .left) (c .if7 .taken)
+      (a .before .before .before .if2 .left) (b .before .before .before .before .before .before .before .if3 .left) _ _ _ (b .read-tree2 .ensures)
+      (b .before .before .before .before .before .if4 .left) (d .before .before .before .before .before .if6 .left) _ _ _ (d .read-tree3 .ensures)
+      (d .before .before .before .if7 .left) (c .if8 .taken)
 
   slice-aggregate-apply-three : lts.Need-slice-aggregate-apply-three claims given-at reads.Post
   slice-aggregate-apply-three c = search needs
@@ -319,53 +350,53 @@ module _ (t : ℕ) where
 
   apply-three-requires : lts.Need-apply-three-requires claims given-at reads.Post
   apply-three-requires c κs = (
-    read-sound _ _ _ _ (c .before .before .before .before .before .before .before .before .before .before .before .before .before .before .before .before .before .before .before .before .before .before .before .before .before .before .before .before .before .read-tree .ensures)
-        (c .before .before .before .before .before .before .before .before .before .before .before .before .before .before .before .before .before .before .before .before .before .before .before .before .before .if3 .left),
+    read-sound _ _ _ _ (c .before .before .before .before .before .before .before .before .before .before .before .before .before .before .before .before .before .before .before .before .before .before .before .before .before .before .before .before .before .before .before .read-tree .ensures)
+        (c .before .before .before .before .before .before .before .before .before .before .before .before .before .before .before .before .before .before .before .before .before .before .before .before .before .before .before .if3 .left),
     read-sound _ _ _ _ (c .before .before .before .before .before .before .before .before .before .before .before .before .before .before .before .before .before .before .before .before .read-tree2 .ensures)
-        (c .before .before .before .before .before .before .before .before .before .before .before .before .before .before .before .before .if5 .left),
+        (c .before .before .before .before .before .before .before .before .before .before .before .before .before .before .before .before .if6 .left),
     read-sound
         _ _ _ _ (c .before .before .before .before .before .before .before .before .before .before .before .read-tree3 .ensures)
-        (c .before .before .before .before .before .before .before .if7 .left),
+        (c .before .before .before .before .before .before .before .if8 .left),
     omega (
       arith,
-      c .before .before .before .before .before .before .before .before .before .before .before .before .before .before .before .before .before .before .before .before .before .before .before .before .before .before .before .before .before .read-tree .kept .1 .1 .1 .1
+      c .before .before .before .before .before .before .before .before .before .before .before .before .before .before .before .before .before .before .before .before .before .before .before .before .before .before .before .before .before .before .before .read-tree .kept .1 .1 .1 .1
           .0,
-      c .before .before .before .before .before .before .before .before .before .before .before .before .before .before .before .before .before .before .before .before .before .before .before .before .before .before .before .before .before .before .before .before .before .before .before .before .before .before .before .pre .1
+      c .before .before .before .before .before .before .before .before .before .before .before .before .before .before .before .before .before .before .before .before .before .before .before .before .before .before .before .before .before .before .before .before .before .before .before .before .before .before .before .before .before .pre .1
           .0,
     ),
     omega (
       arith,
-      c .before .before .before .before .before .before .before .before .before .before .before .before .before .before .before .before .before .before .before .before .before .before .before .before .before .before .before .before .before .read-tree .kept .1 .1 .1 .1 .1
+      c .before .before .before .before .before .before .before .before .before .before .before .before .before .before .before .before .before .before .before .before .before .before .before .before .before .before .before .before .before .before .before .read-tree .kept .1 .1 .1 .1 .1
           .0,
-      c .before .before .before .before .before .before .before .before .before .before .before .before .before .before .before .before .before .before .before .before .before .before .before .before .before .before .before .before .before .before .before .before .before .before .before .before .before .before .before .pre .1
+      c .before .before .before .before .before .before .before .before .before .before .before .before .before .before .before .before .before .before .before .before .before .before .before .before .before .before .before .before .before .before .before .before .before .before .before .before .before .before .before .before .before .pre .1
           .1,
     ),
   )
 
-  same-length-13 : lts.Need-same-length-13 claims given-at reads.Post
-  same-length-13 c =
+  same-length-15 : lts.Need-same-length-15 claims given-at reads.Post
+  same-length-15 c =
       let d = c .before .before .before .before .before .before .before .before .before .before .before .before .before .before in
       let b = d .before .before .before .before .before .before .before .before .before in
-      let a = b .before .before .before .before .before .before .before .before .before in
+      let a = b .before .before .before .before .before .before .before .before .before .before .before in
       c .before .before .apply-three .kept .1 .0 ∙ a .read-tree .kept .1 .1 .1 .1 .0
 
-  same-length-14 : lts.Need-same-length-14 claims given-at reads.Post
-  same-length-14 c =
+  same-length-16 : lts.Need-same-length-16 claims given-at reads.Post
+  same-length-16 c =
       let d = c .before .before .before .before .before .before .before .before .before .before .before .before .before .before in
       let b = d .before .before .before .before .before .before .before .before .before in
-      let a = b .before .before .before .before .before .before .before .before .before in
+      let a = b .before .before .before .before .before .before .before .before .before .before .before in
       c .before .before .apply-three .kept .1 .1 .0 ∙ a .read-tree .kept .1 .1 .1 .1 .1 .0
 
-  returns-8 : lts.Need-returns-8 claims given-at reads.Post
-  returns-8 c =
+  returns-9 : lts.Need-returns-9 claims given-at reads.Post
+  returns-9 c =
       let d = c .before .before .before .before .before .before .before .before .before .before .before .before .before .before in
       let b = d .before .before .before .before .before .before .before .before .before in
-      let a = b .before .before .before .before .before .before .before .before .before in
+      let a = b .before .before .before .before .before .before .before .before .before .before .before in
       level-three _ _ _ _ (level _ _ _ _ _ (a .before .before .before .before .before .before .before .test-head .ensures)
       (a .before .before .before .before .before .before .if1 .left)) _ _ _ (a .before .before .before .before .operands .ensures) _ _ _ (a .read-tree .ensures)
-      (a .before .before .before .if2 .left) (b .before .before .before .before .before .if3 .left) _ _ _ (b .read-tree2 .ensures)
-      (b .before .before .before .if4 .left) (d .before .before .before .before .before .if5 .left) _ _ _ (d .read-tree3 .ensures)
-      (d .before .before .before .if6 .left) _ _ (c .before .before .before .before .before .before .before .before .before .before .if7 .left)
+      (a .before .before .before .if2 .left) (b .before .before .before .before .before .before .before .if3 .left) _ _ _ (b .read-tree2 .ensures)
+      (b .before .before .before .before .before .if4 .left) (d .before .before .before .before .before .if6 .left) _ _ _ (d .read-tree3 .ensures)
+      (d .before .before .before .if7 .left) _ _ (c .before .before .before .before .before .before .before .before .before .before .if8 .left)
       (c .before .before .apply-three .ensures) (refl, refl, refl)
 
 pub +read-tree-spec : {M : Type 1} → statement M
@@ -389,31 +420,37 @@ pub +read-tree-spec : {M : Type 1} → statement M
     (same-length-5 t)
     (same-length-6 t)
     (returns-4 t)
+    (ends-in-leaf-requires t)
+    (sub-with-leaf t)
+    (with-leaf-requires t)
+    (same-length-7 t)
+    (same-length-8 t)
+    (returns-5 t)
     (sub-read-tree-2 t)
     (slice-aggregate-read-tree t)
     (slice-aggregate-read-tree-2 t)
     (read-tree-requires-2 t)
-    (same-length-7 t)
-    (same-length-8 t)
-    (returns-5 t)
-    (slice-aggregate-apply-two t)
-    (slice-aggregate-apply-two-2 t)
-    (apply-two-requires t)
     (same-length-9 t)
     (same-length-10 t)
     (returns-6 t)
+    (slice-aggregate-apply-two t)
+    (slice-aggregate-apply-two-2 t)
+    (apply-two-requires t)
+    (same-length-11 t)
+    (same-length-12 t)
+    (returns-7 t)
     (sub-read-tree-3 t)
     (slice-aggregate-read-tree-3 t)
     (slice-aggregate-read-tree-4 t)
     (read-tree-requires-3 t)
-    (same-length-11 t)
-    (same-length-12 t)
-    (returns-7 t)
+    (same-length-13 t)
+    (same-length-14 t)
+    (returns-8 t)
     (slice-aggregate-apply-three t)
     (slice-aggregate-apply-three-2 t)
     (slice-aggregate-apply-three-3 t)
     (slice-aggregate-apply-three-4 t)
     (apply-three-requires t)
-    (same-length-13 t)
-    (same-length-14 t)
-    (returns-8 t)
+    (same-length-15 t)
+    (same-length-16 t)
+    (returns-9 t)
