@@ -40,7 +40,8 @@ use Rattle.candidates.proofs.Trials.{place-rule}
 -- the letters in the order of the rule are all its letters
 order-all : (P : ℕ → Type 0) (r : ℕ) → T (isRule r) → (w : List ℕ) → length w ≡ ruleLetters r → All P (inRuleOrder r w) → All P w
 unfolding inRuleOrder ruleLetters
-order-all P = by-rule (λ (r : ℕ). (w : List ℕ) → length w ≡ ruleLetters r → All P (inRuleOrder r w) → All P w) (λ w e h. h) (λ w e h. h) five (λ w e h. h) (λ w e h. h)
+order-all P = by-rule (λ (r : ℕ). (w : List ℕ) → length w ≡ ruleLetters r → All P (inRuleOrder r w) → All P w) (λ w e h. h) (λ w e h. h) five (λ w e h. h)
+    (λ w e h. h)
   where
     five : (w : List ℕ) → length w ≡ 5 → All P (getD w 0 0 ∷ getD w 1 0 ∷ getD w 2 0 ∷ getD w 4 0 ∷ getD w 3 0 ∷ []) → All P w
     five (a ∷ b ∷ c ∷ d ∷ g ∷ []) e h = (h .0, (h .1 .0, (h .1 .1 .0, (h .1 .1 .1 .1 .0, (h .1 .1 .1 .0, tt)))))
@@ -97,11 +98,13 @@ module _ (marks : List ℕ) (t : S.Term) (k : ℕ) (scalars : all isVectors (lef
       let a = step-admitted table f (candidate t k r j c) g h in
       let ls : All (Known table vector) (inRuleOrder r (taken j l ++ leftOver j l)) = letters-known table vector (inRuleOrder r (taken j l ++ leftOver j l))
       (tested (testLetters table vector (inRuleOrder r (taken j l ++ leftOver j l))) (testTerm table (candidate t k r j c .m)) tt (a .known) .0) in
-      let long : length (taken j l ++ leftOver j l) ≡ ruleLetters r = length-append (taken j l) (leftOver j l) ∙ taken-left-long j l ∙ candidate-opens t k r j can .0 in
+      let long : length (taken j l ++ leftOver j l) ≡ ruleLetters r = length-append (taken j l) (leftOver j l) ∙ taken-left-long j l
+      ∙ candidate-opens t k r j can .0 in
       let split = all-split (Known table vector) (taken j l) (leftOver j l) (order-all (Known table vector) r rule (taken j l ++ leftOver j l) long ls) in
       let inPool : All (Known table vector) l = both-all (Known table vector) j l (split .0) (split .1) in
       let left : All (Known table vector) (joined (leftOver k (t .factors)) ++ (if eqb (ruleKind r) vector then t .part else [])) =
-      reordered-all (Known table vector) (reordered-back (reordered-sorted order (joined (leftOver k (t .factors)) ++ (if eqb (ruleKind r) vector then t .part else [])))) inPool in
+      reordered-all (Known table vector) (reordered-back (reordered-sorted order (joined (leftOver k (t .factors)) ++ (if eqb (ruleKind r) vector then t .part
+      else [])))) inPool in
       absurd (subst T (sym (known-vectors table (leftOver k (t .factors)) (left-all (FactorKnown table) k (t .factors) (known .factors))
       (all-split (Known table vector) (joined (leftOver k (t .factors))) (if eqb (ruleKind r) vector then t .part else []) left .0)) ∙ scalars) tt)
 
@@ -111,10 +114,12 @@ module _ (marks : List ℕ) (t : S.Term) (k : ℕ) where
   -- other than the rule's letters
   count-hopeless : (kind r j : ℕ) → (length (lettersLeft t k r) ≡ ruleLetters r → ⊥) → Hopeless marks kind t k r j
   unfolding Hopeless pool lettersLeft
-  count-hopeless kind r j h hk hj table f c g shape cover e known can ex s = absurd (h (sym (O.length-sorted order (lettersLeft t k r)) ∙ candidate-opens t k r j can .0))
+  count-hopeless kind r j h hk hj table f c g shape cover e known can ex s = absurd (h (sym (O.length-sorted order (lettersLeft t k r))
+      ∙ candidate-opens t k r j can .0))
 
   -- by the count
-  pub left-hopeless : (kind r j n : ℕ) → T (isRule r) → LeftBy (t .factors) k n → (n + length (if eqb (ruleKind r) vector then t .part else []) ≡ ruleLetters r → ⊥) → Hopeless marks kind t k r j
+  pub left-hopeless : (kind r j n : ℕ) → T (isRule r) → LeftBy (t .factors) k n → (n + length (if eqb (ruleKind r) vector then t .part else []) ≡ ruleLetters r
+      → ⊥) → Hopeless marks kind t k r j
   unfolding lettersLeft
   left-hopeless kind r j n rule w h = go (all isVectors (leftOver k (t .factors))) refl
     where
@@ -138,12 +143,19 @@ kinds-hopeless marks t k kind r j z v hk hj table f c g shape cover e known can 
 -- ════ the places of such a mask or rule
 
 -- no rule takes so many letters
-pub many-hopeless : (marks : List ℕ) (kind : ℕ) (t : S.Term) (k n : ℕ) → LeftBy (t .factors) k n → 6 < n → (p : ℕ) → p < 320 → Hopeless marks kind t k (p / 64 + 1) (p % 64)
+pub many-hopeless : (marks : List ℕ) (kind : ℕ) (t : S.Term) (k n : ℕ) → LeftBy (t .factors) k n → 6 < n → (p : ℕ) → p < 320
+    → Hopeless marks kind t k (p / 64 + 1) (p % 64)
 many-hopeless marks kind t k n v h p i =
-    left-hopeless marks t k kind (p / 64 + 1) (p % 64) n (place-rule (p / 64) (omega arith)) v (λ q. N.lt-irrefl 6 (omega (arith, q, h, few-letters (p / 64 + 1))))
+    left-hopeless marks t k kind (p / 64 + 1) (p % 64) n (place-rule (p / 64) (omega arith)) v (λ q. N.lt-irrefl 6 (omega (
+      arith,
+      q,
+      h,
+      few-letters (p / 64 + 1),
+    )))
 
 -- the rule is ruled out
-pub ruled-hopeless : (marks : List ℕ) (kind : ℕ) (t : S.Term) (k n r : ℕ) → T (isRule r) → LeftBy (t .factors) k n → RuledOut kind n (t .part) r → (pick : ℕ) → Hopeless marks kind t k r pick
+pub ruled-hopeless : (marks : List ℕ) (kind : ℕ) (t : S.Term) (k n r : ℕ) → T (isRule r) → LeftBy (t .factors) k n → RuledOut kind n (t .part) r
+    → (pick : ℕ) → Hopeless marks kind t k r pick
 unfolding RuledOut
 ruled-hopeless marks kind t k n r rule v (inl w) pick = kinds-hopeless marks t k kind r pick (w .0) (w .1)
 ruled-hopeless marks kind t k n r rule v (inr h) pick = left-hopeless marks t k kind r pick n rule v h

@@ -57,11 +57,21 @@ factor-alive c g z h e q = h (neg-zero z (sym e ∙ ap (λ (y : ℤ). y *ℤ g) 
 -- ════ the step with the coefficient 1
 
 -- it is in shape
-pub unit-step-valid : (t : Term) (rule : ℕ) (o : Opening) (letters : List ℕ) → T (isRule rule) → SomeOpened t rule o → StepValid (record { rule = rule; letters = letters; m = o .m })
+pub unit-step-valid : (t : Term) (rule : ℕ) (o : Opening) (letters : List ℕ) → T (isRule rule) → SomeOpened t rule o → StepValid (record {
+  rule =
+      rule;
+  letters = letters;
+  m = o .m;
+})
 unit-step-valid t rule o letters r s = record { rule = r; m = record { counted = s .opened .m .counted; inShape = s .opened .passes .inShape } }
 
 -- and fits
-pub unit-step-fits : (t : Term) (rule : ℕ) (o : Opening) (letters : List ℕ) → SomeOpened t rule o → StepFits (record { rule = rule; letters = letters; m = o .m })
+pub unit-step-fits : (t : Term) (rule : ℕ) (o : Opening) (letters : List ℕ) → SomeOpened t rule o → StepFits (record {
+  rule = rule;
+  letters = letters;
+  m =
+      o .m;
+})
 unfolding stepOf
 unit-step-fits t rule o letters s = record { kind = s .kind; passes = s .opened .passes .fits (take (ruleLetters rule) letters) }
 
@@ -76,17 +86,34 @@ module _ (marks : List ℕ) (t : Term) (rule : ℕ) (o : Opening) (j : ℕ) (p :
     unfolding isCandidate picks
     picked-there h =
         let l : List ℕ = pool (termOf t) k rule in
-        w .is ∙ ap (λ (v : List ℕ). picks rule v j) (opened .letters) ∙ is-true _ (candidate-picks (eqb (length l) (ruleLetters rule)) (eqb (length (taken j l)) (blockSize rule)) (ascend ltb (taken j l)) (ascend ltb (leftOver j l)) (blockIsFirst rule (taken j l) (leftOver j l)) h)
+        w .is ∙ ap (λ (v : List ℕ). picks rule v j) (opened .letters) ∙ is-true _ (candidate-picks (eqb (length l) (ruleLetters rule))
+        (eqb (length (taken j l)) (blockSize rule)) (ascend ltb (taken j l)) (ascend ltb (leftOver j l)) (blockIsFirst rule (taken j l) (leftOver j l)) h)
 
-    letters-are : p .fits ≡ true → inRuleOrder rule (taken j (pool (termOf t) k rule) ++ leftOver j (pool (termOf t) k rule)) ≡ take (ruleLetters rule) (p .letters)
+    letters-are : p .fits ≡ true → inRuleOrder rule (taken j (pool (termOf t) k rule) ++ leftOver j (pool (termOf t) k rule)) ≡ take (ruleLetters rule)
+        (p .letters)
     letters-are e = ap (λ (v : List ℕ). inRuleOrder rule (taken j v ++ leftOver j v)) (sym (opened .letters)) ∙ sym (w .letters e)
 
     -- with any coefficient
-    step-is : (c : ℤ) → p .fits ≡ true → candidate (termOf t) k rule j c ≡ stepOf (record { rule = rule; letters = p .letters; m = record { coef = c; factors = o .m .factors; «factor_count» = o .m .«factor_count»; part = o .m .part } })
+    step-is : (c : ℤ) → p .fits ≡ true → candidate (termOf t) k rule j c ≡ stepOf (record {
+      rule = rule;
+      letters = p .letters;
+      m = record {
+        coef =
+            c;
+        factors = o .m .factors;
+        «factor_count» = o .m .«factor_count»;
+        part = o .m .part;
+      };
+    })
     unfolding candidate stepOf termOf multiplier
     step-is c e = λ i. record { rule = rule; letters = letters-are e i; m = withCoef c (sym (opened .m .is) i) }
 
-    gain-is : (g : ℤ) → p .fits ≡ true → g ≡ coeff (monomial (termOf t)) (gather (stepTerms (stepOf (record { rule = rule; letters = p .letters; m = o .m })))) → g ≡ gain (termOf t) k rule j
+    gain-is : (g : ℤ) → p .fits ≡ true → g ≡ coeff (monomial (termOf t)) (gather (stepTerms (stepOf (record {
+      rule = rule;
+      letters = p .letters;
+      m =
+          o .m;
+    })))) → g ≡ gain (termOf t) k rule j
     unfolding gain candidate stepOf
     gain-is g e h =
         h ∙ (λ i. coeff (monomial (termOf t)) (gather (stepTerms (record { rule = rule; letters = sym (letters-are e) i; m = opened .m .is i }))))
@@ -100,24 +127,38 @@ module _ (marks : List ℕ) (t : Term) (rule : ℕ) (o : Opening) (j : ℕ) (p :
   }
 
   -- surely no fewer terms, if M has a coefficient of the size
-  long-hopeless : (size kind k : ℕ) (s : Step) → s ≡ record { rule = rule; letters = p .letters; m = o .m } → Opened kind t k rule o → TermValid t → p .fits ≡ true → NotShorter marks size (stepOf s)
+  long-hopeless : (size kind k : ℕ) (s : Step) → s ≡ record { rule = rule; letters = p .letters; m = o .m } → Opened kind t k rule o → TermValid t
+      → p .fits ≡ true → NotShorter marks size (stepOf s)
       → ((c : ℤ) → c *ℤ gain (termOf t) k rule j ≡ negℤ (t .coef) → Sized size c) → Hopeless marks kind (termOf t) k rule j
   unfolding Hopeless NotShorter stepOf termOf
   long-hopeless size kind k s es opened valid fits long sized hk hj table f c g shape cover q known can ex h =
       let a = step-admitted table f (candidate (termOf t) k rule j c) g h in
-      let reached = within-given (f .kind) (gather (f .terms ++ stepTerms (candidate (termOf t) k rule j c))) g (step-taken f (candidate (termOf t) k rule j c) g (a .takes) .gathers) in
+      let reached = within-given (f .kind) (gather (f .terms ++ stepTerms (candidate (termOf t) k rule j c))) g (step-taken f (candidate (termOf t) k rule j c)
+      g (a .takes) .gathers) in
       let alive : NonZero c = factor-alive c (gain (termOf t) k rule j) (t .coef) (term-opens (termOf t) (valid .inShape) .nonzero) ex in
-      let is : candidate (termOf t) k rule j c ≡ record { rule = rule; letters = take (ruleLetters rule) (p .letters); m = withCoef c (termOf (o .m)) } = step-is kind k opened c fits in
+      let is : candidate (termOf t) k rule j c ≡ record { rule = rule; letters = take (ruleLetters rule) (p .letters); m = withCoef c (termOf (o .m)) } =
+      step-is kind k opened c fits in
       subst (λ (l : List S.Term). length (f .terms) ≤ length l) (sym (ap (λ (g : S.Form). g .terms) (reached .is)))
       (subst (λ (u : R.Step). length (f .terms) ≤ length (gather (f .terms ++ stepTerms u))) (sym is)
-      (subst (λ (s : Step). length (f .terms) ≤ length (gather (f .terms ++ stepTerms (record { rule = s .rule; letters = take (ruleLetters (s .rule)) (s .letters); m = withCoef c (termOf (s .m)) })))) es (long c alive (sized c ex) f shape cover)))
+      (subst (λ (s : Step). length (f .terms) ≤ length (gather (f .terms ++ stepTerms (record {
+        rule = s .rule;
+        letters = take (ruleLetters (s .rule))
+            (s .letters);
+        m = withCoef c (termOf (s .m));
+      })))) es (long c alive (sized c ex) f shape cover)))
 
-  pub tried-long : (s : Step) → s ≡ record { rule = rule; letters = p .letters; m = o .m } → Counted (s .m) → TermValid t → p .fits ≡ true → NotShorter marks 0 (stepOf s) → Tried marks t rule o j (record { found = false; step = s })
+  pub tried-long : (s : Step) → s ≡ record { rule = rule; letters = p .letters; m = o .m } → Counted (s .m) → TermValid t → p .fits ≡ true
+      → NotShorter marks 0 (stepOf s) → Tried marks t rule o j (record { found = false; step = s })
   unfolding Settled Sized
-  tried-long s es counted valid fits long = record { is = λ kind k opened. inl (long-hopeless 0 kind k s es opened valid fits long (λ c ex. inl refl)); counted = counted }
+  tried-long s es counted valid fits long = record {
+    is = λ kind k opened. inl (long-hopeless 0 kind k s es opened valid fits long (λ c ex. inl refl));
+    counted
+        = counted;
+  }
 
   -- the quotient decides
-  module _ (q : Quotient) (g c : ℤ) (valid : TermValid t) (fits : p .fits ≡ true) (eg : g ≡ coeff (monomial (termOf t)) (gather (stepTerms (stepOf (record { rule = rule; letters = p .letters; m = o .m })))))
+  module _ (q : Quotient) (g c : ℤ) (valid : TermValid t) (fits : p .fits ≡ true) (eg : g ≡ coeff (monomial (termOf t))
+      (gather (stepTerms (stepOf (record { rule = rule; letters = p .letters; m = o .m })))))
       (ec : c ≡ negℤ (t .coef)) (d : Divided c g q) where
     alive : NonZero (t .coef)
     unfolding termOf
@@ -139,16 +180,28 @@ module _ (marks : List ℕ) (t : Term) (rule : ℕ) (o : Opening) (j : ℕ) (p :
         (I.*ℤ-comm g n ∙ ap (λ (z : ℤ). n *ℤ z) is ∙ e ∙ sym ec ∙ sym (d .product x) ∙ I.*ℤ-comm (q .value) g)
 
     -- M's coefficient has the size of the quotient, and with it the step surely leads to no fewer terms
-    pub tried-sized : (s : Step) (size : ℕ) → s ≡ record { rule = rule; letters = p .letters; m = o .m } → Counted (s .m) → size ≡ sizeMark (q .value) → NotShorter marks size (stepOf s)
+    pub tried-sized : (s : Step) (size : ℕ) → s ≡ record { rule = rule; letters = p .letters; m = o .m } → Counted (s .m) → size ≡ sizeMark (q .value)
+        → NotShorter marks size (stepOf s)
         → Tried marks t rule o j (record { found = false; step = s })
     unfolding Settled Sized
-    tried-sized s size es counted e long = record { is = λ kind k opened. inl (long-hopeless size kind k s es opened valid fits long (sized kind k opened (q .exact) refl)); counted = counted }
+    tried-sized s size es counted e long = record {
+      is = λ kind k opened. inl (long-hopeless size kind k s es opened valid fits long (sized kind k opened (q
+          .exact) refl));
+      counted = counted;
+    }
       where
-        sized : (kind k : ℕ) → Opened kind t k rule o → (b : Bool) → q .exact ≡ b → (n : ℤ) → n *ℤ gain (termOf t) k rule j ≡ negℤ (t .coef) → (size ≡ 0) ⊎ (size ≡ sizeMark n)
+        sized : (kind k : ℕ) → Opened kind t k rule o → (b : Bool) → q .exact ≡ b → (n : ℤ) → n *ℤ gain (termOf t) k rule j ≡ negℤ (t .coef)
+            → (size ≡ 0) ⊎ (size ≡ sizeMark n)
         sized kind k opened true x n ex = inr (e ∙ ap sizeMark (sym (one kind k opened x n ex)))
         sized kind k opened false x n ex = absurd (none kind k opened x n ex)
 
-    pub tried-by : (m : Term) → Counted (o .m) → m ≡ record { coef = q .value; factors = o .m .factors; «factor_count» = o .m .«factor_count»; part = o .m .part }
+    pub tried-by : (m : Term) → Counted (o .m) → m ≡ record {
+      coef = q .value;
+      factors = o .m .factors;
+      «factor_count» = o .m .«factor_count»;
+      part =
+          o .m .part;
+    }
         → Tried marks t rule o j (record { found = q .exact; step = record { rule = rule; letters = p .letters; m = m } })
     unfolding Settled Hopeless OnlyStep termOf
     tried-by m counted em = record {
@@ -156,7 +209,12 @@ module _ (marks : List ℕ) (t : Term) (rule : ℕ) (o : Opening) (j : ℕ) (p :
       counted = subst Counted (sym em) (record { few = counted .few; small = counted .small });
     }
       where
-        go : (kind k : ℕ) → Opened kind t k rule o → (b : Bool) → q .exact ≡ b → Settled marks kind (termOf t) k rule j b (record { rule = rule; letters = p .letters; m = m })
+        go : (kind k : ℕ) → Opened kind t k rule o → (b : Bool) → q .exact ≡ b → Settled marks kind (termOf t) k rule j b (record {
+          rule = rule;
+          letters =
+              p .letters;
+          m = m;
+        })
         go kind k opened true x = inr (
           refl,
           λ n can e. ap (candidate (termOf t) k rule j) (one kind k opened x n e) ∙ step-is kind k opened (q .value) fits
@@ -175,13 +233,15 @@ block-few r = go (eqb r 2) (eqb r 3)
     go false true = omega arith
     go false false = omega arith
 
-module _ (t : Term) (rule : ℕ) (o : Opening) (j kind k : ℕ) (opened : Opened kind t k rule o) (inside : j < 2 ^ ruleLetters rule) (can : T (isCandidate (termOf t) k rule j)) where
+module _ (t : Term) (rule : ℕ) (o : Opening) (j kind k : ℕ) (opened : Opened kind t k rule o) (inside : j < 2 ^ ruleLetters rule)
+    (can : T (isCandidate (termOf t) k rule j)) where
   -- another number of letters than the block has
   wrong-count : (digits : List ℕ) (block : ℕ) → digits ≡ bitDigits 0 64 → block ≡ blockSize rule → (getD digits j 0 ≡ 48 + block → ⊥) → ⊥
   wrong-count digits block e eb h =
       let l : List ℕ = pool (termOf t) k rule in
       let w = candidate-opens (termOf t) k rule j can in
-      h (taken-counted digits j l e (omega (arith, w .0, few-letters rule)) (subst (λ (n : ℕ). j < 2 ^ n) (sym (w .0)) inside) ∙ ap (λ (n : ℕ). 48 + n) (w .1 ∙ sym eb))
+      h (taken-counted digits j l e (omega (arith, w .0, few-letters rule)) (subst (λ (n : ℕ). j < 2 ^ n) (sym (w .0)) inside) ∙ ap (λ (n : ℕ). 48 + n)
+      (w .1 ∙ sym eb))
 
   -- in rule 5 the first letter left
   first-left : rule ≡ 5 → getD (o .pool) 0 0 < getD (o .pool) 1 0 → j % 2 ≡ 0 → ⊥
@@ -191,13 +251,16 @@ module _ (t : Term) (rule : ℕ) (o : Opening) (j kind k : ℕ) (opened : Opened
       let w = candidate-opens (termOf t) k rule j can in
       let five : ruleLetters rule ≡ 6 = rw e in
       let three : length (taken j l) ≡ 3 = w .1 ∙ rw e in
-      let same : (i : ℕ) → i < 6 → getD (o .pool) i 0 ≡ getD l i 0 = λ i h. sym (getD-take (ruleLetters rule) (o .pool) i 0 (omega (arith, five))) ∙ ap (λ (l : List ℕ). getD l i 0) (opened .letters) in
+      let same : (i : ℕ) → i < 6 → getD (o .pool) i 0 ≡ getD l i 0 = λ i h. sym (getD-take (ruleLetters rule) (o .pool) i 0 (omega (arith, five)))
+      ∙ ap (λ (l : List ℕ). getD l i 0) (opened .letters) in
       let more : getD (leftOver j l) 0 0 < getD (taken j l) 0 0 =
-      left-first l j (O.asc-sort nat-laws (joined (leftOver k (termOf t .factors)) ++ (if eqb (ruleKind rule) vector then termOf t .part else []))) even (omega (arith, less, same 0 (omega arith), same 1 (omega arith))) (omega (arith, three)) in
+      left-first l j (O.asc-sort nat-laws (joined (leftOver k (termOf t .factors)) ++ (if eqb (ruleKind rule) vector then termOf t .part else []))) even (omega
+      (arith, less, same 0 (omega arith), same 1 (omega arith))) (omega (arith, three)) in
       let first : T (leb (getD (taken j l) 0 0) (getD (leftOver j l) 0 0)) = rw (eq-eqb rule 5 e) at (w .2) in
       N.lt-irrefl (getD (leftOver j l) 0 0) (omega (arith, more, leb→le (getD (taken j l) 0 0) (getD (leftOver j l) 0 0) first))
 
-  pub takes-no-block : (digits : List ℕ) (block : ℕ) (b : Bool) → digits ≡ bitDigits 0 64 → block ≡ blockSize rule → (b ≡ false → (rule ≡ 5) × (getD (o .pool) 0 0 < getD (o .pool) 1 0))
+  pub takes-no-block : (digits : List ℕ) (block : ℕ) (b : Bool) → digits ≡ bitDigits 0 64 → block ≡ blockSize rule → (b ≡ false → (rule ≡ 5)
+      × (getD (o .pool) 0 0 < getD (o .pool) 1 0))
       → (getD digits j 0 ≡ 48 + block → ⊥) ⊎ ((b ≡ false) × (j % 2 ≡ 0)) → ⊥
   takes-no-block digits block b e eb five (inl h) = wrong-count digits block e eb h
   takes-no-block digits block b e eb five (inr h) = let w = five (h .0) in first-left (w .0) (w .1) (h .1)
@@ -215,7 +278,8 @@ module _ (marks : List ℕ) (t : Term) (rule : ℕ) (o : Opening) (from : ℕ) w
 
   module _ (j : ℕ) (w : PicksPassed marks t rule o from j) (here : from ≤ j) where
     -- no candidate
-    pub picks-skipped : ((kind k : ℕ) → Opened kind t k rule o → j < 2 ^ ruleLetters rule → T (isCandidate (termOf t) k rule j) → ⊥) → PicksPassed marks t rule o from (j + 1)
+    pub picks-skipped : ((kind k : ℕ) → Opened kind t k rule o → j < 2 ^ ruleLetters rule → T (isCandidate (termOf t) k rule j) → ⊥)
+        → PicksPassed marks t rule o from (j + 1)
     unfolding PicksPassed Hopeless
     picks-skipped h kind k pick op a b = go (ltb pick j) refl
       where
@@ -233,7 +297,8 @@ module _ (marks : List ℕ) (t : Term) (rule : ℕ) (o : Opening) (from : ℕ) w
         where
           go : (x : Bool) → ltb pick j ≡ x → Settled marks kind (termOf t) k rule pick (r .found) (r .step)
           go true e = inl (w kind k pick op a (ltb-true pick j e))
-          go false e = let same : j ≡ pick = omega (arith, ltb-false pick j e) in subst (λ (i : ℕ). Settled marks kind (termOf t) k rule i (r .found) (r .step)) same (v .is kind k op)
+          go false e = let same : j ≡ pick = omega (arith, ltb-false pick j e) in subst (λ (i : ℕ). Settled marks kind (termOf t) k rule i (r .found)
+              (r .step)) same (v .is kind k op)
 
       pub picks-more : r .found ≡ false → PicksPassed marks t rule o from (j + 1)
       unfolding PicksPassed Settled
@@ -251,7 +316,12 @@ module _ (marks : List ℕ) (t : Term) (rule : ℕ) (o : Opening) (from : ℕ) w
       }
 
     -- none is
-    pub picks-end : (s : Step) → Counted (s .m) → 2 ^ ruleLetters rule ≤ j → from < 64 → NextPick marks t rule o from (record { found = false; next = 64; step = s })
+    pub picks-end : (s : Step) → Counted (s .m) → 2 ^ ruleLetters rule ≤ j → from < 64 → NextPick marks t rule o from (record {
+      found = false;
+      next =
+          64;
+      step = s;
+    })
     unfolding PicksPassed Settled Hopeless
     picks-end s c e h = record {
       all = λ kind k pick op a b. inl (go kind k pick op a (ltb pick j) refl);
@@ -274,7 +344,8 @@ RulesPassed marks kind t k from at = (p : ℕ) → from ≤ p → p < at → Hop
 -- a place has a rule
 pub place-rule : (q : ℕ) → q < 5 → T (isRule (q + 1))
 unfolding isRule
-place-rule q h = let k : q + 1 ≤ 5 = omega arith in let g : 1 ≤ q + 1 = omega arith in and-both (leb 1 (q + 1)) (leb (q + 1) 5) (le→leb 1 (q + 1) g) (le→leb (q + 1) 5 k)
+place-rule q h = let k : q + 1 ≤ 5 = omega arith in let g : 1 ≤ q + 1 = omega arith in and-both (leb 1 (q + 1)) (leb (q + 1) 5) (le→leb 1 (q + 1) g)
+    (le→leb (q + 1) 5 k)
 
 pub rules-none : (marks : List ℕ) (kind : ℕ) (t : S.Term) (k from : ℕ) → RulesPassed marks kind t k from from
 unfolding RulesPassed
@@ -325,10 +396,16 @@ module _ (marks : List ℕ) (kind : ℕ) (t : Term) (k from at q : ℕ) (w : Rul
           inside pick i = omega (arith, n .whole f)
 
       -- one is
-      pub rules-found : from ≤ at → at < 320 → r .found ≡ true → NextOfMask marks kind (termOf t) k from (record { found = true; next = q * 64 + r .next; step = r .step })
+      pub rules-found : from ≤ at → at < 320 → r .found ≡ true → NextOfMask marks kind (termOf t) k from (record {
+        found = true;
+        next =
+            q * 64 + r .next;
+        step = r .step;
+      })
       unfolding RulesPassed Settled
       rules-found h i f = record {
-        all = by-opening (λ u j. Settled marks kind (termOf t) k u j true (r .step)) from at q (q * 64 + r .next) eq (omega (arith, n .inside)) (λ p a i. inl (w p a i))
+        all = by-opening (λ u j. Settled marks kind (termOf t) k u j true (r .step)) from at q (q * 64 + r .next) eq (omega (arith, n .inside))
+            (λ p a i. inl (w p a i))
             (λ pick a i. ⊎-elim inl (λ x. inr (refl, x .1)) (n .all kind k pick opened-there a (inside pick i)));
         counted = n .counted;
         forward = omega (arith, n .forward);
@@ -340,7 +417,8 @@ module _ (marks : List ℕ) (kind : ℕ) (t : Term) (k from at q : ℕ) (w : Rul
           inside pick i = omega arith
 
 -- all places of the mask passed
-pub rules-end : (marks : List ℕ) (kind : ℕ) (t : S.Term) (k from at : ℕ) (s : Step) → Counted (s .m) → RulesPassed marks kind t k from at → 320 ≤ at → from < 320
+pub rules-end : (marks : List ℕ) (kind : ℕ) (t : S.Term) (k from at : ℕ) (s : Step) → Counted (s .m) → RulesPassed marks kind t k from at → 320 ≤ at
+    → from < 320
     → NextOfMask marks kind t k from (record { found = false; next = 320; step = s })
 unfolding RulesPassed Settled
 rules-end marks kind t k from at s counted w h g = record {
@@ -395,17 +473,24 @@ module _ (marks : List ℕ) (kind : ℕ) (t : S.Term) (from k at : ℕ) (w : Pla
         (λ p a b. ⊎-elim (λ x. x) (λ x. absurd (subst T (sym (x .0) ∙ f) tt)) (n .all p a (omega (arith, n .whole f)))) p a (omega arith)
 
     -- something is
-    pub mask-found : from ≤ k * 320 + at → k < 128 → r .found ≡ true → NextPlace marks kind t from (record { found = true; next = k * 320 + r .next; step = r .step })
+    pub mask-found : from ≤ k * 320 + at → k < 128 → r .found ≡ true → NextPlace marks kind t from (record {
+      found = true;
+      next = k * 320 + r .next;
+      step =
+          r .step;
+    })
     unfolding PlacesPassed Settled
     mask-found h g f = record {
-      all = by-mask (λ m u j. Settled marks kind t m u j true (r .step)) from k at (r .next) (n .inside) (λ p a i. inl (w p a i)) (λ p a i. ⊎-elim inl (λ x. inr (refl, x .1)) (n .all p a i));
+      all = by-mask (λ m u j. Settled marks kind t m u j true (r .step)) from k at (r .next) (n .inside) (λ p a i. inl (w p a i))
+          (λ p a i. ⊎-elim inl (λ x. inr (refl, x .1)) (n .all p a i));
       counted = n .counted;
       forward = omega (arith, n .forward);
       inside = omega (arith, n .inside);
     }
 
 -- all places passed
-pub places-end : (marks : List ℕ) (kind : ℕ) (t : Term) (from k at end : ℕ) (s : Step) → Counted (s .m) → PlacesPassed marks kind (termOf t) from (k * 320 + at) → length (termOf t .factors) ≡ t .«factor_count»
+pub places-end : (marks : List ℕ) (kind : ℕ) (t : Term) (from k at end : ℕ) (s : Step) → Counted (s .m)
+    → PlacesPassed marks kind (termOf t) from (k * 320 + at) → length (termOf t .factors) ≡ t .«factor_count»
     → end ≡ 2 ^ t .«factor_count» → end ≤ k → from < 40960 → NextPlace marks kind (termOf t) from (record { found = false; next = 40960; step = s })
 unfolding PlacesPassed Settled Hopeless maskOf
 places-end marks kind t from k at end s counted w long e h g = record {

@@ -27,12 +27,14 @@ use Rattle.marks.specs.Marks.{Covering}
 
 -- ════ one candidate
 
--- at every form of the kind whose terms the marks cover, with the term's letters in the table, the candidate whose M takes the term away exactly is no admissible step to fewer terms
+-- at every form of the kind whose terms the marks cover, with the term's letters in the table, the candidate whose M takes the term away exactly is no
+-- admissible step to fewer terms
 unfoldable pub Hopeless : (marks : List ℕ) (kind : ℕ) (t : S.Term) (mask rule pick : ℕ) → Type 0
 Hopeless marks kind t k r j =
     k < 2 ^ length (t .factors) → j < 2 ^ ruleLetters r
     → (table : List ℕ) (f : S.Form) (c : ℤ) (reached : S.Form)
-    → FormInShape f → Covering marks (f .terms) → f .kind ≡ kind → MonomialKnown table (monomial t) → T (isCandidate t k r j) → c *ℤ gain t k r j ≡ negℤ (t .coef) → stepAt table f (candidate t k r j c) ≡ given reached
+    → FormInShape f → Covering marks (f .terms) → f .kind ≡ kind → MonomialKnown table (monomial t) → T (isCandidate t k r j)
+    → c *ℤ gain t k r j ≡ negℤ (t .coef) → stepAt table f (candidate t k r j c) ≡ given reached
     → length (f .terms) ≤ length (reached .terms)
 
 -- the candidate is this step and no other
@@ -64,7 +66,8 @@ pub record NextPick (marks : List ℕ) (t : Term) (rule : ℕ) (o : Opening) (fr
   pub inside : r .next ≤ 64
   pub whole : r .found ≡ false → r .next ≡ 64
 
--- no candidate of the rule at a form of the kind, where the mask leaves so many letters: the rule is one of vectors and the form is not, or it takes another number
+-- no candidate of the rule at a form of the kind, where the mask leaves so many letters: the rule is one of vectors and the form is not, or it takes another
+-- number
 unfoldable pub RuledOut : (kind left : ℕ) (part : List ℕ) (rule : ℕ) → Type 0
 RuledOut kind n p r = ((kind ≡ scalar) × (ruleKind r ≡ vector)) ⊎ (n + length (if eqb (ruleKind r) vector then p else []) ≡ ruleLetters r → ⊥)
 

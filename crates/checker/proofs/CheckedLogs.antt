@@ -53,7 +53,8 @@ module _ (table s : List ℕ) (bad : ℕ) (tb : testOf bad ≡ testTable table) 
         first-letters h = sym (by-log ∙ ap (λ (t : Test). atStep 0 t (λ _. behindFirst)) (sym tr ∙ test-refused r h))
 
         module _ (zr : r ≡ 0) (d : Refusal) (td : StepsTested table q d) where
-          by-steps : checkCall table s ≡ foundOf (d .number) (d .step) (atStep (length (stepsOf q) + 1) (testTerms table (termsOf g)) λ _. replay log 1 (formOf f) (stepsOf q))
+          by-steps : checkCall table s ≡ foundOf (d .number) (d .step) (atStep (length (stepsOf q) + 1)
+              (testTerms table (termsOf g)) λ _. replay log 1 (formOf f) (stepsOf q))
           by-steps =
               by-log ∙ ap (λ (t : Test). atStep 0 t (λ _. behindFirst)) (sym tr ∙ test-passed r zr)
               ∙ td .is (atStep (length (stepsOf q) + 1) (testTerms table (termsOf g)) λ _. replay log 1 (formOf f) (stepsOf q))
@@ -65,7 +66,8 @@ module _ (table s : List ℕ) (bad : ℕ) (tb : testOf bad ≡ testTable table) 
           module _ (zd : d .number ≡ 0) (n : ℕ) (long : length (stepsOf q) ≡ n) (l : ℕ) (tl : testOf l ≡ testTerms table (termsOf g)) where
             by-last : checkCall table s ≡ atStep (n + 1) (testTerms table (termsOf g)) (λ _. replay log 1 (formOf f) (stepsOf q))
             unfolding foundOf
-            by-last = by-steps ∙ rw (eq-eqb (d .number) 0 zd) (ap (λ (m : ℕ). atStep (m + 1) (testTerms table (termsOf g)) (λ _. replay log 1 (formOf f) (stepsOf q))) long)
+            by-last = by-steps ∙ rw (eq-eqb (d .number) 0 zd) (ap (λ (m : ℕ). atStep (m + 1) (testTerms table (termsOf g)) (λ _. replay log 1 (formOf f)
+                (stepsOf q))) long)
 
             pub last-letters : (l ≡ 0 → ⊥) → refusedAt l (n + 1) ≡ checkCall table s
             last-letters h = sym (by-last ∙ ap (λ (t : Test). atStep (n + 1) t (λ _. replay log 1 (formOf f) (stepsOf q))) (sym tl ∙ test-refused l h))
@@ -81,7 +83,8 @@ module _ (table s : List ℕ) (bad : ℕ) (tb : testOf bad ≡ testTable table) 
               module _ (zp : p .number ≡ 0) (c : q .count ≡ n) where
                 by-ends : checkCall table s ≡ (if p .same then accepted a b (length (stepsOf q)) else refusedAt 13 (n + 1))
                 unfolding foundOf
-                by-ends = by-replay ∙ rw (eq-eqb (p .number) 0 zp) (ap (λ (m : ℕ). if p .same then accepted a b (length (stepsOf q)) else refusedAt 13 (m + 1)) c)
+                by-ends = by-replay ∙ rw (eq-eqb (p .number) 0 zp) (ap (λ (m : ℕ). if p .same then accepted a b (length (stepsOf q)) else refusedAt 13 (m + 1))
+                    c)
 
                 -- another form was reached
                 pub not-reached : p .same ≡ false → refusedAt 13 (n + 1) ≡ checkCall table s

@@ -33,13 +33,16 @@ use Rattle.checker.specs.Replaying.{sameTerm, ReachedAs, ReplayedAs}
 module _ (q : List Step) (n i : ℕ) (h : n ≤ length q) where
   module _ (current : S.Form) (k : ℕ) (log : Log) where
     -- the step at a place is refused
-    pub step-fails : (r : ℕ) (rest : L.Checked) → i < n → (r ≡ 0 → ⊥) → takeStep current (here q n i h) ≡ refused r → replay log k current (stepsFrom q n i) ≡ foundOf r k rest
+    pub step-fails : (r : ℕ) (rest : L.Checked) → i < n → (r ≡ 0 → ⊥) → takeStep current (here q n i h) ≡ refused r
+        → replay log k current (stepsFrom q n i) ≡ foundOf r k rest
     unfolding replay
     step-fails r rest g z e =
-        ap (replay log k current) (one-left q n i h g) ∙ ap (λ (x : Result S.Form). atStep k x (λ f. replay log (k + 1) f (stepsFrom q n (i + 1)))) e ∙ found r k rest z
+        ap (replay log k current) (one-left q n i h g) ∙ ap (λ (x : Result S.Form). atStep k x (λ f. replay log (k + 1) f (stepsFrom q n (i + 1)))) e
+        ∙ found r k rest z
 
     -- or it reaches a form
-    pub step-reaches : (f : S.Form) → i < n → takeStep current (here q n i h) ≡ given f → replay log k current (stepsFrom q n i) ≡ replay log (k + 1) f (stepsFrom q n (i + 1))
+    pub step-reaches : (f : S.Form) → i < n → takeStep current (here q n i h) ≡ given f → replay log k current (stepsFrom q n i) ≡ replay log (k + 1) f
+        (stepsFrom q n (i + 1))
     unfolding replay
     step-reaches f g e =
         ap (replay log k current) (one-left q n i h g) ∙ ap (λ (x : Result S.Form). atStep k x (λ f. replay log (k + 1) f (stepsFrom q n (i + 1)))) e
@@ -93,7 +96,8 @@ unfolding formOf
 form-length f h = length-map (take (f .count) (f .terms)) termOf ∙ length-take-le (f .count) (f .terms) h
 
 -- the first of those from a place on
-pub form-at : (f : Form) (i : ℕ) → f .count ≤ length (f .terms) → i < f .count → drop i (formOf f .terms) ≡ termOf (getD (f .terms) i noTerm) ∷ drop (i + 1) (formOf f .terms)
+pub form-at : (f : Form) (i : ℕ) → f .count ≤ length (f .terms) → i < f .count → drop i (formOf f .terms) ≡ termOf (getD (f .terms) i noTerm) ∷ drop (i + 1)
+    (formOf f .terms)
 unfolding formOf
 form-at f i h g =
     sym (map-drop termOf i (take (f .count) (f .terms))) ∙ ap (map termOf) (rest-at (f .terms) (f .count) i noTerm h g)
@@ -122,7 +126,8 @@ module _ (ts us : List S.Term) (i : ℕ) where
 
 module _ (f last : Form) (q : Steps) (n : ℕ) (rows : List (List ℕ)) (coefs : List ℤ) (r : Reached) (rows' : List (List ℕ)) (coefs' : List ℤ)
     (e : formBy (f .kind) n rows coefs ≡ formOf f) (w : ReachedAs (f .kind) n rows coefs q r rows' coefs') where
-  begins : (log : Log) → replay log 1 (formOf f) (stepsOf q) ≡ foundOf (r .number) (r .step) (replay log (q .count + 1) (formBy (f .kind) (r .count) rows' coefs') [])
+  begins : (log : Log) → replay log 1 (formOf f) (stepsOf q) ≡ foundOf (r .number) (r .step) (replay log (q .count + 1) (formBy (f .kind)
+      (r .count) rows' coefs') [])
   begins log = ap (λ (g : S.Form). replay log 1 g (stepsOf q)) (sym e) ∙ w .is log
 
   -- none: a step is refused
@@ -131,9 +136,15 @@ module _ (f last : Form) (q : Steps) (n : ℕ) (rows : List (List ℕ)) (coefs :
   not-replayed h = record { is = λ log l. begins log ∙ rw (ne-eqb (r .number) 0 h) }
 
   -- compared with the last
-  pub replayed : r .number ≡ 0 → (b : Bool) → b ≡ sameForm (formOf last) (formBy (f .kind) (r .count) rows' coefs') → ReplayedAs f q last (record { number = 0; step = 0; same = b })
+  pub replayed : r .number ≡ 0 → (b : Bool) → b ≡ sameForm (formOf last) (formBy (f .kind) (r .count) rows' coefs') → ReplayedAs f q last (record {
+    number =
+        0;
+    step = 0;
+    same = b;
+  })
   unfolding foundOf replay
   replayed h b o = record {
     is = λ log l. begins log ∙ rw (eq-eqb (r .number) 0 h)
-        (λ i. if (ap (λ (g : S.Form). sameForm g (formBy (f .kind) (r .count) rows' coefs')) l ∙ sym o) i then accepted (log .firstEnd) (log .lastStart) (length (log .steps)) else refusedAt 13 (q .count + 1));
+        (λ i. if (ap (λ (g : S.Form). sameForm g (formBy (f .kind) (r .count) rows' coefs')) l ∙ sym o) i then accepted (log .firstEnd) (log .lastStart)
+        (length (log .steps)) else refusedAt 13 (q .count + 1));
   }

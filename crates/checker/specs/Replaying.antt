@@ -20,7 +20,8 @@ use Rattle.checker.specs.declared.replay.Replayed.{Replayed}
 
 -- the form that all steps reach from that of a kind in n rows, or the refusal of one
 pub record ReachedAs (kind n : ℕ) (rows : List (List ℕ)) (coefs : List ℤ) (q : Steps) (r : Reached) (rows' : List (List ℕ)) (coefs' : List ℤ) : Type 0 where
-  pub is : (log : Log) → replay log 1 (formBy kind n rows coefs) (stepsOf q) ≡ foundOf (r .number) (r .step) (replay log (q .count + 1) (formBy kind (r .count) rows' coefs') [])
+  pub is : (log : Log) → replay log 1 (formBy kind n rows coefs) (stepsOf q) ≡ foundOf (r .number) (r .step) (replay log (q .count + 1)
+      (formBy kind (r .count) rows' coefs') [])
   pub form : r .number ≡ 0 → FormRun kind (r .count) rows' coefs'
 
 -- a log with this last form: accepted where all steps reach it, or the refusal of one, or 13 with the last form's step

@@ -37,7 +37,8 @@ chain token letter constant =
     refused 4
 
 -- as the specification reads a token
-pub read-is : (table s : List ℕ) (at : ℕ) → readToken table s at ≡ chain (getD s at 0) (readLetter table (getD s (at + 1) 0)) (Constant (fourBytesAt s (at + 1)))
+pub read-is : (table s : List ℕ) (at : ℕ) → readToken table s at ≡ chain (getD s at 0) (readLetter table (getD s (at + 1) 0))
+    (Constant (fourBytesAt s (at + 1)))
 unfolding readToken chain
 read-is table s at = refl
 
@@ -58,7 +59,8 @@ chain-more n letter constant =
     )
 
 -- 2 to 9 are known
-chain-known : (token : ℕ) (letter : Result Token) (constant : Expr) → 2 ≤ token → token < 10 → _≡_ {A = Test} (chain token letter constant >> given tt) (given tt)
+chain-known : (token : ℕ) (letter : Result Token) (constant : Expr) → 2 ≤ token → token < 10 → _≡_ {A = Test} (chain token letter constant >> given tt)
+    (given tt)
 unfolding chain
 chain-known zero letter constant h k = absurd (omega arith)
 chain-known (suc zero) letter constant h k = absurd (omega arith)
@@ -148,7 +150,8 @@ bytes-there n s at e z = bytes-passed s at (sym e ∙ test-passed n z)
 -- a token with operands has no bytes but its own
 pub own-byte : (token : ℕ) → (operandCount token ≡ 0 → ⊥) → tokenBytes token ≡ 1
 unfolding operandCount
-own-byte token h = sym (bytes-operator token (λ e. h (subst (λ (t : ℕ). operandCount t ≡ 0) (sym e) refl)) (λ e. h (subst (λ (t : ℕ). operandCount t ≡ 0) (sym e) refl)) .0)
+own-byte token h = sym (bytes-operator token (λ e. h (subst (λ (t : ℕ). operandCount t ≡ 0) (sym e) refl)) (λ e. h (subst (λ (t : ℕ). operandCount t ≡ 0)
+    (sym e) refl)) .0)
 
 -- a letter in the table
 pub in-table : (n m : ℕ) → n < m → testOf 0 ≡ require (ltb n m) 5
@@ -178,7 +181,8 @@ module _ (table s : List ℕ) (at : ℕ) where
   pub token-known : 2 ≤ getD s at 0 → getD s at 0 < 10 → testOf 0 ≡ testToken table s at
   unfolding testToken testOf
   token-known h k =
-      sym (ap (λ (r : Result Token). r >> given tt) (read-is table s at) ∙ chain-known (getD s at 0) (readLetter table (getD s (at + 1) 0)) (Constant (fourBytesAt s (at + 1))) h k)
+      sym (ap (λ (r : Result Token). r >> given tt) (read-is table s at) ∙ chain-known (getD s at 0) (readLetter table (getD s (at + 1) 0))
+      (Constant (fourBytesAt s (at + 1))) h k)
 
   -- 0 is unknown
   pub token-zero : getD s at 0 ≡ 0 → testOf 4 ≡ testToken table s at
@@ -191,7 +195,8 @@ module _ (table s : List ℕ) (at : ℕ) where
   pub token-high : 10 ≤ getD s at 0 → testOf 4 ≡ testToken table s at
   unfolding testToken testOf
   token-high h =
-      sym (ap (λ (r : Result Token). r >> given tt) (read-is table s at ∙ chain-high (getD s at 0) (readLetter table (getD s (at + 1) 0)) (Constant (fourBytesAt s (at + 1))) h))
+      sym (ap (λ (r : Result Token). r >> given tt) (read-is table s at ∙ chain-high (getD s at 0) (readLetter table (getD s (at + 1) 0))
+      (Constant (fourBytesAt s (at + 1))) h))
 
   -- bytes missing
   pub head-bytes : (n depth : ℕ) → testOf n ≡ testBytes s at → (n ≡ 0 → ⊥) → testOf n ≡ testHead depth table s at
@@ -206,7 +211,8 @@ module _ (table s : List ℕ) (at : ℕ) where
       ∙ ap (λ (d : ℕ). require (leb 1 d) 3 >> testToken table s at) z)
 
   -- the token's own test
-  pub head-token : (n r depth : ℕ) → testOf n ≡ testBytes s at → n ≡ 0 → (depth ≡ 0 → ⊥) → testOf r ≡ testToken table s at → testOf r ≡ testHead depth table s at
+  pub head-token : (n r depth : ℕ) → testOf n ≡ testBytes s at → n ≡ 0 → (depth ≡ 0 → ⊥) → testOf r ≡ testToken table s at
+      → testOf r ≡ testHead depth table s at
   unfolding testHead
   head-token n r depth e h d p =
       let l : 1 ≤ depth = omega arith in

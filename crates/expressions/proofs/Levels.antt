@@ -561,8 +561,10 @@ module _ (depth : ℕ) (table s : List ℕ) (at : ℕ) (v : Level depth table s 
                 (sym (m .2)) h))
 
 -- two operands of which the second is a leaf
-pub level-leafy : (depth : ℕ) (table s : List ℕ) (at : ℕ) (v : Level depth table s at) (rows : List (List ℕ)) (coefs : List ℤ) (k : ℕ) → k ≡ operandCount (getD s at 0)
-    → (a : Tree) (ra : List (List ℕ)) (ca : List ℤ) → ReadAs (readTree (depth - 1) table s (at + 1)) a ra ca → (k ≡ 0 → ⊥) → a .unread ≡ 0 → (k ≡ 1 → ⊥) → (r : Tree) → k ≡ 2
+pub level-leafy : (depth : ℕ) (table s : List ℕ) (at : ℕ) (v : Level depth table s at) (rows : List (List ℕ)) (coefs : List ℤ) (k : ℕ)
+    → k ≡ operandCount (getD s at 0)
+    → (a : Tree) (ra : List (List ℕ)) (ca : List ℤ) → ReadAs (readTree (depth - 1) table s (at + 1)) a ra ca → (k ≡ 0 → ⊥) → a .unread ≡ 0 → (k ≡ 1 → ⊥)
+    → (r : Tree) → k ≡ 2
     → LeafSecond (depth - 1) table s (getD s at 0) a ra ca r rows coefs → ReadAs (readTree depth table s at) r rows coefs
 level-leafy depth table s at v rows coefs k count a ra ca read-a some ea none r both w = go (w .second .unread) refl
   where

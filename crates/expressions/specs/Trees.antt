@@ -104,7 +104,8 @@ readLeaf table s at = do
   readOperands (λ next. refused 4) (at + tokenBytes (getD s at 0)) token
 
 -- the second operand is the leaf behind the first: what reading refuses of it, or the operator worked on both
-pub record LeafSecond (depth : ℕ) (table s : List ℕ) (token : ℕ) (a : Tree) (rows : List (List ℕ)) (coefs : List ℤ) (r : Tree) (rows' : List (List ℕ)) (coefs' : List ℤ) : Type 0 where
+pub record LeafSecond (depth : ℕ) (table s : List ℕ) (token : ℕ) (a : Tree) (rows : List (List ℕ)) (coefs : List ℤ) (r : Tree) (rows' : List (List ℕ))
+    (coefs' : List ℤ) : Type 0 where
   pub second : Tree
   pub right : List (List ℕ)
   pub rights : List ℤ

@@ -38,7 +38,8 @@ light-more b d n cs h = all-implies (λ (z : ℤ). natAbs z ≤ b) (λ (z : ℤ)
 
 -- put in order, then its row
 pub brought-term : (n : ℕ) (rows : List (List ℕ)) (coefs : List ℤ) (t u : Term) (r : List ℕ) (z : ℤ) (m : ℕ) (rows' : List (List ℕ)) (coefs' : List ℤ)
-    → termOf u ≡ tidy (termOf t) → RowOf u r → z ≡ u .coef → natAbs z ≤ 2147483647 → BroughtIn n rows coefs r z m rows' coefs' → TermBroughtIn n rows coefs t m rows' coefs'
+    → termOf u ≡ tidy (termOf t) → RowOf u r → z ≡ u .coef → natAbs z ≤ 2147483647 → BroughtIn n rows coefs r z m rows' coefs'
+    → TermBroughtIn n rows coefs t m rows' coefs'
 brought-term n rows coefs t u r z m rows' coefs' e q f g b = record {
   is = b .is ∙ ap (λ (x : S.Term). insert x (runOf n rows coefs)) (ap (termBy r) f ∙ q .is ∙ e);
   run = b .run;
@@ -72,24 +73,28 @@ filled-more ts i rows coefs r z ht hr hc w q e = record {
 }
 
 -- the coefficients are those of the terms
-light-by : (b : ℕ) (rs : List (List ℕ)) (cs : List ℤ) → length rs ≡ length cs → All (λ (t : S.Term). natAbs (t .coef) ≤ b) (termsBy rs cs) → All (λ (z : ℤ). natAbs z ≤ b) cs
+light-by : (b : ℕ) (rs : List (List ℕ)) (cs : List ℤ) → length rs ≡ length cs → All (λ (t : S.Term). natAbs (t .coef) ≤ b) (termsBy rs cs)
+    → All (λ (z : ℤ). natAbs z ≤ b) cs
 unfolding termsBy termBy
 light-by b [] [] h a = tt
 light-by b [] (c ∷ cs) h a = absurd (omega arith)
 light-by b (r ∷ rs) [] h a = absurd (omega arith)
 light-by b (r ∷ rs) (c ∷ cs) h a = (a .0, light-by b rs cs (omega arith) (a .1))
 
-pub filled-all : (f : Form) (rows : List (List ℕ)) (coefs : List ℤ) (i : ℕ) → FormValid f → f .count ≤ length rows → f .count ≤ length coefs → i ≡ f .count → Filled (f .terms) i rows coefs → HeldIn f rows coefs
+pub filled-all : (f : Form) (rows : List (List ℕ)) (coefs : List ℤ) (i : ℕ) → FormValid f → f .count ≤ length rows → f .count ≤ length coefs → i ≡ f .count
+    → Filled (f .terms) i rows coefs → HeldIn f rows coefs
 unfolding formOf runOf Light
 filled-all f rows coefs i v hr hc e w =
     let u = subst (λ (n : ℕ). Filled (f .terms) n rows coefs) e w in
     let s : All (λ (t : S.Term). natAbs (t .coef) ≤ 2147483647) (termsBy (take (f .count) rows) (take (f .count) coefs)) =
     subst (All (λ (t : S.Term). natAbs (t .coef) ≤ 2147483647)) (sym (u .is))
-    (all-implies (λ (t : S.Term). T (termInShape t)) (λ (t : S.Term). natAbs (t .coef) ≤ 2147483647) in-limit (formOf f .terms) (all-T termInShape (formOf f .terms) (v .inShape .terms))) in
+    (all-implies (λ (t : S.Term). T (termInShape t)) (λ (t : S.Term). natAbs (t .coef) ≤ 2147483647) in-limit (formOf f .terms)
+    (all-T termInShape (formOf f .terms) (v .inShape .terms))) in
     record {
       is = u .is;
       run = record { room = hr; beside = hc; valid = u .valid; ascending = subst Ascending (sym (u .is)) (form-gathered (formOf f) (v .inShape) .ascending) };
-      light = light-by 2147483647 (take (f .count) rows) (take (f .count) coefs) (length-take-le (f .count) rows hr ∙ sym (length-take-le (f .count) coefs hc)) s;
+      light = light-by 2147483647 (take (f .count) rows) (take (f .count) coefs) (length-take-le (f .count) rows hr
+          ∙ sym (length-take-le (f .count) coefs hc)) s;
     }
 
 -- ════ rows copied
@@ -97,19 +102,22 @@ filled-all f rows coefs i v hr hc e w =
 pub copied-none : (from : List (List ℕ)) (froms : List ℤ) (rows : List (List ℕ)) (coefs : List ℤ) → Copied 0 from froms rows coefs
 copied-none from froms rows coefs = record { rowsAre = refl; coefsAre = refl }
 
-one-copied : {A : Type 0} (l k : List A) (i : ℕ) (d x : A) → i < length l → i < length k → x ≡ getD l i d → take i k ≡ take i l → take (i + 1) (set k i x) ≡ take (i + 1) l
+one-copied : {A : Type 0} (l k : List A) (i : ℕ) (d x : A) → i < length l → i < length k → x ≡ getD l i d → take i k ≡ take i l → take (i + 1)
+    (set k i x) ≡ take (i + 1) l
 one-copied l k i d x h g e w =
     let t : take (i + 1) l ≡ take i l ++ getD l i d ∷ [] = taken-one l i d h in
     stored-behind k i x g ∙ (λ j. w j ++ e j ∷ []) ∙ sym t
 
-pub copied-more : (i : ℕ) (from : List (List ℕ)) (froms : List ℤ) (rows : List (List ℕ)) (coefs : List ℤ) (z : ℤ) → i < length from → i < length froms → i < length rows → i < length coefs
+pub copied-more : (i : ℕ) (from : List (List ℕ)) (froms : List ℤ) (rows : List (List ℕ)) (coefs : List ℤ) (z : ℤ) → i < length from → i < length froms
+    → i < length rows → i < length coefs
     → z ≡ getD froms i (pos 0) → Copied i from froms rows coefs → Copied (i + 1) from froms (set rows i (getD from i [])) (set coefs i z)
 copied-more i from froms rows coefs z hf hg hr hc e w = record {
   rowsAre = one-copied from rows i [] (getD from i []) hf hr refl (w .rowsAre);
   coefsAre = one-copied froms coefs i (pos 0) z hg hc e (w .coefsAre);
 }
 
-pub copied-all : (n i : ℕ) (from : List (List ℕ)) (froms : List ℤ) (rows : List (List ℕ)) (coefs : List ℤ) → i ≡ n → Copied i from froms rows coefs → Copied n from froms rows coefs
+pub copied-all : (n i : ℕ) (from : List (List ℕ)) (froms : List ℤ) (rows : List (List ℕ)) (coefs : List ℤ) → i ≡ n → Copied i from froms rows coefs
+    → Copied n from froms rows coefs
 copied-all n i from froms rows coefs e w = subst (λ (k : ℕ). Copied k from froms rows coefs) e w
 
 -- what stands in the first n rows is what stood there
@@ -144,7 +152,8 @@ terms-within (r ∷ rs) (c ∷ cs) h = ap (λ (b : Bool). coefWithin c && b) (te
 within-light : (cs : List ℤ) → all coefWithin cs ≡ true → All (λ (z : ℤ). natAbs z ≤ 2147483647) cs
 unfolding coefWithin
 within-light cs e =
-    all-implies (λ (z : ℤ). T (coefWithin z)) (λ (z : ℤ). natAbs z ≤ 2147483647) (λ z h. leb→le (natAbs z) 2147483647 h) cs (all-T coefWithin cs (subst T (sym e) tt))
+    all-implies (λ (z : ℤ). T (coefWithin z)) (λ (z : ℤ). natAbs z ≤ 2147483647) (λ z h. leb→le (natAbs z) 2147483647 h) cs (all-T coefWithin cs (subst T (sym
+    e) tt))
 
 module _ (coefs : List ℤ) (n : ℕ) (hc : n ≤ length coefs) where
   run-within : (rows : List (List ℕ)) → n ≤ length rows → all termWithin (runOf n rows coefs) ≡ all coefWithin (take n coefs)
@@ -153,7 +162,12 @@ module _ (coefs : List ℤ) (n : ℕ) (hc : n ≤ length coefs) where
 
   pub tested-9 : all coefWithin (take n coefs) ≡ false → RunTested n coefs 9
   unfolding limitedOf
-  tested-9 e = record { is = λ rows hr kind. within-9 kind (runOf n rows coefs) (run-within rows hr ∙ e); few = λ z. absurd (omega arith); light = λ z. absurd (omega arith) }
+  tested-9 e = record {
+    is = λ rows hr kind. within-9 kind (runOf n rows coefs) (run-within rows hr ∙ e);
+    few = λ z. absurd (omega arith);
+    light =
+        λ z. absurd (omega arith);
+  }
 
   pub tested-10 : all coefWithin (take n coefs) ≡ true → 48 < n → RunTested n coefs 10
   unfolding limitedOf
@@ -171,7 +185,8 @@ module _ (coefs : List ℤ) (n : ℕ) (hc : n ≤ length coefs) where
     light = λ z. within-light (take n coefs) e;
   }
 
-  module _ (i : ℕ) (h : i < n) (inv : all coefWithin (take n coefs) ≡ all coefWithin (drop i (take n coefs))) (b : Bool) (q : b ≡ coefWithin (getD coefs i (pos 0))) where
+  module _ (i : ℕ) (h : i < n) (inv : all coefWithin (take n coefs) ≡ all coefWithin (drop i (take n coefs))) (b : Bool)
+      (q : b ≡ coefWithin (getD coefs i (pos 0))) where
     here : all coefWithin (take n coefs) ≡ (b && all coefWithin (drop (i + 1) (take n coefs)))
     unfolding all
     here = inv ∙ ap (all coefWithin) (rest-at coefs n i (pos 0) hc h) ∙ ap (λ (x : Bool). x && all coefWithin (drop (i + 1) (take n coefs))) (sym q)
@@ -196,12 +211,14 @@ pub record Given (n : ℕ) (rows : List (List ℕ)) (coefs : List ℤ) (i : ℕ)
 pub given-none : (n : ℕ) (rows : List (List ℕ)) (coefs : List ℤ) (ts : List Term) → Given n rows coefs 0 ts
 given-none n rows coefs ts = record { is = refl; counted = tt }
 
-pub given-more : (n : ℕ) (rows : List (List ℕ)) (coefs : List ℤ) (i : ℕ) (ts : List Term) (u : Term) (z : ℤ) → Run n rows coefs → i < n → i < length ts → Given n rows coefs i ts
+pub given-more : (n : ℕ) (rows : List (List ℕ)) (coefs : List ℤ) (i : ℕ) (ts : List Term) (u : Term) (z : ℤ) → Run n rows coefs → i < n → i < length ts
+    → Given n rows coefs i ts
     → (termOf u ≡ termBy (getD rows i []) z) × Counted u → z ≡ getD coefs i (pos 0) → Given n rows coefs (i + 1) (set ts i u)
 given-more n rows coefs i ts u z v h k w q e = record {
   is = ap (map termOf) (stored-behind ts i u k) ∙ mapped-behind termOf (take i ts) u
       ∙ (λ j. w .is j ++ (q .0 ∙ ap (termBy (getD rows i [])) e) j ∷ [])
-      ∙ sym (take-add i 1 (runOf n rows coefs) ∙ ap (λ (l : List S.Term). take i (runOf n rows coefs) ++ take 1 l) (run-at rows coefs n (v .room) (v .beside) i h));
+      ∙ sym (take-add i 1 (runOf n rows coefs) ∙ ap (λ (l : List S.Term). take i (runOf n rows coefs) ++ take 1 l) (run-at rows coefs n (v .room)
+      (v .beside) i h));
   counted = subst (All Counted) (sym (stored-behind ts i u k)) (all-append Counted (take i ts) (u ∷ []) (w .counted) (q .1, tt));
 }
 
@@ -211,7 +228,10 @@ unfolding formOf
 given-all kind n rows coefs i ts v h e w =
     let u = subst (λ (m : ℕ). Given n rows coefs m ts) e w in
     record {
-      is = ap (λ (l : List S.Term). record { kind = kind; terms = l }) (u .is ∙ take-all n (runOf n rows coefs) (omega (arith, run-length rows coefs n (v .room) (v .beside))));
+      is = ap (λ (l : List S.Term). record { kind = kind; terms = l }) (u .is ∙ take-all n (runOf n rows coefs) (omega (
+        arith,
+        run-length rows coefs n (v .room) (v .beside),
+      )));
       countIs = refl;
       few = h;
       counted = u .counted;
@@ -220,7 +240,8 @@ given-all kind n rows coefs i ts v h e w =
 -- ════ what working gave
 
 -- a refusal, whatever stands in the rows
-pub rows-refused : (x : Result S.Form) (w : Worked) (n : ℕ) (rows : List (List ℕ)) (coefs : List ℤ) → w .refusal ≡ n → (n ≡ 0 → ⊥) → x ≡ refused n → RowsGive x w rows coefs
+pub rows-refused : (x : Result S.Form) (w : Worked) (n : ℕ) (rows : List (List ℕ)) (coefs : List ℤ) → w .refusal ≡ n → (n ≡ 0 → ⊥) → x ≡ refused n
+    → RowsGive x w rows coefs
 rows-refused x w n rows coefs e h p = record {
   refuses = λ _. p ∙ ap refused (sym e);
   gives = λ z. absurd (h (sym e ∙ z));
@@ -234,7 +255,8 @@ rows-as x y w rows coefs e g = record { refuses = λ h. sym e ∙ g .refuses h; 
 -- ════ as a form by value
 
 -- refused
-pub outcome-refused : (w : Worked) (rows : List (List ℕ)) (coefs : List ℤ) (r : Outcome) → (w .refusal ≡ 0 → ⊥) → r .refusal ≡ w .refusal → OutcomeOf w rows coefs r
+pub outcome-refused : (w : Worked) (rows : List (List ℕ)) (coefs : List ℤ) (r : Outcome) → (w .refusal ≡ 0 → ⊥) → r .refusal ≡ w .refusal
+    → OutcomeOf w rows coefs r
 outcome-refused w rows coefs r h e = record { is = λ x g. refuses x r (w .refusal) e h (g .refuses h) }
 
 -- a form in rows is valid as one by value
@@ -242,9 +264,16 @@ pub form-valid : (kind n : ℕ) (rows : List (List ℕ)) (coefs : List ℤ) (f :
 form-valid kind n rows coefs f v w = record { few = w .few; counted = w .counted; inShape = subst FormInShape (sym (w .is)) (v .inShape) }
 
 -- or given
-pub outcome-given : (w : Worked) (rows : List (List ℕ)) (coefs : List ℤ) (f : Form) → w .refusal ≡ 0 → FormOfRun (w .kind) (w .count) rows coefs f → OutcomeOf w rows coefs (record { refusal = 0; form = f })
+pub outcome-given : (w : Worked) (rows : List (List ℕ)) (coefs : List ℤ) (f : Form) → w .refusal ≡ 0 → FormOfRun (w .kind) (w .count) rows coefs f
+    → OutcomeOf w rows coefs (record { refusal = 0; form = f })
 unfolding outcomeOf
-outcome-given w rows coefs f e q = record { is = λ x g. record { is = ap given (q .is) ∙ sym (g .gives e); valid = λ z. form-valid (w .kind) (w .count) rows coefs f (g .form e) q } }
+outcome-given w rows coefs f e q = record {
+  is = λ x g. record {
+    is = ap given (q .is) ∙ sym (g .gives e);
+    valid = λ z. form-valid (w .kind)
+        (w .count) rows coefs f (g .form e) q;
+  };
+}
 
 -- ════ a form by value in rows
 

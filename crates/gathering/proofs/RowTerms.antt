@@ -42,7 +42,13 @@ behind-head (x ∷ l) h = seven l (omega arith)
 
 -- the term of a row
 pub term-of-row : (r fs : List ℕ) (z c : ℤ) (p : Part) → RowValid r → fs ≡ drop 1 r → z ≡ c → partOf p ≡ partLettersOf (getD r 0 0 / 8)
-    → (termOf (record { coef = z; factors = fs; «factor_count» = getD r 0 0 % 8; part = p }) ≡ termBy r c) × Counted (record { coef = z; factors = fs; «factor_count» = getD r 0 0 % 8; part = p })
+    → (termOf (record { coef = z; factors = fs; «factor_count» = getD r 0 0 % 8; part = p }) ≡ termBy r c) × Counted (record {
+      coef = z;
+      factors =
+          fs;
+      «factor_count» = getD r 0 0 % 8;
+      part = p;
+    })
 unfolding termOf termBy headOf factorsOf
 term-of-row r fs z c p v e f q = (
   (λ i. record { coef = f i; factors = map lettersOf (take (getD r 0 0 % 8) (e i)); part = q i }),
@@ -50,7 +56,8 @@ term-of-row r fs z c p v e f q = (
 )
 
 -- the row of a term
-pub row-of-term : (t : Term) (h k : ℕ) (fs : List ℕ) → Counted t → length (t .factors) ≡ 7 → PartNumber (partOf (t .part)) k → h ≡ k * 8 + t .«factor_count» → fs ≡ t .factors → RowOf t (h ∷ fs)
+pub row-of-term : (t : Term) (h k : ℕ) (fs : List ℕ) → Counted t → length (t .factors) ≡ 7 → PartNumber (partOf (t .part)) k
+    → h ≡ k * 8 + t .«factor_count» → fs ≡ t .factors → RowOf t (h ∷ fs)
 unfolding termOf termBy headOf factorsOf
 row-of-term t h k fs v n p e q =
     let b : h / 8 ≡ k = omega (arith, v .few) in
@@ -60,7 +67,8 @@ row-of-term t h k fs v n p e q =
       valid = record {
         places = ap suc (ap length q ∙ n);
         part = omega (arith, p .small);
-        small = subst (λ (m : ℕ). All (λ (k : ℕ). k < 16843008) (take m fs)) (sym a) (subst (λ (l : List ℕ). All (λ (k : ℕ). k < 16843008) (take (t .«factor_count») l)) (sym q) (v .small));
+        small = subst (λ (m : ℕ). All (λ (k : ℕ). k < 16843008) (take m fs)) (sym a) (subst (λ (l : List ℕ). All (λ (k : ℕ). k < 16843008)
+            (take (t .«factor_count») l)) (sym q) (v .small));
       };
     }
 
@@ -70,12 +78,14 @@ row-of-term t h k fs v n p e q =
 by-heads : (x y : ℕ) (z : Ordering) → thenBy (order (x / 8) (y / 8)) (thenBy (order (x % 8) (y % 8)) z) ≡ thenBy (order x y) z
 by-heads x y z = go (O.tri nat-laws x y)
   where
-    less : (x y : ℕ) → x < y → ((x / 8 < y / 8) ⊎ (x / 8 ≡ y / 8)) ⊎ (y / 8 < x / 8) → thenBy (order (x / 8) (y / 8)) (thenBy (order (x % 8) (y % 8)) z) ≡ Ordering·lt
+    less : (x y : ℕ) → x < y → ((x / 8 < y / 8) ⊎ (x / 8 ≡ y / 8)) ⊎ (y / 8 < x / 8) → thenBy (order (x / 8) (y / 8)) (thenBy (order (x % 8)
+        (y % 8)) z) ≡ Ordering·lt
     less x y h (inl (inl g)) = rw (compares-less nat-laws (x / 8) (y / 8) g)
     less x y h (inl (inr e)) = let m : x % 8 < y % 8 = omega arith in rw (compares-equal nat-laws (x / 8) (y / 8) e, compares-less nat-laws (x % 8) (y % 8) m)
     less x y h (inr g) = absurd (omega arith)
 
-    more : (x y : ℕ) → y < x → ((x / 8 < y / 8) ⊎ (x / 8 ≡ y / 8)) ⊎ (y / 8 < x / 8) → thenBy (order (x / 8) (y / 8)) (thenBy (order (x % 8) (y % 8)) z) ≡ Ordering·gt
+    more : (x y : ℕ) → y < x → ((x / 8 < y / 8) ⊎ (x / 8 ≡ y / 8)) ⊎ (y / 8 < x / 8) → thenBy (order (x / 8) (y / 8)) (thenBy (order (x % 8)
+        (y % 8)) z) ≡ Ordering·gt
     more x y h (inl (inl g)) = absurd (omega arith)
     more x y h (inl (inr e)) = let m : y % 8 < x % 8 = omega arith in rw (compares-equal nat-laws (x / 8) (y / 8) e, compares-more nat-laws (x % 8) (y % 8) m)
     more x y h (inr g) = rw (compares-more nat-laws (x / 8) (y / 8) g)
@@ -83,7 +93,8 @@ by-heads x y z = go (O.tri nat-laws x y)
     go : ((x < y) ⊎ (x ≡ y)) ⊎ (y < x) → thenBy (order (x / 8) (y / 8)) (thenBy (order (x % 8) (y % 8)) z) ≡ thenBy (order x y) z
     go (inl (inl h)) = less x y h (O.tri nat-laws (x / 8) (y / 8)) ∙ sym (ap (λ (o : Ordering). thenBy o z) (compares-less nat-laws x y h))
     go (inl (inr e)) =
-        (λ i. thenBy (compares-equal nat-laws (x / 8) (y / 8) (ap (λ (n : ℕ). n / 8) e) i) (thenBy (compares-equal nat-laws (x % 8) (y % 8) (ap (λ (n : ℕ). n % 8) e) i) z))
+        (λ i. thenBy (compares-equal nat-laws (x / 8) (y / 8) (ap (λ (n : ℕ). n / 8) e) i) (thenBy (compares-equal nat-laws (x % 8) (y % 8)
+        (ap (λ (n : ℕ). n % 8) e) i) z))
         ∙ sym (ap (λ (o : Ordering). thenBy o z) (compares-equal nat-laws x y e))
     go (inr h) = more x y h (O.tri nat-laws (x / 8) (y / 8)) ∙ sym (ap (λ (o : Ordering). thenBy o z) (compares-more nat-laws x y h))
 
@@ -99,13 +110,15 @@ module _ (a b : List ℕ) (la : length a ≡ 8) (lb : length b ≡ 8) (c d : ℤ
       ∙ by-heads (headOf a) (headOf b) (firstDifference order (factorsOf a) (factorsOf b))
 
 -- the numbers of a row up to its count decide
-pub by-row : (a b : List ℕ) → length a ≡ 8 → length b ≡ 8 → (c d : ℤ) → compareTerms (termBy a c) (termBy b d) ≡ firstDifference order (take (getD a 0 0 % 8 + 1) a) (take (getD a 0 0 % 8 + 1) b)
+pub by-row : (a b : List ℕ) → length a ≡ 8 → length b ≡ 8 → (c d : ℤ) → compareTerms (termBy a c)
+    (termBy b d) ≡ firstDifference order (take (getD a 0 0 % 8 + 1) a) (take (getD a 0 0 % 8 + 1) b)
 unfolding firstDifference factorsOf headOf
 by-row [] b la lb c d = absurd (omega arith)
 by-row (x ∷ a) [] la lb c d = absurd (omega arith)
 by-row (x ∷ a) (y ∷ b) la lb c d = by-factors (x ∷ a) (y ∷ b) la lb c d ∙ rw add-one (go (O.tri nat-laws x y))
   where
-    go : ((x < y) ⊎ (x ≡ y)) ⊎ (y < x) → thenBy (order x y) (firstDifference order (take (x % 8) a) (take (y % 8) b)) ≡ thenBy (order x y) (firstDifference order (take (x % 8) a) (take (x % 8) b))
+    go : ((x < y) ⊎ (x ≡ y)) ⊎ (y < x) → thenBy (order x y) (firstDifference order (take (x % 8) a) (take (y % 8) b)) ≡ thenBy (order x y)
+        (firstDifference order (take (x % 8) a) (take (x % 8) b))
     go (inl (inl h)) = rw (compares-less nat-laws x y h)
     go (inl (inr e)) = ap (λ (n : ℕ). thenBy (order x y) (firstDifference order (take (x % 8) a) (take (n % 8) b))) (sym e)
     go (inr h) = rw (compares-more nat-laws x y h)

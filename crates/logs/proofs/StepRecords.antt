@@ -36,7 +36,8 @@ noStep = record { rule = 0; letters = []; m = noTerm }
 -- ════ one step
 
 -- a letter more copied
-pub letter-copied : (s : List ℕ) (at i : ℕ) (ls : List ℕ) → take i ls ≡ take i (drop at s) → i < length ls → at + i < length s → take (i + 1) (set ls i (getD s (at + i) 0)) ≡ take (i + 1) (drop at s)
+pub letter-copied : (s : List ℕ) (at i : ℕ) (ls : List ℕ) → take i ls ≡ take i (drop at s) → i < length ls → at + i < length s → take (i + 1)
+    (set ls i (getD s (at + i) 0)) ≡ take (i + 1) (drop at s)
 letter-copied s at i ls e h g =
     ap (λ (x : ℕ). take (i + 1) (set ls i x)) (sym (getD-drop at s i 0))
     ∙ copied-more ls (drop at s) i 0 e h (omega (arith, length-drop at s))
@@ -52,7 +53,10 @@ given-read t z = rw z
 
 -- reading on behind it
 read-on : (o : Bool) (t : S.Term) (next : ℕ) (f : S.Term → R.Step)
-    → _>>=_ {A = S.Term × ℕ} {B = R.Step × ℕ} (if o then given (t, next) else refused 11) (λ p. given (f (p .0), p .1)) ≡ (if o then given (f t, next) else refused 11)
+    → _>>=_ {A = S.Term × ℕ} {B = R.Step × ℕ} (if o then given (t, next) else refused 11) (λ p. given (f (p .0), p .1)) ≡ (if o then given (
+      f t,
+      next,
+    ) else refused 11)
 read-on true t next f = refl
 read-on false t next f = refl
 
@@ -68,7 +72,8 @@ module _ (s : List ℕ) (at : ℕ) where
     unfolding readStepAt
     rule-unknown b e n = rw (lt-ltb at (length s) h, ← e, n)
 
-    module _ (b : Bool) (eb : b ≡ isRule (getD s at 0)) (hb : b ≡ true) (n : ℕ) (en : n ≡ ruleLetters (getD s at 0)) (l : Bool) (el : l ≡ leb (at + 1 + n) (length s)) where
+    module _ (b : Bool) (eb : b ≡ isRule (getD s at 0)) (hb : b ≡ true) (n : ℕ) (en : n ≡ ruleLetters (getD s at 0)) (l : Bool) (el : l ≡ leb (at + 1 + n)
+        (length s)) where
       -- its letters are cut
       pub letters-cut : l ≡ false → readStepAt s at ≡ refused 11
       unfolding readStepAt readLetters
@@ -76,7 +81,10 @@ module _ (s : List ℕ) (at : ℕ) where
 
       module _ (hl : l ≡ true) where
         -- M decides
-        by-term : readStepAt s at ≡ (readTermAt s (at + 1 + n) >>= λ p. given (record { rule = getD s at 0; letters = take n (drop (at + 1) s); m = p .0 }, p .1))
+        by-term : readStepAt s at ≡ (readTermAt s (at + 1 + n) >>= λ p. given (
+          record { rule = getD s at 0; letters = take n (drop (at + 1) s); m = p .0 },
+          p .1,
+        ))
         unfolding readStepAt readLetters
         by-term = rw (lt-ltb at (length s) h, ← eb, hb, ← en, ← el, hl)
 
@@ -87,10 +95,15 @@ module _ (s : List ℕ) (at : ℕ) where
         step-of-term bs t ls w e =
             record {
               is = (λ i. if t .ok then given (record { rule = getD s at 0; letters = letters i; m = termOf (t .term) }, t .next) else refused 11)
-                  ∙ sym (by-term ∙ ap (λ (x : Result (S.Term × ℕ)). x >>= λ p. given (whole (p .0), p .1)) (sym (w .is)) ∙ read-on (t .ok) (termOf (t .term)) (t .next) whole);
+                  ∙ sym (by-term ∙ ap (λ (x : Result (S.Term × ℕ)). x >>= λ p. given (whole (p .0), p .1)) (sym (w .is)) ∙ read-on (t .ok)
+                  (termOf (t .term)) (t .next) whole);
               valid = λ z. record {
                 rule = subst T (sym hb ∙ eb) tt;
-                m = record { counted = w .counted; inShape = term-written s (at + 1 + n) (t .next) (termOf (t .term)) bs (sym (w .is) ∙ given-read t z) .inShape };
+                m = record {
+                  counted = w .counted;
+                  inShape = term-written s (at + 1 + n) (t .next) (termOf (t .term)) bs (sym (w .is)
+                      ∙ given-read t z) .inShape;
+                };
               };
             }
           where
@@ -110,12 +123,14 @@ module _ (s : List ℕ) (at : ℕ) where
   turn-refused c before e = rw e
 
   -- a step stands behind those before
-  pub turned : (c : ℕ) (before : List R.Step) (t : R.Step) (next : ℕ) → readStepAt s at ≡ given (t, next) → readSteps (suc c) before s at ≡ readSteps c (before ++ t ∷ []) s next
+  pub turned : (c : ℕ) (before : List R.Step) (t : R.Step) (next : ℕ) → readStepAt s at ≡ given (t, next)
+      → readSteps (suc c) before s at ≡ readSteps c (before ++ t ∷ []) s next
   unfolding readSteps
   turned c before t next e = rw e
 
 -- a step stored behind those that stand
-module _ (r r′ : Steps) (t : Step) (i : ℕ) (e : r .count ≡ i) (e′ : r′ .count ≡ i + 1) (inside : i < length (r .steps)) (set-is : r′ .steps ≡ set (r .steps) i t) where
+module _ (r r′ : Steps) (t : Step) (i : ℕ) (e : r .count ≡ i) (e′ : r′ .count ≡ i + 1) (inside : i < length (r .steps))
+    (set-is : r′ .steps ≡ set (r .steps) i t) where
   stored : take (r′ .count) (r′ .steps) ≡ take i (r .steps) ++ t ∷ []
   stored = (λ j. take (e′ j) (set-is j)) ∙ stored-behind (r .steps) i t inside
 
@@ -149,7 +164,12 @@ steps-refused x n r z v e = record {
 pub steps-given : (x : Result (List R.Step × ℕ)) (n : ℕ) (r : StepsReading) → r .ok ≡ true → r .steps .count ≡ n → StepsValid (r .steps)
     → x ≡ given (stepsOf (r .steps), r .next) → StepsRead x n r
 unfolding stepsReadOf
-steps-given x n r z c v e = record { is = ap (λ (b : Bool). if b then given (stepsOf (r .steps), r .next) else refused 11) z ∙ sym e; count = λ t. c; valid = v }
+steps-given x n r z c v e = record {
+  is = ap (λ (b : Bool). if b then given (stepsOf (r .steps), r .next) else refused 11) z ∙ sym e;
+  count = λ t. c;
+  valid =
+      v;
+}
 
 -- the steps that stand are in shape
 pub steps-stand : (r : Steps) (i : ℕ) → r .count ≡ i → i ≤ 64 → length (r .steps) ≡ 64 → All StepValid (take i (r .steps)) → StepsValid r

@@ -42,7 +42,8 @@ gained-none t s = record { is = refl; light = omega arith }
 -- a like term adds its coefficient, any other nothing
 like-adds : (t u : S.Term) → isLike t u ≡ true → weight (only (monomial t)) u ≡ u .coef
 unfolding isLike only
-like-adds t u e = ap (λ (z : ℤ). u .coef *ℤ z) (go (compareMonomials (monomial t) (monomial u)) (ap (λ (o : Ordering). isEq o) (sym (compareTerms-monomial t u)) ∙ e)) ∙ R.*ℤ-1 (u .coef)
+like-adds t u e = ap (λ (z : ℤ). u .coef *ℤ z) (go (compareMonomials (monomial t) (monomial u)) (ap (λ (o : Ordering). isEq o)
+    (sym (compareTerms-monomial t u)) ∙ e)) ∙ R.*ℤ-1 (u .coef)
   where
     go : (o : Ordering) → isEq o ≡ true → cond (isEq o) (pos 1) (pos 0) ≡ pos 1
     go Ordering·lt e = absurd (subst T (sym e) tt)
@@ -51,7 +52,8 @@ like-adds t u e = ap (λ (z : ℤ). u .coef *ℤ z) (go (compareMonomials (monom
 
 unlike-adds : (t u : S.Term) → isLike t u ≡ false → weight (only (monomial t)) u ≡ pos 0
 unfolding isLike only
-unlike-adds t u e = ap (λ (z : ℤ). u .coef *ℤ z) (go (compareMonomials (monomial t) (monomial u)) (ap (λ (o : Ordering). isEq o) (sym (compareTerms-monomial t u)) ∙ e)) ∙ I.*ℤ-zero (u .coef)
+unlike-adds t u e = ap (λ (z : ℤ). u .coef *ℤ z) (go (compareMonomials (monomial t) (monomial u)) (ap (λ (o : Ordering). isEq o)
+    (sym (compareTerms-monomial t u)) ∙ e)) ∙ I.*ℤ-zero (u .coef)
   where
     go : (o : Ordering) → isEq o ≡ false → cond (isEq o) (pos 1) (pos 0) ≡ pos 0
     go Ordering·lt e = refl
@@ -111,7 +113,8 @@ module _ (t : Term) (s : Step) (i : ℕ) (here : i < rowCount (s .rule)) (g : �
   -- a product with another mark adds nothing
   pub gained-apart : (k h : ℕ) → k ≡ markOf product → h ≡ markOf (termOf t) → (k ≡ h → ⊥) → Gained t s (i + 1) g
   gained-apart k h ek eh n =
-      let unlike : isLike (termOf t) (S.tidy product) ≡ false = unlike-marks (termOf t) (S.tidy product) (λ e. n (ek ∙ sym (mark-tidy product) ∙ sym e ∙ sym eh)) in
+      let unlike : isLike (termOf t) (S.tidy product) ≡ false = unlike-marks (termOf t) (S.tidy product) (λ e. n (ek ∙ sym (mark-tidy product) ∙ sym e
+      ∙ sym eh)) in
       gained-more (pos 0) g (record { is = sym (unlike-adds (termOf t) (S.tidy product) unlike); light = omega arith }) (sym (I.+ℤ-idr g))
 
 -- the products with all rows
@@ -121,5 +124,6 @@ unfolding stepOf
 gained-all t s i g v six e w =
     w .is ∙ ap (λ (n : ℕ). coeff (monomial (termOf t)) (map S.tidy (map (timesTerm (termOf (s .m))) (take n (rows s))))) e
     ∙ ap (λ (l : List S.Term). coeff (monomial (termOf t)) (map S.tidy l))
-    (ap (map (timesTerm (termOf (s .m)))) (row-all (s .letters) (firstRow (s .rule)) (rowCount (s .rule)) ∙ tied (s .rule) (v .rule) (s .letters) six) ∙ sym (stepTerms-rule (stepOf s)))
+    (ap (map (timesTerm (termOf (s .m)))) (row-all (s .letters) (firstRow (s .rule)) (rowCount (s .rule)) ∙ tied (s .rule) (v .rule) (s .letters) six)
+    ∙ sym (stepTerms-rule (stepOf s)))
     ∙ sym (gather-coefficient (monomial (termOf t)) (stepTerms (stepOf s)))

@@ -1,4 +1,5 @@
--- How many terms there are after others are put in: each takes away at most one; one whose mark no term has adds one, and one whose size no term with its mark has
+-- How many terms there are after others are put in: each takes away at most one; one whose mark no term has adds one, and one whose size no term with its mark
+-- has
 -- takes none away. Assumes nothing.
 use mathlib.Core.Path.{_≡_, refl, sym, ap, subst, _∙_}
 use mathlib.Core.Bool.{Bool, true, false}
@@ -69,7 +70,8 @@ cancelled : (t : S.Term) (c : ℤ) → NonZero c → tidy t .coef +ℤ c ≡ pos
 unfolding tidy
 cancelled t c z e =
     let sign = factorsSign (t .factors) *ℤ exchangeSign (t .part) in
-    let same : natAbs c ≡ natAbs (t .coef) * natAbs sign = ap natAbs (neg-unique (t .coef *ℤ sign) c e) ∙ natAbs-neg (t .coef *ℤ sign) ∙ natAbs-*ℤ (t .coef) sign in
+    let same : natAbs c ≡ natAbs (t .coef) * natAbs sign = ap natAbs (neg-unique (t .coef *ℤ sign) c e) ∙ natAbs-neg (t .coef *ℤ sign)
+    ∙ natAbs-*ℤ (t .coef) sign in
     by-unit (natAbs sign) (sign-unit t) same
   where
     by-unit : (n : ℕ) → n ≤ 1 → natAbs c ≡ natAbs (t .coef) * n → natAbs c ≡ natAbs (t .coef)
@@ -185,7 +187,8 @@ module _ (marks seen : List ℕ) (ts ps : List S.Term) (score : ℕ) (w : Ahead 
             (λ u m e. shows-some (u .coef) (subst (λ (v : ℕ). Shows v (u .coef)) a (before u m e .0))) (gatherInto ts ps) (w .marked)
 
     -- one that surely takes none away
-    pub ahead-kept : ((c : ℤ) → natAbs c ≡ natAbs (t .coef) → Shows (getD marks (markOf t) 0) c → ⊥) → Ahead marks (seen ++ markOf t ∷ []) ts (ps ++ t ∷ []) (score + 1)
+    pub ahead-kept : ((c : ℤ) → natAbs c ≡ natAbs (t .coef) → Shows (getD marks (markOf t) 0) c → ⊥) → Ahead marks (seen ++ markOf t ∷ []) ts (ps ++ t ∷ [])
+        (score + 1)
     ahead-kept k = record {
       marked = marked-more;
       long = omega (arith, w .long, insert-kept (tidy t) (gatherInto ts ps) unlike, ap length (one-more ts ps t), length-append ps (t ∷ []));
@@ -204,9 +207,11 @@ into-long ts (t ∷ ps) = omega (arith, into-long (insert (tidy t) ts) ps, inser
 -- ════ marks carried over
 
 -- terms put in at whose marks 255 stands leave all covered
-pub into-covered : (marks : List ℕ) (ts ps : List S.Term) → All (λ (p : S.Term). getD marks (markOf p) 0 ≡ 255) ps → Covering marks ts → Covering marks (gatherInto ts ps)
+pub into-covered : (marks : List ℕ) (ts ps : List S.Term) → All (λ (p : S.Term). getD marks (markOf p) 0 ≡ 255) ps → Covering marks ts
+    → Covering marks (gatherInto ts ps)
 unfolding Covering gatherInto Shows
 into-covered marks ts [] a w = w
 into-covered marks ts (p ∷ ps) a w =
     into-covered marks (insert (tidy p) ts) ps (a .1)
-    (insert-all (λ (u : S.Term). Shows (getD marks (markOf u) 0) (u .coef)) (tidy p) (λ u e. inr (ap (λ (n : ℕ). getD marks n 0) (e ∙ mark-tidy p) ∙ a .0)) ts w)
+    (insert-all (λ (u : S.Term). Shows (getD marks (markOf u) 0) (u .coef)) (tidy p) (λ u e. inr (ap (λ (n : ℕ). getD marks n 0) (e ∙ mark-tidy p)
+    ∙ a .0)) ts w)

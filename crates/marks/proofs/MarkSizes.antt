@@ -92,7 +92,8 @@ module _ (f : List ℕ) (n : ℕ) (h : n ≤ length f) where
 
 -- ════ the letters of a rule
 
-six-marks : (ls : List ℕ) (a b c d e g : ℕ) → Letter (getD ls 0 0) a → Letter (getD ls 1 0) b → Letter (getD ls 2 0) c → Letter (getD ls 3 0) d → Letter (getD ls 4 0) e → Letter (getD ls 5 0) g
+six-marks : (ls : List ℕ) (a b c d e g : ℕ) → Letter (getD ls 0 0) a → Letter (getD ls 1 0) b → Letter (getD ls 2 0) c → Letter (getD ls 3 0) d
+    → Letter (getD ls 4 0) e → Letter (getD ls 5 0) g
     → (p : ℕ) → 1 ≤ p → p ≤ 6 → getD (1 ∷ a ∷ b ∷ c ∷ d ∷ e ∷ g ∷ 1 ∷ []) p 0 ≡ letterMark (letter ls p)
 unfolding letter
 six-marks ls a b c d e g u v w x y z zero h k = absurd (omega arith)
@@ -133,7 +134,8 @@ some-places l c h e = (rw (ne-eqb c 0 e), three-small (getD l (c / 64) 0) (getD 
 pub product-small : (b p : ℕ) → b ≤ 62500 → p ≤ 62500 → b * p ≤ 3906250000
 product-small b p h k = N.mul-le-mul h k
 
-pub product-is : (a b x y z : ℕ) (l : List ℕ) (n : ℕ) → x ≡ placesMark l (n / 16777216 % 512) → y ≡ placesMark l (n / 32768 % 512) → z ≡ placesMark l (n / 64 % 512)
+pub product-is : (a b x y z : ℕ) (l : List ℕ) (n : ℕ) → x ≡ placesMark l (n / 16777216 % 512) → y ≡ placesMark l (n / 32768 % 512)
+    → z ≡ placesMark l (n / 64 % 512)
     → ((a + (x + y + z) + 3 * (b * (getD l (n % 64 / 8) 0 * getD l (n % 64 % 8) 0))) % 509 ≡ productMark a b l n)
     × ((a + (x + y + z) + 3 * (b * (getD l (n % 64 / 8) 0 * getD l (n % 64 % 8) 0))) % 509 < 509)
 unfolding productMark rowMark rowPartMark
@@ -151,7 +153,8 @@ unfolding Covering
 covering-none marks = tt
 
 -- what stands at a mark shows the terms that had it before, and the new one
-covers-more : (marks : List ℕ) (ts : List S.Term) (t : S.Term) (h r : ℕ) → length marks ≡ 512 → h ≡ markOf t → Joint (getD marks h 0) (sizeMark (t .coef)) r → Covering marks ts
+covers-more : (marks : List ℕ) (ts : List S.Term) (t : S.Term) (h r : ℕ) → length marks ≡ 512 → h ≡ markOf t → Joint (getD marks h 0)
+    (sizeMark (t .coef)) r → Covering marks ts
     → Covering (set marks h r) (ts ++ t ∷ [])
 unfolding Covering Shows sizeMark
 covers-more marks ts t h r n e j w =
@@ -180,21 +183,25 @@ covers-more marks ts t h r n e j w =
         go : (b : Bool) → eqb (markOf u) h ≡ b → Shows (getD (set marks h r) (markOf u) 0) (u .coef)
         go true q =
             let same : markOf u ≡ h = eqb-true (markOf u) h q in
-            subst (λ (v : ℕ). Shows v (u .coef)) (sym (there (markOf u) (sym same))) (joins (u .coef) (subst (λ (k : ℕ). Shows (getD marks k 0) (u .coef)) same m))
+            subst (λ (v : ℕ). Shows v (u .coef)) (sym (there (markOf u) (sym same))) (joins (u .coef) (subst (λ (k : ℕ). Shows (getD marks k 0)
+            (u .coef)) same m))
         go false q = subst (λ (v : ℕ). Shows v (u .coef)) (sym (getD-set-other marks h (markOf u) r 0 (eqb-false (markOf u) h q))) m
 
 -- the mark of the next of n rows
 pub covering-more : (rows : List (List ℕ)) (coefs : List ℤ) (n : ℕ) (marks : List ℕ) (i h r : ℕ) → Run n rows coefs → i < n → length marks ≡ 512
-    → h ≡ markOf (termBy (getD rows i []) (getD coefs i (pos 0))) → Joint (getD marks h 0) (sizeMark (getD coefs i (pos 0))) r → Covering marks (take i (runOf n rows coefs))
+    → h ≡ markOf (termBy (getD rows i []) (getD coefs i (pos 0))) → Joint (getD marks h 0) (sizeMark (getD coefs i (pos 0))) r
+    → Covering marks (take i (runOf n rows coefs))
     → Covering (set marks h r) (take (i + 1) (runOf n rows coefs))
 unfolding termBy
 covering-more rows coefs n marks i h r v inside long e j w =
     let t = termBy (getD rows i []) (getD coefs i (pos 0)) in
     let next : take (i + 1) (runOf n rows coefs) ≡ take i (runOf n rows coefs) ++ t ∷ [] =
-    take-add i 1 (runOf n rows coefs) ∙ ap (λ (l : List S.Term). take i (runOf n rows coefs) ++ take 1 l) (run-at rows coefs n (v .room) (v .beside) i inside) in
+    take-add i 1 (runOf n rows coefs) ∙ ap (λ (l : List S.Term). take i (runOf n rows coefs) ++ take 1 l) (run-at rows coefs n (v .room)
+    (v .beside) i inside) in
     subst (Covering (set marks h r)) (sym next) (covers-more marks (take i (runOf n rows coefs)) t h r long e j w)
 
 -- all of them
-pub covering-all : (rows : List (List ℕ)) (coefs : List ℤ) (n : ℕ) (marks : List ℕ) (i : ℕ) → Run n rows coefs → n ≤ i → Covering marks (take i (runOf n rows coefs)) → Covering marks (runOf n rows coefs)
+pub covering-all : (rows : List (List ℕ)) (coefs : List ℤ) (n : ℕ) (marks : List ℕ) (i : ℕ) → Run n rows coefs → n ≤ i
+    → Covering marks (take i (runOf n rows coefs)) → Covering marks (runOf n rows coefs)
 covering-all rows coefs n marks i v h w =
     subst (Covering marks) (take-all i (runOf n rows coefs) (omega (arith, run-length rows coefs n (v .room) (v .beside)))) w

@@ -67,13 +67,15 @@ module _ (marks : List ℕ) (size : ℕ) (s : Step) (v : StepValid s) (six : len
     unfolding product markOf timesTerm
     mark-is c = sym eh
 
-    products : (c : ℤ) → map (timesTerm (withCoef c (termOf (s .m)))) (take (i + 1) (rows s)) ≡ map (timesTerm (withCoef c (termOf (s .m)))) (take i (rows s)) ++ product c ∷ []
+    products : (c : ℤ) → map (timesTerm (withCoef c (termOf (s .m)))) (take (i + 1) (rows s)) ≡ map (timesTerm (withCoef c (termOf (s .m))))
+        (take i (rows s)) ++ product c ∷ []
     unfolding product
     products c =
         ap (map (timesTerm (withCoef c (termOf (s .m))))) (row-next (s .letters) (firstRow (s .rule)) (rowCount (s .rule)) i here)
         ∙ mapped-behind (timesTerm (withCoef c (termOf (s .m)))) (take i (rows s)) (rowTerm (s .letters) (getD ruleRows (firstRow (s .rule) + i) 0))
 
-    ahead-as : (n : ℕ) (c : ℤ) (ts : List S.Term) → Ahead marks (seen ++ markOf (product c) ∷ []) ts (map (timesTerm (withCoef c (termOf (s .m)))) (take i (rows s)) ++ product c ∷ []) n
+    ahead-as : (n : ℕ) (c : ℤ) (ts : List S.Term) → Ahead marks (seen ++ markOf (product c) ∷ []) ts (map (timesTerm (withCoef c (termOf (s .m))))
+        (take i (rows s)) ++ product c ∷ []) n
         → Ahead marks (seen ++ h ∷ []) ts (map (timesTerm (withCoef c (termOf (s .m)))) (take (i + 1) (rows s))) n
     ahead-as n c ts q =
         subst (λ (ps : List S.Term). Ahead marks (seen ++ h ∷ []) ts ps n) (sym (products c))
@@ -82,13 +84,15 @@ module _ (marks : List ℕ) (size : ℕ) (s : Step) (v : StepValid s) (six : len
     -- one more row, whatever its mark
     pub passed-seen : Passed marks size (seen ++ h ∷ []) s score (i + 1)
     unfolding Passed
-    passed-seen c z k ts q a = ahead-as score c ts (ahead-more marks seen ts (map (timesTerm (withCoef c (termOf (s .m)))) (take i (rows s))) score (before c z k ts q a) (product c))
+    passed-seen c z k ts q a = ahead-as score c ts (ahead-more marks seen ts (map (timesTerm (withCoef c (termOf (s .m))))
+        (take i (rows s))) score (before c z k ts q a) (product c))
 
     -- the size of M's coefficient
     product-size : (c : ℤ) → natAbs (product c .coef) ≡ natAbs c
     unfolding product timesTerm rowTerm
     product-size c =
-        natAbs-*ℤ c (rowSign (getD ruleRows (firstRow (s .rule) + i) 0)) ∙ ap (λ (n : ℕ). natAbs c * n) (sign-one (getD ruleRows (firstRow (s .rule) + i) 0)) ∙ N.mul-one (natAbs c)
+        natAbs-*ℤ c (rowSign (getD ruleRows (firstRow (s .rule) + i) 0)) ∙ ap (λ (n : ℕ). natAbs c * n)
+        (sign-one (getD ruleRows (firstRow (s .rule) + i) 0)) ∙ N.mul-one (natAbs c)
 
     -- one more row whose mark no earlier one has
     pub passed-more : StepFits s → s .m .«factor_count» ≤ length (s .m .factors) → (l : List ℕ) → LettersMarked (s .letters) l → (Among h seen → ⊥)
@@ -109,12 +113,15 @@ module _ (marks : List ℕ) (size : ℕ) (s : Step) (v : StepValid s) (six : len
         unlike : SurelyKept marks size h → (d : ℤ) → natAbs d ≡ natAbs (product c .coef) → Shows (getD marks (markOf (product c)) 0) d → ⊥
         unlike n d e m = n .unlike d (sized size c d (e ∙ product-size c) k) (subst (λ (k : ℕ). Shows (getD marks k 0) d) (mark-is c) m)
 
-        by-score : (r : ℕ) → Scored marks size h l (getD ruleRows (firstRow (s .rule) + i) 0) r → Ahead marks (seen ++ markOf (product c) ∷ []) ts (ps ++ product c ∷ []) (score + r)
-        by-score zero n = subst (Ahead marks (seen ++ markOf (product c) ∷ []) ts (ps ++ product c ∷ [])) (sym (N.add-zero score)) (ahead-more marks seen ts ps score passed (product c))
+        by-score : (r : ℕ) → Scored marks size h l (getD ruleRows (firstRow (s .rule) + i) 0) r
+            → Ahead marks (seen ++ markOf (product c) ∷ []) ts (ps ++ product c ∷ []) (score + r)
+        by-score zero n = subst (Ahead marks (seen ++ markOf (product c) ∷ []) ts (ps ++ product c ∷ [])) (sym (N.add-zero score))
+            (ahead-more marks seen ts ps score passed (product c))
         by-score (suc zero) n = ahead-kept marks seen ts ps score passed (product c) not-seen (unlike (n .kept refl))
         by-score (suc (suc zero)) n =
             ahead-new marks seen ts ps score passed (product c) not-seen (ap (λ (k : ℕ). getD marks k 0) (mark-is c) ∙ n .new refl .unmarked)
-            (product-stands (s .letters) l w c (termOf (s .m)) (getD ruleRows (firstRow (s .rule) + i) 0) z (v .m .inShape) (row-fits s v six fits i here few .1)
+            (product-stands (s .letters) l w c (termOf (s .m)) (getD ruleRows (firstRow (s .rule) + i) 0) z (v .m .inShape)
+            (row-fits s v six fits i here few .1)
             (row-good (firstRow (s .rule) + i) (omega (arith, rows-inside (s .rule) (v .rule) .0))) (n .new refl .stands))
         by-score (suc (suc (suc r))) n = absurd (omega (arith, n .few))
 
@@ -126,13 +133,27 @@ module _ (marks : List ℕ) (size : ℕ) (s : Step) (v : StepValid s) (six : len
       let ps : List S.Term = map g (take i (rows s)) in
       let qs : List S.Term = map g (drop i (rows s)) in
       let apart : map g (rows s) ≡ ps ++ qs = ap (map g) (sym (take-append-drop i (rows s))) ∙ map-append g (take i (rows s)) (drop i (rows s)) in
-      let all : length (ps ++ qs) ≡ rowCount (s .rule) = ap length (sym apart) ∙ length-map (rows s) g ∙ rows-long (s .letters) (firstRow (s .rule)) (rowCount (s .rule)) in
+      let all : length (ps ++ qs) ≡ rowCount (s .rule) = ap length (sym apart) ∙ length-map (rows s) g ∙ rows-long (s .letters) (firstRow (s .rule))
+      (rowCount (s .rule)) in
       let d : List S.Term = gatherInto (f .terms) ps in
-      let reached : gatherInto d qs ≡ gather (f .terms ++ stepTerms (record { rule = s .rule; letters = take (ruleLetters (s .rule)) (s .letters); m = withCoef c (termOf (s .m)) })) =
+      let reached : gatherInto d qs ≡ gather (f .terms ++ stepTerms (record {
+        rule = s .rule;
+        letters = take (ruleLetters (s .rule)) (s .letters);
+        m =
+            withCoef c (termOf (s .m));
+      })) =
       sym (into-join (f .terms) ps qs) ∙ ap (gatherInto (f .terms)) (sym apart ∙ ap (map g) (tied (s .rule) (v .rule) (s .letters) six)
       ∙ sym (stepTerms-rule (record { rule = s .rule; letters = take (ruleLetters (s .rule)) (s .letters); m = withCoef c (termOf (s .m)) })))
-      ∙ gather-onto (f .terms) (stepTerms (record { rule = s .rule; letters = take (ruleLetters (s .rule)) (s .letters); m = withCoef c (termOf (s .m)) })) (form-gathered f shape) in
-      let few : length (f .terms) ≤ length (gatherInto d qs) = omega (arith, w c z k (f .terms) q (form-gathered f shape .nonzero) .long, into-long d qs, length-append ps qs, all, h) in
+      ∙ gather-onto (f .terms) (stepTerms (record { rule = s .rule; letters = take (ruleLetters (s .rule)) (s .letters); m = withCoef c (termOf (s .m)) }))
+      (form-gathered f shape) in
+      let few : length (f .terms) ≤ length (gatherInto d qs) = omega (
+        arith,
+        w c z k (f .terms) q (form-gathered f shape .nonzero) .long,
+        into-long d qs,
+        length-append ps qs,
+        all,
+        h,
+      ) in
       subst (λ (ts : List S.Term). length (f .terms) ≤ length ts) reached few
 
 -- ════ every step of one rule with the same marks
@@ -147,7 +168,8 @@ pub record Fitting (w : StepMarks) (n : ℕ) (rows : List ℕ) (s : Step) : Type
   pub rowsAre : RowsOf (s .rule) rows
 
 -- the mark of M times a row
-pub row-marked : (w : StepMarks) (rows : List ℕ) (s : Step) → T (isRule (s .rule)) → StepMarked (s .letters) (termOf (s .m)) w → RowsOf (s .rule) rows → (i : ℕ) → i < rowCount (s .rule)
+pub row-marked : (w : StepMarks) (rows : List ℕ) (s : Step) → T (isRule (s .rule)) → StepMarked (s .letters) (termOf (s .m)) w → RowsOf (s .rule) rows
+    → (i : ℕ) → i < rowCount (s .rule)
     → (h : ℕ) → h ≡ productMark (w .factors) (w .part) (w .letters) (getD rows i 0)
     → h ≡ markOf (timesTerm (termOf (s .m)) (rowTerm (s .letters) (getD ruleRows (firstRow (s .rule) + i) 0)))
 row-marked w given s t m q i here h e =
@@ -187,7 +209,8 @@ module _ {marks : List ℕ} {size : ℕ} {w : StepMarks} {n : ℕ} {rows : List 
     }
 
     -- none has
-    pub all-more : {r : ℕ} → (Among h (take i hs) → ⊥) → Scored marks size h (w .letters) (getD rows i 0) r → AllPassed marks size w n rows (set hs i h) (score + r) (i + 1)
+    pub all-more : {r : ℕ} → (Among h (take i hs) → ⊥) → Scored marks size h (w .letters) (getD rows i 0) r → AllPassed marks size w n rows (set hs i h)
+        (score + r) (i + 1)
     all-more {r} unseen v = record { each = there }
       where
         there : (s : Step) → Fitting w n rows s → Passed marks size (take (i + 1) (set hs i h)) s (score + r) (i + 1)
@@ -197,7 +220,8 @@ module _ {marks : List ℕ} {size : ℕ} {w : StepMarks} {n : ℕ} {rows : List 
             (f .fits) (f .few) (w .letters) (f .marked .letters) unseen r (subst (λ (k : ℕ). Scored marks size h (w .letters) k r) (row-is f inside) v))
 
   -- the score is as much as there are rows
-  pub all-enough : {hs : List ℕ} {score i : ℕ} {s : Step} → AllPassed marks size w n rows hs score i → Fitting w n rows s → n ≤ score → NotShorter marks size (stepOf s)
+  pub all-enough : {hs : List ℕ} {score i : ℕ} {s : Step} → AllPassed marks size w n rows hs score i → Fitting w n rows s → n ≤ score
+      → NotShorter marks size (stepOf s)
   all-enough {hs} {score} {i} {s} a f h = passed-enough marks size s (f .valid) (f .six) (take i hs) score i (a .each s f) (omega (arith, f .countIs))
 
 -- ════ a mark among the first ones
@@ -270,16 +294,19 @@ raised-more before w given i h marks r small e = record { long = length-set mark
         go false p = subst (λ (n : ℕ). (n ≡ getD before k 0) ⊎ (n ≡ 255)) (sym (getD-set-other marks h k 255 0 (eqb-false k h p))) (r .kept k)
 
 -- what holds of each row times M holds of all
-products-each : (P : S.Term → Type 0) (m : S.Term) (l : List ℕ) (k n : ℕ) → ((j : ℕ) → j < n → P (timesTerm m (rowTerm l (getD ruleRows (k + j) 0)))) → All P (map (timesTerm m) (rowTerms l k n))
+products-each : (P : S.Term → Type 0) (m : S.Term) (l : List ℕ) (k n : ℕ) → ((j : ℕ) → j < n → P (timesTerm m (rowTerm l (getD ruleRows (k + j) 0))))
+    → All P (map (timesTerm m) (rowTerms l k n))
 unfolding rowTerms
 products-each P m l k zero h = tt
 products-each P m l k (suc n) h = (
   subst (λ (x : ℕ). P (timesTerm m (rowTerm l (getD ruleRows x 0)))) (N.add-zero k) (h 0 (omega arith)),
-  products-each P m l (k + 1) n (λ j g. let e : k + suc j ≡ k + 1 + j = omega arith in subst (λ (x : ℕ). P (timesTerm m (rowTerm l (getD ruleRows x 0)))) e (h (suc j) (omega arith))),
+  products-each P m l (k + 1) n (λ j g. let e : k + suc j ≡ k + 1 + j = omega arith in subst (λ (x : ℕ). P (timesTerm m (rowTerm l (getD ruleRows x 0)))) e (h
+      (suc j) (omega arith))),
 )
 
 -- all of them: the terms reached are covered
-pub raised-all : (before : List ℕ) (w : StepMarks) (rows : List ℕ) (i : ℕ) (marks : List ℕ) (s : Step) → Raised before w rows i marks → i ≡ rowCount (s .rule) → StepValid s → length (s .letters) ≡ 6
+pub raised-all : (before : List ℕ) (w : StepMarks) (rows : List ℕ) (i : ℕ) (marks : List ℕ) (s : Step) → Raised before w rows i marks
+    → i ≡ rowCount (s .rule) → StepValid s → length (s .letters) ≡ 6
     → StepMarked (s .letters) (termOf (s .m)) w → RowsOf (s .rule) rows → Carried before (stepOf s) marks
 unfolding Carried stepOf Covering Shows
 raised-all before w given i marks s r e v six m o ts q =

@@ -70,7 +70,8 @@ module _ (op : Operation) (t u v w : Term) (p : Pair op t u) (h : Scalars t v) (
 
   pub joins-fits : natAbs (v .coef) * natAbs (w .coef) < 2 ^ 63
   joins-fits =
-      let e : natAbs (v .coef) * natAbs (w .coef) ≡ natAbs (t .coef) * natAbs (u .coef) = (λ i. natAbs (scalars-coef t v h i) * natAbs (scalars-coef u w k i)) in
+      let e : natAbs (v .coef) * natAbs (w .coef) ≡ natAbs (t .coef) * natAbs (u .coef) = (λ i. natAbs (scalars-coef t v h i) * natAbs (scalars-coef u w k i))
+      in
       omega (arith, e, pair-size t u (p .fits .coef))
 
   pub joins-part : (partOf (v .part) ≡ []) ⊎ (partOf (w .part) ≡ [])
@@ -131,7 +132,8 @@ module _ (op : Operation) (t u : Term) (few : Few) (m : FewMade (partsOf op (par
     unfolding listOf
     made-few y h = go (few .count) refl h ∙ sym times-each
       where
-        go : (n : ℕ) → few .count ≡ n → n < 2 → map termOf (take (few .count) (x ∷ y ∷ [])) ≡ map (timesTerm (joinedScalars (termOf t) (termOf u))) (map termOf (take (few .count) (few .first ∷ few .second ∷ [])))
+        go : (n : ℕ) → few .count ≡ n → n < 2 → map termOf (take (few .count) (x ∷ y ∷ [])) ≡ map (timesTerm (joinedScalars (termOf t) (termOf u)))
+            (map termOf (take (few .count) (few .first ∷ few .second ∷ [])))
         go zero e g = rw e
         go (suc zero) e g = rw (e, ex)
         go (suc (suc n)) e g = absurd (omega arith)

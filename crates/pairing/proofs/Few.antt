@@ -71,7 +71,8 @@ module _ (made : List ℕ → List S.Term) (q : Part) (r : Few) where
   at-wedge a b e h = subst (λ (q : Part). FewMade (made (partOf q)) r) (sym e) h
 
 -- the one part that is there
-pub times-made : (p q : List ℕ) (o : Part) (t : Term) (r : Few) → partOf o ≡ p ++ q → Made (plus [] (partOf o)) t → FewMade (termOf t ∷ []) r → FewMade (timesParts p q) r
+pub times-made : (p q : List ℕ) (o : Part) (t : Term) (r : Few) → partOf o ≡ p ++ q → Made (plus [] (partOf o)) t → FewMade (termOf t ∷ []) r
+    → FewMade (timesParts p q) r
 unfolding timesParts
 times-made p q o t r e m h =
     few-as r (plus [] (partOf o) ∷ []) (plus [] (p ++ q) ∷ []) (ap (λ (l : List ℕ). plus [] l ∷ []) e) (one-made r t (plus [] (partOf o)) m h)

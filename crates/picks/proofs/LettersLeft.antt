@@ -44,7 +44,8 @@ module _ (f : List ℕ) (n mask : ℕ) (h : n ≤ length f) where
     unfolding leftOver all isVectors joined
     vectors-stay e l el s =
         let rest = joined (leftOver (b / 2) (from (i + 1))) in
-        let here : length (joined (leftOver b (from i))) ≡ length (lettersOf (getD f i 0)) + length rest = rw (next, e) (length-append (lettersOf (getD f i 0)) rest) in
+        let here : length (joined (leftOver b (from i))) ≡ length (lettersOf (getD f i 0)) + length rest = rw (next, e)
+        (length-append (lettersOf (getD f i 0)) rest) in
         record {
           is = w .is ∙ rw (next, e, ne-eqb (length (lettersOf (getD f i 0))) 1 (λ q. s (el ∙ q)));
           counted = omega (arith, w .counted, here, el);

@@ -93,7 +93,8 @@ digits-at from (suc n) zero h = ap (λ (k : ℕ). 48 + ones k) (sym (N.add-zero 
 digits-at from (suc n) (suc j) h = digits-at (from + 1) n j (omega arith) ∙ ap (λ (k : ℕ). 48 + ones k) (omega arith)
 
 -- by the digits
-pub taken-counted : {A : Type 0} (digits : List ℕ) (j : ℕ) (l : List A) → digits ≡ bitDigits 0 64 → length l ≤ 6 → j < 2 ^ length l → getD digits j 0 ≡ 48 + length (taken j l)
+pub taken-counted : {A : Type 0} (digits : List ℕ) (j : ℕ) (l : List A) → digits ≡ bitDigits 0 64 → length l ≤ 6 → j < 2 ^ length l
+    → getD digits j 0 ≡ 48 + length (taken j l)
 taken-counted {A} digits j l e few h =
     let below : j < 64 = N.lt-of-lt-of-le h (pow-mono few) in
     ap (λ (c : List ℕ). getD c j 0) e ∙ digits-at 0 64 j below ∙ ap (λ (k : ℕ). 48 + ones k) (N.zero-add j) ∙ ap (λ (n : ℕ). 48 + n) (sym (taken-count j l h))
@@ -116,13 +117,15 @@ first-of P [] a h = absurd (omega arith)
 first-of P (x ∷ l) a h = a .0
 
 -- what it takes begins with more than what it leaves, unless the second number is the first
-pub left-first : (l : List ℕ) (j : ℕ) → O.Asc nat-laws l → j % 2 ≡ 0 → getD l 0 0 < getD l 1 0 → 0 < length (taken j l) → getD (leftOver j l) 0 0 < getD (taken j l) 0 0
+pub left-first : (l : List ℕ) (j : ℕ) → O.Asc nat-laws l → j % 2 ≡ 0 → getD l 0 0 < getD l 1 0 → 0 < length (taken j l)
+    → getD (leftOver j l) 0 0 < getD (taken j l) 0 0
 unfolding taken leftOver
 left-first [] j a e h t = absurd (omega arith)
 left-first (x ∷ []) j a e h t = absurd (omega arith)
 left-first (x ∷ y ∷ l) j a e h t =
     let some : 0 < length (taken (j / 2) (y ∷ l)) = rw e at t in
-    let big : y ≤ getD (taken (j / 2) (y ∷ l)) 0 0 = first-of (λ (n : ℕ). y ≤ n) (taken (j / 2) (y ∷ l)) (taken-all (λ (n : ℕ). y ≤ n) (j / 2) (y ∷ l) (rises-all y l (a .1))) some in
+    let big : y ≤ getD (taken (j / 2) (y ∷ l)) 0 0 = first-of (λ (n : ℕ). y ≤ n) (taken (j / 2) (y ∷ l)) (taken-all (λ (n : ℕ). y ≤ n) (j / 2) (y ∷ l)
+    (rises-all y l (a .1))) some in
     rw e (omega (arith, big, h))
 
 -- ════ one number after the other
@@ -172,5 +175,6 @@ module _ (from : List ℕ) (n mask : ℕ) (h : n ≤ length from) (seven : n ≤
   pub under-all : (to : List ℕ) (b c i : ℕ) → i ≡ n → Under (take n from) mask to b c i → MaskTaken (take n from) mask to c
   unfolding taken
   under-all to b c i g u =
-      let is : take c to ≡ taken mask (take n from) = sym (append-nil (take c to)) ∙ sym (ap (λ (k : List ℕ). take c to ++ taken b k) (nothing-left from n i h (omega arith))) ∙ u .is in
+      let is : take c to ≡ taken mask (take n from) = sym (append-nil (take c to)) ∙ sym (ap (λ (k : List ℕ). take c to ++ taken b k)
+      (nothing-left from n i h (omega arith))) ∙ u .is in
       record { is = is; few = omega (arith, u .few, length-take-le n from h); places = u .places }

@@ -50,7 +50,8 @@ module _ (t : Term) (k : ℕ) (counted : Counted t) (seven : length (t .factors)
 
   -- numbers of factors
   pub factors-small : (f : List ℕ) (n : ℕ) → MaskTaken (take (t .«factor_count») (t .factors)) k f n → All (λ (k : ℕ). k < 16843008) (take n f)
-  factors-small f n w = subst (All (λ (k : ℕ). k < 16843008)) (sym (w .is)) (taken-all (λ (k : ℕ). k < 16843008) k (take (t .«factor_count») (t .factors)) (counted .small))
+  factors-small f n w = subst (All (λ (k : ℕ). k < 16843008)) (sym (w .is)) (taken-all (λ (k : ℕ). k < 16843008) k (take (t .«factor_count») (t .factors))
+      (counted .small))
 
   -- no more than seven
   pub factors-few : (f : List ℕ) (n : ℕ) → MaskTaken (take (t .«factor_count») (t .factors)) k f n → n ≤ 7
@@ -64,11 +65,19 @@ factors-left t k left counted seven h e f n w =
     let long : length (termOf t .factors) ≡ t .«factor_count» =
     length-map (take (t .«factor_count») (t .factors)) lettersOf ∙ length-take-le (t .«factor_count») (t .factors) (enough t k counted seven) in
     let inside : k < 2 ^ length (termOf t .factors) = subst (λ (m : ℕ). k < 2 ^ m) (sym long) h in
-    factors-taken t left counted seven f n w ∙ ap (λ (m : ℕ). taken m (termOf t .factors)) (e ∙ ap (λ (m : ℕ). 2 ^ m - 1 - k) (sym long)) ∙ sym (left-taken (termOf t .factors) k inside)
+    factors-taken t left counted seven f n w ∙ ap (λ (m : ℕ). taken m (termOf t .factors)) (e ∙ ap (λ (m : ℕ). 2 ^ m - 1 - k) (sym long))
+    ∙ sym (left-taken (termOf t .factors) k inside)
 
 -- M with the coefficient 1
-pub unit-multiplier-is : (t : Term) (k rule : ℕ) → Counted t → length (t .factors) ≡ 7 → (f : List ℕ) (n : ℕ) (p : Part) → MaskTaken (take (t .«factor_count») (t .factors)) k f n
-    → partOf p ≡ (if eqb (ruleKind rule) vector then [] else partOf (t .part)) → MultiplierOf t k rule (record { coef = pos 1; factors = f; «factor_count» = n; part = p })
+pub unit-multiplier-is : (t : Term) (k rule : ℕ) → Counted t → length (t .factors) ≡ 7 → (f : List ℕ) (n : ℕ) (p : Part)
+    → MaskTaken (take (t .«factor_count») (t .factors)) k f n
+    → partOf p ≡ (if eqb (ruleKind rule) vector then [] else partOf (t .part)) → MultiplierOf t k rule (record {
+      coef = pos 1;
+      factors = f;
+      «factor_count» =
+          n;
+      part = p;
+    })
 unfolding termOf multiplier
 unit-multiplier-is t k rule counted seven f n p w e = record {
   is = λ i. record { coef = pos 1; factors = factors-taken t k counted seven f n w i; part = e i };
@@ -92,11 +101,13 @@ pub part-kept : (p : Part) (kind : ℕ) → (kind ≡ 1 → ⊥) → (if eqb kin
 part-kept p kind e = rw (ne-eqb kind 1 e)
 
 -- with the letters of the factors
-pub pool-filled : (t : Term) (k rule : ℕ) (xs : List (List ℕ)) {p q : List ℕ} {n r : ℕ} → xs ≡ leftOver k (termOf t .factors) → Pooled (if eqb (ruleKind rule) vector then partOf (t .part) else []) p n
+pub pool-filled : (t : Term) (k rule : ℕ) (xs : List (List ℕ)) {p q : List ℕ} {n r : ℕ} → xs ≡ leftOver k (termOf t .factors)
+    → Pooled (if eqb (ruleKind rule) vector then partOf (t .part) else []) p n
     → Adds (joined xs) p n q r → Pooled (lettersLeft (termOf t) k rule) q r
 unfolding lettersLeft termOf
 pool-filled t k rule xs {p} {q} {n} {r} e w a =
-    subst (λ (l : List (List ℕ)). Pooled (joined l ++ (if eqb (ruleKind rule) vector then partOf (t .part) else [])) q r) e (a .adds (if eqb (ruleKind rule) vector then partOf (t .part) else []) w)
+    subst (λ (l : List (List ℕ)). Pooled (joined l ++ (if eqb (ruleKind rule) vector then partOf (t .part) else [])) q r) e (a .adds (if eqb (ruleKind rule)
+    vector then partOf (t .part) else []) w)
 
 -- ════ the tests of M
 
@@ -157,11 +168,13 @@ module _ (kind rule : ℕ) (m : Term) (one : m .coef ≡ pos 1) where
 
 -- the rule's letters, a whole block, and in rule 5 the block first
 pub candidate-opens : (t : S.Term) (k r j : ℕ) → T (isCandidate t k r j)
-    → (length (pool t k r) ≡ ruleLetters r) × (length (taken j (pool t k r)) ≡ blockSize r) × T (blockIsFirst r (taken j (pool t k r)) (leftOver j (pool t k r)))
+    → (length (pool t k r) ≡ ruleLetters r) × (length (taken j (pool t k r)) ≡ blockSize r) × T (blockIsFirst r (taken j (pool t k r))
+    (leftOver j (pool t k r)))
 unfolding isCandidate
 candidate-opens t k r j h =
     let l : List ℕ = pool t k r in
-    let a = and-split (eqb (length l) (ruleLetters r) && eqb (length (taken j l)) (blockSize r) && ascend ltb (taken j l) && ascend ltb (leftOver j l)) (blockIsFirst r (taken j l) (leftOver j l)) h in
+    let a = and-split (eqb (length l) (ruleLetters r) && eqb (length (taken j l)) (blockSize r) && ascend ltb (taken j l) && ascend ltb (leftOver j l))
+    (blockIsFirst r (taken j l) (leftOver j l)) h in
     let b = and-split (eqb (length l) (ruleLetters r) && eqb (length (taken j l)) (blockSize r) && ascend ltb (taken j l)) (ascend ltb (leftOver j l)) (a .0) in
     let d = and-split (eqb (length l) (ruleLetters r) && eqb (length (taken j l)) (blockSize r)) (ascend ltb (taken j l)) (b .0) in
     let i = and-split (eqb (length l) (ruleLetters r)) (eqb (length (taken j l)) (blockSize r)) (d .0) in
@@ -185,7 +198,8 @@ module _ (kind rule k : ℕ) (t : Term) (p : List ℕ) (n : ℕ) (m : Term) (w :
   pub shut-by : (n ≡ ruleLetters rule → ⊥) → OpenedBy false kind t k rule (record { fits = false; m = m; pool = p })
   unfolding OpenedBy Shut pool lettersLeft
   shut-by e table f j c g q can h =
-      let long : length (lettersLeft (termOf t) k rule) ≡ ruleLetters rule = sym (O.length-sorted order (lettersLeft (termOf t) k rule)) ∙ candidate-opens (termOf t) k rule j can .0 in
+      let long : length (lettersLeft (termOf t) k rule) ≡ ruleLetters rule = sym (O.length-sorted order (lettersLeft (termOf t) k rule))
+      ∙ candidate-opens (termOf t) k rule j can .0 in
       go (ltb n 7) refl long
     where
       go : (b : Bool) → ltb n 7 ≡ b → length (lettersLeft (termOf t) k rule) ≡ ruleLetters rule → ⊥

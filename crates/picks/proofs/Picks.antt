@@ -65,7 +65,8 @@ low n h = omega arith
 -- the letters that the code stores
 abbrev pub stored : (rule : ℕ) (x y : List ℕ) → List ℕ
 stored r x y =
-    getD x 0 0 % 256 ∷ getD x 1 0 % 256 ∷ getD x 2 0 % 256 ∷ (if eqb r 2 then getD x 3 0 else getD y 0 0) % 256 ∷ (if eqb r 3 then getD x 3 0 else getD y 1 0) % 256 ∷ getD y 2 0 % 256 ∷ []
+    getD x 0 0 % 256 ∷ getD x 1 0 % 256 ∷ getD x 2 0 % 256 ∷ (if eqb r 2 then getD x 3 0 else getD y 0 0) % 256 ∷ (if eqb r 3 then getD x 3 0 else getD y 1 0)
+    % 256 ∷ getD y 2 0 % 256 ∷ []
 
 pub chosen : (a b r k : ℕ) → r ≡ k → a ≡ (if eqb r k then a else b)
 chosen a b r k e = rw (eq-eqb r k e)
@@ -127,7 +128,8 @@ module _ (w : List ℕ) (rule j : ℕ) where
       unfolding picks
       block-falls r f b eb h = no-letters r f (rw (right-size, ap (ascend ltb) (sym (tx .is)) ∙ sym eb ∙ h))
 
-      module _ (b : Bool) (eb : b ≡ ascend ltb (take a x)) (hb : b ≡ true) (c : ℕ) (y : List ℕ) (left : ℕ) (inside : j < 2 ^ length w) (el : left ≡ 2 ^ length w - 1 - j) (ty : MaskTaken w left y c) where
+      module _ (b : Bool) (eb : b ≡ ascend ltb (take a x)) (hb : b ≡ true) (c : ℕ) (y : List ℕ) (left : ℕ) (inside : j < 2 ^ length w)
+          (el : left ≡ 2 ^ length w - 1 - j) (ty : MaskTaken w left y c) where
         others-are : take c y ≡ leftOver j w
         others-are = ty .is ∙ ap (λ (m : ℕ). taken m w) el ∙ sym (left-taken w j inside)
 
@@ -149,13 +151,29 @@ module _ (w : List ℕ) (rule j : ℕ) where
           unfolding blockIsFirst
           first-is = go (eqb rule 5) refl
             where
-              go : (q : Bool) → eqb rule 5 ≡ q → (if q then leb (getD (taken j w) 0 0) (getD (leftOver j w) 0 0) else true) ≡ (if q then leb (getD x 0 0) (getD y 0 0) else true)
+              go : (q : Bool) → eqb rule 5 ≡ q → (if q then leb (getD (taken j w) 0 0) (getD (leftOver j w) 0 0) else true) ≡ (if q then leb (getD x 0 0)
+                  (getD y 0 0) else true)
               go false e = refl
               go true e =
                   let n = five-sizes rule (eqb-true rule 5 e) in
-                  let block : getD (taken j w) 0 0 ≡ getD x 0 0 = ap (λ (l : List ℕ). getD l 0 0) (sym (tx .is)) ∙ getD-take a x 0 0 (omega (arith, size, es, n .0)) in
+                  let block : getD (taken j w) 0 0 ≡ getD x 0 0 = ap (λ (l : List ℕ). getD l 0 0) (sym (tx .is)) ∙ getD-take a x 0 0 (omega (
+                    arith,
+                    size,
+                    es,
+                    n .0,
+                  )) in
                   let others : getD (leftOver j w) 0 0 ≡ getD y 0 0 =
-                  ap (λ (l : List ℕ). getD l 0 0) (sym others-are) ∙ getD-take c y 0 0 (omega (arith, taken-left-long j w, block-long, others-long, long, size, es, n .0, n .1)) in
+                  ap (λ (l : List ℕ). getD l 0 0) (sym others-are) ∙ getD-take c y 0 0 (omega (
+                    arith,
+                    taken-left-long j w,
+                    block-long,
+                    others-long,
+                    long,
+                    size,
+                    es,
+                    n .0,
+                    n .1,
+                  )) in
                   λ i. leb (block i) (others i)
 
           picks-are : picks rule w j ≡ (if eqb rule 5 then leb (getD x 0 0) (getD y 0 0) else true)
@@ -167,11 +185,13 @@ module _ (w : List ℕ) (rule j : ℕ) where
           block-not-first r f e h = no-letters r f (picks-are ∙ rw (eq-eqb rule 5 e, lt-leb (getD x 0 0) (getD y 0 0) h))
 
           -- a pick
-          pub picked-is : (l : List ℕ) → RuleOrdered rule x y l → All (λ (n : ℕ). n < 256) w → (rule ≡ 5 → getD x 0 0 ≤ getD y 0 0) → PickedBy w rule j (record { fits = true; letters = l })
+          pub picked-is : (l : List ℕ) → RuleOrdered rule x y l → All (λ (n : ℕ). n < 256) w → (rule ≡ 5 → getD x 0 0 ≤ getD y 0 0)
+              → PickedBy w rule j (record { fits = true; letters = l })
           picked-is l o small first = record {
             is = sym (picks-are ∙ go (eqb rule 5) refl);
             letters = λ t. o .is (taken j w) (leftOver j w) (block-long ∙ size ∙ es) (length-append (taken j w) (leftOver j w) ∙ taken-left-long j w ∙ long)
-                (taken-all (λ (n : ℕ). n < 256) j w small) (subst (All (λ (n : ℕ). n < 256)) (ap (λ (m : ℕ). taken m w) el ∙ sym (left-taken w j inside)) (taken-all (λ (n : ℕ). n < 256) left w small))
+                (taken-all (λ (n : ℕ). n < 256) j w small) (subst (All (λ (n : ℕ). n < 256)) (ap (λ (m : ℕ). taken m w) el ∙ sym (left-taken w j inside))
+                (taken-all (λ (n : ℕ). n < 256) left w small))
                 (ap (λ (n : ℕ). take n x) block-long ∙ tx .is) (ap (λ (n : ℕ). take n y) others-long ∙ others-are);
           }
             where

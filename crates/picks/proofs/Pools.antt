@@ -78,11 +78,14 @@ adds-first {xs} {p} {q} {n} e a = subst (λ (l : List ℕ). Pooled l q n) (appen
 
 -- the factors from a place on
 pub factors-more : {p q r : List ℕ} {k m n : ℕ} (f : List ℕ) (count i : ℕ) → count ≤ length f → i < count
-    → Adds (joined (map lettersOf (drop (i + 1) (take count f)))) p k q m → Adds (lettersOf (getD f i 0)) q m r n → Adds (joined (map lettersOf (drop i (take count f)))) p k r n
+    → Adds (joined (map lettersOf (drop (i + 1) (take count f)))) p k q m → Adds (lettersOf (getD f i 0)) q m r n
+    → Adds (joined (map lettersOf (drop i (take count f)))) p k r n
 unfolding joined
 factors-more {p} {q} {r} {k} {m} {n} f count i h g a b =
     subst (λ (l : List ℕ). Adds (joined (map lettersOf l)) p k r n) (sym (rest-at f count i 0 h g)) (adds-both a b)
 
-pub factors-none : (p : List ℕ) (n : ℕ) (f : List ℕ) (count : ℕ) → n ≤ 7 → length p ≡ 7 → count ≤ length f → Adds (joined (map lettersOf (drop count (take count f)))) p n p n
+pub factors-none : (p : List ℕ) (n : ℕ) (f : List ℕ) (count : ℕ) → n ≤ 7 → length p ≡ 7 → count ≤ length f
+    → Adds (joined (map lettersOf (drop count (take count f)))) p n p n
 unfolding joined
-factors-none p n f count g e h = subst (λ (l : List ℕ). Adds (joined (map lettersOf l)) p n p n) (sym (nothing-left f count count h (omega arith))) (adds-none p n g e)
+factors-none p n f count g e h = subst (λ (l : List ℕ). Adds (joined (map lettersOf l)) p n p n) (sym (nothing-left f count count h (omega arith)))
+    (adds-none p n g e)

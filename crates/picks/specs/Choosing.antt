@@ -86,7 +86,12 @@ pub record Passes (kind rule : ℕ) (m : Term) : Type 0 where
 -- or no such step does, whatever M's coefficient
 unfoldable pub Fails : (kind rule : ℕ) (m : S.Term) → Type 0
 Fails kind r m =
-    (table letters : List ℕ) (f : S.Form) (c : ℤ) (reached : S.Form) → f .kind ≡ kind → stepAt table f (record { rule = r; letters = letters; m = withCoef c m }) ≡ given reached → ⊥
+    (table letters : List ℕ) (f : S.Form) (c : ℤ) (reached : S.Form) → f .kind ≡ kind → stepAt table f (record {
+      rule = r;
+      letters = letters;
+      m =
+          withCoef c m;
+    }) ≡ given reached → ⊥
 
 unfoldable pub PassesBy : (passes : Bool) (kind rule : ℕ) (m : Term) → Type 0
 PassesBy true kind r m = Passes kind r m

@@ -37,10 +37,12 @@ written-as before after n x y e w = subst (TextWritten before after n) e w
 -- ════ a table and an expression
 
 -- the form of an expression can be printed
-pub form-printable : (table expr : List ℕ) (c : ℕ) (r : Outcome) → testOf c ≡ testTable table → c ≡ 0 → Gives (reduced table expr) r → r .refusal ≡ 0 → Printable (r .form)
+pub form-printable : (table expr : List ℕ) (c : ℕ) (r : Outcome) → testOf c ≡ testTable table → c ≡ 0 → Gives (reduced table expr) r → r .refusal ≡ 0
+    → Printable (r .form)
 form-printable table expr c r h z worked e =
     let t : T (goodTable table) = table-good table (sym h ∙ test-passed c z) in
-    printable table t (r .form) (worked .valid e) (reduction-keeps-value table expr (formOf (r .form)) t (worked-given (reduced table expr) r worked e) .lettersTested)
+    printable table t (r .form) (worked .valid e) (reduction-keeps-value table expr (formOf (r .form)) t (worked-given (reduced table expr) r worked e)
+    .lettersTested)
 
 module _ (table expr : List ℕ) (c : ℕ) (h : testOf c ≡ testTable table) where
   -- the table is refused
@@ -69,12 +71,14 @@ module _ (table expr : List ℕ) (c : ℕ) (h : testOf c ≡ testTable table) wh
 
     module _ (z : c ≡ 0) (r : Outcome) (worked : Gives (reduced table expr) r) where
       -- of a refused expression
-      pub expression-refused : (r .refusal ≡ 0 → ⊥) → TextWritten before after m (printResult (refused (r .refusal))) → TextWritten before after m (printReduced table expr)
+      pub expression-refused : (r .refusal ≡ 0 → ⊥) → TextWritten before after m (printResult (refused (r .refusal)))
+          → TextWritten before after m (printReduced table expr)
       unfolding printReduced
       expression-refused n w = written-as before after m _ _ (ap printResult (sym (bad-expression z r worked n))) w
 
       -- of a form
-      pub form-printed : r .refusal ≡ 0 → TextWritten before after m (printResult (given (formOf (r .form)))) → TextWritten before after m (printReduced table expr)
+      pub form-printed : r .refusal ≡ 0 → TextWritten before after m (printResult (given (formOf (r .form))))
+          → TextWritten before after m (printReduced table expr)
       unfolding printReduced
       form-printed e w = written-as before after m _ _ (ap printResult (sym (form-reduced z r worked e))) w
 
@@ -97,14 +101,16 @@ module _ (s : List ℕ) where
   whole-tested l = let h : 1 ≤ length s = omega arith in rw (le-leb 1 (length s) h, le-leb (getD s 0 0 + 1) (length s) l)
 
   -- table and expression as parts of it
-  pub parts-tested : getD s 0 0 + 1 ≤ length s → printTested s ≡ tableReduced (take (getD s 0 0 + 1 - 1) (drop 1 s)) (take (length s - (getD s 0 0 + 1)) (drop (getD s 0 0 + 1) s))
+  pub parts-tested : getD s 0 0 + 1 ≤ length s → printTested s ≡ tableReduced (take (getD s 0 0 + 1 - 1) (drop 1 s)) (take (length s - (getD s 0 0 + 1))
+      (drop (getD s 0 0 + 1) s))
   parts-tested l = whole-tested l ∙ (λ i. tableReduced (take (e i) (drop 1 s)) (rest i))
     where
       e : getD s 0 0 ≡ getD s 0 0 + 1 - 1
       e = omega arith
 
       rest : drop (getD s 0 0 + 1) s ≡ take (length s - (getD s 0 0 + 1)) (drop (getD s 0 0 + 1) s)
-      rest = let n : length (drop (getD s 0 0 + 1) s) ≤ length s - (getD s 0 0 + 1) = omega (arith, length-drop (getD s 0 0 + 1) s) in sym (take-all _ (drop (getD s 0 0 + 1) s) n)
+      rest = let n : length (drop (getD s 0 0 + 1) s) ≤ length s - (getD s 0 0 + 1) = omega (arith, length-drop (getD s 0 0 + 1) s) in
+          sym (take-all _ (drop (getD s 0 0 + 1) s) n)
 
   module _ (before after : List ℕ) (m : ℕ) where
     -- the line where the length byte is missing
@@ -113,13 +119,15 @@ module _ (s : List ℕ) where
     nothing-there e w = written-as before after m _ _ (ap printResult (sym (none-tested e))) w
 
     -- where the table is cut
-    pub table-cut : (length s ≡ 0 → ⊥) → length s < getD s 0 0 + 1 → TextWritten before after m (printResult (refused 1)) → TextWritten before after m (printCall s)
+    pub table-cut : (length s ≡ 0 → ⊥) → length s < getD s 0 0 + 1 → TextWritten before after m (printResult (refused 1))
+        → TextWritten before after m (printCall s)
     unfolding printCall
     table-cut n l w = written-as before after m _ _ (ap printResult (sym (cut-tested n l))) w
 
     -- of a table and an expression
     pub parts-printed : getD s 0 0 + 1 ≤ length s
-        → TextWritten before after m (printReduced (take (getD s 0 0 + 1 - 1) (drop 1 s)) (take (length s - (getD s 0 0 + 1)) (drop (getD s 0 0 + 1) s))) → TextWritten before after m (printCall s)
+        → TextWritten before after m (printReduced (take (getD s 0 0 + 1 - 1) (drop 1 s)) (take (length s - (getD s 0 0 + 1)) (drop (getD s 0 0 + 1) s)))
+        → TextWritten before after m (printCall s)
     unfolding printCall printReduced
     parts-printed l w = written-as before after m _ _ (ap printResult (sym (parts-tested l))) w
 
@@ -137,10 +145,14 @@ unfolding printAnswer
 answer-printed s memory memory′ n h w = rw (le-leb lineBytes (length memory) h) (λ i. (given (w .ends i), w .bytes i))
 
 -- a text that was printed lies inside the memory lent
-pub printed-inside : (s before after : List ℕ) (r : Printing) (m : ℕ) → _≡_ {A = Result ℕ × List ℕ} (printingOf r, after) (printAnswer s before) → r ≡ Printed m → m ≤ length after
+pub printed-inside : (s before after : List ℕ) (r : Printing) (m : ℕ) → _≡_ {A = Result ℕ × List ℕ} (printingOf r, after) (printAnswer s before)
+    → r ≡ Printed m → m ≤ length after
 unfolding printingOf printAnswer
 printed-inside s before after r m e h = go (leb lineBytes (length before)) ((λ i. (printingOf (sym h i), after)) ∙ e)
   where
-    go : (b : Bool) → _≡_ {A = Result ℕ × List ℕ} (given m, after) (if b then (given (length (printCall s)), writeInto (printCall s) before) else (refused 2, before)) → m ≤ length after
+    go : (b : Bool) → _≡_ {A = Result ℕ × List ℕ} (given m, after) (if b then (given (length (printCall s)), writeInto (printCall s) before) else (
+      refused 2,
+      before,
+    )) → m ≤ length after
     go true q = written-inside (printCall s) before after m (given-same (ap (λ (p : Result ℕ × List ℕ). p .0) q)) (ap (λ (p : Result ℕ × List ℕ). p .1) q)
     go false q = absurd (refused≢given (sym (ap (λ (p : Result ℕ × List ℕ). p .0) q)))

@@ -31,10 +31,12 @@ module _ (table ls : List ℕ) (n i : ℕ) (h : n ≤ length ls) where
   letters-stop r g e z = rw (rest-at ls n i 0 h g) (stops r (testLetter table vector (getD ls i 0)) (testLetters table vector (drop (i + 1) (take n ls))) e z)
 
   -- or it passes
-  pub letters-pass : (r : ℕ) → i < n → testOf r ≡ testLetter table vector (getD ls i 0) → r ≡ 0 → testLetters table vector (drop i (take n ls)) ≡ testLetters table vector (drop (i + 1) (take n ls))
+  pub letters-pass : (r : ℕ) → i < n → testOf r ≡ testLetter table vector (getD ls i 0) → r ≡ 0
+      → testLetters table vector (drop i (take n ls)) ≡ testLetters table vector (drop (i + 1) (take n ls))
   unfolding testLetters
   letters-pass r g e z =
-      ap (testLetters table vector) (rest-at ls n i 0 h g) ∙ goes-on r (testLetter table vector (getD ls i 0)) (testLetters table vector (drop (i + 1) (take n ls))) e z
+      ap (testLetters table vector) (rest-at ls n i 0 h g) ∙ goes-on r (testLetter table vector (getD ls i 0)) (testLetters table vector (drop (i + 1)
+      (take n ls))) e z
 
   -- all passed
   pub letters-end : n ≤ i → testLetters table vector (drop i (take n ls)) ≡ given tt

@@ -56,7 +56,8 @@ module _ (kind a b : ℕ) (s : Step) (ea : a ≡ ruleKind (s .rule)) (eb : b ≡
   vector-kinds h k = sym (kinds-are kind s ∙ rw (← ea, ← eb, eq-eqb a 1 h, eq-eqb b 0 k))
 
 -- M's letters and the rule's
-pub letters-are : (s : Step) (u : Used) (p n : ℕ) → UsedBy (map lettersOf (take (s .m .«factor_count») (s .m .factors))) u → p ≡ length (partOf (s .m .part)) → n ≡ ruleLetters (s .rule)
+pub letters-are : (s : Step) (u : Used) (p n : ℕ) → UsedBy (map lettersOf (take (s .m .«factor_count») (s .m .factors))) u
+    → p ≡ length (partOf (s .m .part)) → n ≡ ruleLetters (s .rule)
     → leb (u .vectors + p + n) 6 ≡ leb (vectorLetters (stepOf s .m) + ruleLetters (s .rule)) 6
 unfolding stepOf vectorLetters termOf
 letters-are s u p n h e k = λ i. leb (h .vectors i + e i + k i) 6
@@ -90,7 +91,8 @@ step-shape s v l = record {
 }
 
 -- M of a step that passed the test of letters has few factors
-few-factors : (s : Step) → StepValid s → s .m .«factor_count» ≤ length (s .m .factors) → vectorLetters (stepOf s .m) + ruleLetters (s .rule) ≤ 6 → s .m .«factor_count» ≤ 4
+few-factors : (s : Step) → StepValid s → s .m .«factor_count» ≤ length (s .m .factors) → vectorLetters (stepOf s .m) + ruleLetters (s .rule) ≤ 6
+    → s .m .«factor_count» ≤ 4
 unfolding vectorLetters scalarLetters stepOf termOf
 few-factors s v l h =
     let o = term-opens (termOf (s .m)) (v .m .inShape) in
@@ -128,7 +130,8 @@ module _ (s : Step) (v : StepValid s) (six : length (s .letters) ≡ 6) where
     turned-none r l = record { is = refl; run = r; light = light-more 2147483647 ((0 + 1) * 2147483647) n coefs (omega arith) l; count = omega arith }
 
     -- one more
-    pub turned-more : (i m : ℕ) (rows' : List (List ℕ)) (coefs' : List ℤ) (t : Term) (m' : ℕ) (rows'' : List (List ℕ)) (coefs'' : List ℤ) → i < rowCount (s .rule)
+    pub turned-more : (i m : ℕ) (rows' : List (List ℕ)) (coefs' : List ℤ) (t : Term) (m' : ℕ) (rows'' : List (List ℕ)) (coefs'' : List ℤ)
+        → i < rowCount (s .rule)
         → Turned s n before coefs i m rows' coefs' → TimesRow (s .m) (s .letters) (getD ruleRows (firstRow (s .rule) + i) 0) t
         → TermBroughtIn m rows' coefs' t m' rows'' coefs'' → Turned s n before coefs (i + 1) m' rows'' coefs''
     unfolding gatherInto
@@ -141,12 +144,14 @@ module _ (s : Step) (v : StepValid s) (six : length (s .letters) ≡ 6) where
               ∙ ap (gatherInto (runOf n before coefs)) (mapped-behind g (take i (rows s)) k)
               ∙ into-join (runOf n before coefs) (map g (take i (rows s))) (g k ∷ []));
           run = q .run;
-          light = light-more ((i + 1) * 2147483647 + 2147483647) ((i + 1 + 1) * 2147483647) m' coefs'' (omega arith) (q .light ((i + 1) * 2147483647) (w .light));
+          light = light-more ((i + 1) * 2147483647 + 2147483647) ((i + 1 + 1) * 2147483647) m' coefs'' (omega arith) (q .light ((i + 1) * 2147483647)
+              (w .light));
           count = omega (arith, q .count, w .count);
         }
 
     -- all of them are what the step adds
-    pub turned-all : (i m : ℕ) (rows' : List (List ℕ)) (coefs' : List ℤ) → i ≡ rowCount (s .rule) → Turned s n before coefs i m rows' coefs' → StepBrought n before coefs s m rows' coefs'
+    pub turned-all : (i m : ℕ) (rows' : List (List ℕ)) (coefs' : List ℤ) → i ≡ rowCount (s .rule) → Turned s n before coefs i m rows' coefs'
+        → StepBrought n before coefs s m rows' coefs'
     unfolding stepOf
     turned-all i m rows' coefs' e w = record {
       is = w .is ∙ ap (λ (k : ℕ). gatherInto (runOf n before coefs) (map (timesTerm (termOf (s .m))) (take k (rows s)))) e
@@ -178,7 +183,8 @@ module _ (s : Step) (v : StepValid s) (six : length (s .letters) ≡ 6) where
       ⊎-elim inl
           (λ a. inr (row-at (λ (u : S.Term). u .part ≡ []) (s .letters) (firstRow (s .rule)) (rowCount (s .rule)) i h
           (subst (All (λ (u : S.Term). u .part ≡ [])) (sym (tied (s .rule) (v .rule) (s .letters) six)) a)))
-          (step-parts (record { kind = w .kind; terms = [] }) (stepOf s) (step-shape s v six) (agreeing (record { kind = w .kind; terms = [] }) (stepOf s) (passed-kinds .0))),
+          (step-parts (record { kind = w .kind; terms = [] }) (stepOf s) (step-shape s v six) (agreeing (record { kind = w .kind; terms = [] }) (stepOf s)
+          (passed-kinds .0))),
     )
 
 -- ════ the tests of a step
@@ -230,7 +236,8 @@ module _ (f : S.Form) (s : Step) where
       module _ (v : StepValid s) (six : length (s .letters) ≡ 6) (shape : FormInShape f) where
         fits : AllFit (f .kind) (f .terms ++ stepTerms (stepOf s))
         unfolding stepKindsFit stepOf
-        fits = step-fits f (stepOf s) shape (step-shape s v six) (agreeing f (stepOf s) (passed-kinds s v six step-fitting .0)) (few-vectors s v six step-fitting)
+        fits = step-fits f (stepOf s) shape (step-shape s v six) (agreeing f (stepOf s) (passed-kinds s v six step-fitting .0))
+            (few-vectors s v six step-fitting)
 
         -- the terms that stand afterwards, their limits tested
         module _ (us : List S.Term) (is : us ≡ gatherInto (f .terms) (stepTerms (stepOf s))) (e : ℕ) (le : within (f .kind) us ≡ limitedOf e (f .kind) us) where
@@ -262,8 +269,14 @@ module _ (kind n : ℕ) (rows₀ : List (List ℕ)) (coefs₀ : List ℤ) (s : S
   step-stays rows' coefs' h = record { refuses = λ _. step-refused (formBy kind n rows₀ coefs₀) s k t h; gives = λ z. absurd (h z); form = λ z. absurd (h z) }
 
   -- its terms brought in, and the limits tested
-  pub step-moves : k ≡ 0 → FormRun kind n rows₀ coefs₀ → StepValid s → (m : ℕ) (rows' : List (List ℕ)) (coefs' : List ℤ) → StepBrought n rows₀ coefs₀ s m rows' coefs'
-      → (e : ℕ) → RunTested m coefs' e → RowsGive (takeStep (formBy kind n rows₀ coefs₀) (stepOf s)) (record { refusal = e; kind = kind; count = m }) rows' coefs'
+  pub step-moves : k ≡ 0 → FormRun kind n rows₀ coefs₀ → StepValid s → (m : ℕ) (rows' : List (List ℕ)) (coefs' : List ℤ)
+      → StepBrought n rows₀ coefs₀ s m rows' coefs'
+      → (e : ℕ) → RunTested m coefs' e → RowsGive (takeStep (formBy kind n rows₀ coefs₀) (stepOf s)) (record {
+        refusal = e;
+        kind = kind;
+        count =
+            m;
+      }) rows' coefs'
   step-moves z w v m rows' coefs' b e le =
       let f = formBy kind n rows₀ coefs₀ in
       let us = runOf m rows' coefs' in

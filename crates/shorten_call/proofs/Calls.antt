@@ -79,7 +79,12 @@ module _ (table expr : List ℕ) (c : ℕ) (h : testOf c ≡ testTable table) wh
     unfolding stepsOf
     log-printable = (
       printable table good (r .form) (worked .valid e) (derives .firstTested),
-      record { few = wd .valid .few; long = wd .valid .steps .long; steps = steps-printable table good (take (d .steps .count) (d .steps .steps)) (wd .valid .steps .steps) (derives .stepsTested) },
+      record {
+        few = wd .valid .few;
+        long = wd .valid .steps .long;
+        steps = steps-printable table good (take (d .steps .count) (d .steps .steps))
+            (wd .valid .steps .steps) (derives .stepsTested);
+      },
       printable table good (d .last) (wd .valid .last) (derives .lastTested),
     )
 
@@ -95,7 +100,8 @@ module _ (table expr : List ℕ) (c : ℕ) (h : testOf c ≡ testTable table) wh
 
     module _ (z : c ≡ 0) (r : Outcome) (worked : Gives (reduced table expr) r) where
       -- the expression is refused
-      pub expression-refused : (r .refusal ≡ 0 → ⊥) → TextWritten before after m (printResult (refused (r .refusal))) → PrintedBy (tableReduced table expr) table before after m
+      pub expression-refused : (r .refusal ≡ 0 → ⊥) → TextWritten before after m (printResult (refused (r .refusal)))
+          → PrintedBy (tableReduced table expr) table before after m
       unfolding PrintedBy
       expression-refused n w = by-result (refused (r .refusal)) (bad-expression table expr c h z r worked n) w
 
@@ -138,12 +144,14 @@ module _ (s before after : List ℕ) (m : ℕ) where
 
   -- the table and the expression as parts of it
   pub parts-printed : getD s 0 0 + 1 ≤ length s
-      → PrintedBy (tableReduced (take (getD s 0 0 + 1 - 1) (drop 1 s)) (take (length s - (getD s 0 0 + 1)) (drop (getD s 0 0 + 1) s))) (take (getD s 0 0 + 1 - 1) (drop 1 s)) before after m
+      → PrintedBy (tableReduced (take (getD s 0 0 + 1 - 1) (drop 1 s)) (take (length s - (getD s 0 0 + 1)) (drop (getD s 0 0 + 1) s)))
+      (take (getD s 0 0 + 1 - 1) (drop 1 s)) before after m
       → PrintedBy (printTested s) (inputTable s) before after m
   parts-printed l w =
       let e : getD s 0 0 + 1 - 1 ≡ getD s 0 0 = omega arith in
       by-tests _ (parts-tested s l)
-      (subst (λ (k : ℕ). PrintedBy (tableReduced (take (getD s 0 0 + 1 - 1) (drop 1 s)) (take (length s - (getD s 0 0 + 1)) (drop (getD s 0 0 + 1) s))) (take k (drop 1 s)) before after m) e w)
+      (subst (λ (k : ℕ). PrintedBy (tableReduced (take (getD s 0 0 + 1 - 1) (drop 1 s)) (take (length s - (getD s 0 0 + 1)) (drop (getD s 0 0 + 1) s)))
+      (take k (drop 1 s)) before after m) e w)
 
 -- ════ the answer
 
@@ -168,7 +176,8 @@ inside-by (given f) table before after m w = written-inside _ before after m (w 
 -- it lies inside the bytes lent
 pub printed-inside : (s before after : List ℕ) (r : Printing) (m : ℕ) → LinesPrinted s before (printingOf r) after → r ≡ Printed m → m ≤ length after
 unfolding LinesPrinted printingOf
-printed-inside s before after r m w h = go (leb linesBytes (length before)) (subst (λ (a : Printing). LinesPrintedBy (leb linesBytes (length before)) s before (printingOf a) after) h w)
+printed-inside s before after r m w h = go (leb linesBytes (length before)) (subst (λ (a : Printing). LinesPrintedBy (leb linesBytes (length before)) s before
+    (printingOf a) after) h w)
   where
     go : (b : Bool) → LinesPrintedBy b s before (given m) after → m ≤ length after
     go true w = unfold LinesPrintedBy in inside-by (printTested s) (inputTable s) before after m w

@@ -44,14 +44,16 @@ use Rattle.shortening.specs.Derived.{Leads, RoundsTaken, Derived}
 
 -- ════ one step more
 
-steps-more : (f : S.Form) (ss : List R.Step) (s : R.Step) (g h : S.Form) → takeSteps f ss ≡ given g → takeStep g s ≡ given h → takeSteps f (ss ++ s ∷ []) ≡ given h
+steps-more : (f : S.Form) (ss : List R.Step) (s : R.Step) (g h : S.Form) → takeSteps f ss ≡ given g → takeStep g s ≡ given h
+    → takeSteps f (ss ++ s ∷ []) ≡ given h
 unfolding takeSteps
 steps-more f [] s g h e q = ap (λ (f : S.Form). takeStep f s >>= λ (k : S.Form). given k) (given-same e) ∙ ap (λ r. r >>= λ (k : S.Form). given k) q
 steps-more f (t ∷ ss) s g h e q =
     let r = bound (takeStep f t) (λ (k : S.Form). takeSteps k ss) g e in
     ap (λ x. x >>= λ (k : S.Form). takeSteps k (ss ++ s ∷ [])) (r .1) ∙ steps-more (r .0) ss s g h (r .2) q
 
-tests-more : (table : List ℕ) (ss : List R.Step) (s : R.Step) → testSteps table ss ≡ given tt → testStepLetters table s ≡ given tt → testSteps table (ss ++ s ∷ []) ≡ given tt
+tests-more : (table : List ℕ) (ss : List R.Step) (s : R.Step) → testSteps table ss ≡ given tt → testStepLetters table s ≡ given tt
+    → testSteps table (ss ++ s ∷ []) ≡ given tt
 unfolding testSteps
 tests-more table [] s e q = ap (λ (r : Test). r >> given tt) q
 tests-more table (t ∷ ss) s e q =
@@ -72,7 +74,8 @@ rounds-none table f g steps q e = record {
 }
 
 -- a step that was found is one, wherever the search began
-pub found-anywhere : (table : List ℕ) (g : S.Form) (first : ℕ) (r : Found) (rows : List (List ℕ)) (coefs : List ℤ) (b : Bool) → SearchedBy b first table g r rows coefs → b ≡ true
+pub found-anywhere : (table : List ℕ) (g : S.Form) (first : ℕ) (r : Found) (rows : List (List ℕ)) (coefs : List ℤ) (b : Bool)
+    → SearchedBy b first table g r rows coefs → b ≡ true
     → SearchedBy b 0 table g r rows coefs
 unfolding SearchedBy
 found-anywhere table g first r rows coefs true w e = w
@@ -100,7 +103,8 @@ module _ (table : List ℕ) (f : S.Form) (few : length (f .terms) ≤ 48) (steps
         ∙ sym (gather-onto (g .terms) (stepTerms (stepOf (r .step))) (form-gathered g v))
 
     -- marks carried over the step cover them, wherever they stand
-    pub round-covered : FormInShape g → (marks after : List ℕ) → Covering marks (g .terms) → Carried marks (stepOf (r .step)) after → (rows : List (List ℕ)) (coefs : List ℤ)
+    pub round-covered : FormInShape g → (marks after : List ℕ) → Covering marks (g .terms) → Carried marks (stepOf (r .step)) after → (rows : List (List ℕ))
+        (coefs : List ℤ)
         → runOf (r .count) rows coefs ≡ runOf (r .count) to tos → Covering after (runOf (r .count) rows coefs)
     unfolding Carried
     round-covered v marks after q k rows coefs m = subst (Covering after) (sym (m ∙ reached-terms v)) (k (g .terms) q)
@@ -111,7 +115,8 @@ module _ (table : List ℕ) (f : S.Form) (few : length (f .terms) ≤ 48) (steps
         let a = step-admitted table g s reached (shorter .admissible) in
         let inside : n < length steps = omega (arith, w .places, round-room) in
         let more : take (n + 1) (set steps n (r .step)) ≡ take n steps ++ r .step ∷ [] = stored-behind steps n (r .step) inside in
-        let listed : map stepOf (take n steps) ++ s ∷ [] ≡ map stepOf (take (n + 1) (set steps n (r .step))) = sym (ap (map stepOf) more ∙ mapped-behind stepOf (take n steps) (r .step)) in
+        let listed : map stepOf (take n steps) ++ s ∷ [] ≡ map stepOf (take (n + 1) (set steps n (r .step))) = sym (ap (map stepOf) more
+        ∙ mapped-behind stepOf (take n steps) (r .step)) in
         let run = shorter .form .run in
         record {
           places = length-set steps n (r .step) ∙ w .places;
@@ -121,7 +126,8 @@ module _ (table : List ℕ) (f : S.Form) (few : length (f .terms) ≤ 48) (steps
               subst (λ (l : List R.Step). takeSteps f l ≡ given reached) listed
               (steps-more f (map stepOf (take n steps)) s g reached (w .reaches) (a .takes));
           tests = subst (λ (l : List R.Step). testSteps table l ≡ given tt) listed (tests-more table (map stepOf (take n steps)) s (w .tests) (a .known));
-          inShape = subst StepsInShape listed (all-append (λ (st : R.Step). T (stepInShape st)) (map stepOf (take n steps)) (s ∷ []) (w .inShape) (step-closes s (a .shape), tt));
+          inShape = subst StepsInShape listed (all-append (λ (st : R.Step). T (stepInShape st)) (map stepOf (take n steps)) (s ∷ []) (w .inShape)
+              (step-closes s (a .shape), tt));
         }
 
   -- none was found
@@ -131,14 +137,23 @@ module _ (table : List ℕ) (f : S.Form) (few : length (f .terms) ≤ 48) (steps
 
 -- ════ by value
 
-module _ (table : List ℕ) (f last : Form) (v : FormValid f) (u : FormValid last) (n : ℕ) (steps : List Step) (few : length (formOf f .terms) ≡ f .count) (fewer : length (formOf last .terms) ≡ last .count)
+module _ (table : List ℕ) (f last : Form) (v : FormValid f) (u : FormValid last) (n : ℕ) (steps : List Step) (few : length (formOf f .terms) ≡ f .count)
+    (fewer : length (formOf last .terms) ≡ last .count)
     (w : Leads table (formOf f) steps n (formOf last)) where
   -- the letters of the form reached are in the table
   last-known : testTerms table (formOf f .terms) ≡ given tt → AllKnown table (formOf last .terms)
   last-known known =
-      steps-keep table (formOf f) (map stepOf (take n steps)) (formOf last) (v .inShape) (terms-known table (formOf f .terms) known) (w .inShape) (w .tests) (w .reaches) .known
+      steps-keep table (formOf f) (map stepOf (take n steps)) (formOf last) (v .inShape) (terms-known table (formOf f .terms) known) (w .inShape) (w .tests)
+      (w .reaches) .known
 
-  derived : (AllKnown table (formOf last .terms) → NoCandidate table (formOf last)) → Derived table f (record { steps = record { count = n; steps = steps }; last = last })
+  derived : (AllKnown table (formOf last .terms) → NoCandidate table (formOf last)) → Derived table f (record {
+    steps = record {
+      count = n;
+      steps =
+          steps;
+    };
+    last = last;
+  })
   unfolding stepsOf
   derived none =
       let enough : n ≤ 48 = omega (arith, w .saves, few, v .few) in
@@ -163,8 +178,13 @@ module _ (table : List ℕ) (f last : Form) (v : FormValid f) (u : FormValid las
       }
 
 -- the form held in rows, the rounds taken there, and what they reach given back
-pub rounds-derived : (table : List ℕ) (f last : Form) (rows : List (List ℕ)) (coefs : List ℤ) (r : Rounds) (rows' : List (List ℕ)) (coefs' : List ℤ) → FormValid f → HeldIn f rows coefs
-    → RoundsTaken table (f .kind) (f .count) rows coefs r rows' coefs' → FormOfRun (f .kind) (r .count) rows' coefs' last → Derived table f (record { steps = r .steps; last = last })
+pub rounds-derived : (table : List ℕ) (f last : Form) (rows : List (List ℕ)) (coefs : List ℤ) (r : Rounds) (rows' : List (List ℕ)) (coefs' : List ℤ)
+    → FormValid f → HeldIn f rows coefs
+    → RoundsTaken table (f .kind) (f .count) rows coefs r rows' coefs' → FormOfRun (f .kind) (r .count) rows' coefs' last → Derived table f (record {
+      steps =
+          r .steps;
+      last = last;
+    })
 unfolding formOf
 rounds-derived table f last rows coefs r rows' coefs' v h w g =
     let run = w .form .run in

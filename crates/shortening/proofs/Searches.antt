@@ -43,7 +43,8 @@ use Rattle.shortening.specs.Searching.{Shorter}
 -- no candidate by these indices shortens
 abbrev Nothing : (table : List ℕ) (f : S.Form) (i mask rule pick : ℕ) → Type 0
 Nothing table f i k r j =
-    (c : ℤ) (reached : S.Form) → let t = termAt (f .terms) i in i < length (f .terms) → k < 2 ^ length (t .factors) → j < 2 ^ ruleLetters r → MonomialKnown table (monomial t)
+    (c : ℤ) (reached : S.Form) → let t = termAt (f .terms) i in i < length (f .terms) → k < 2 ^ length (t .factors) → j < 2 ^ ruleLetters r
+    → MonomialKnown table (monomial t)
     → T (isCandidate t k r j) → c *ℤ gain t k r j ≡ negℤ (t .coef) → stepAt table f (candidate t k r j c) ≡ given reached
     → length (f .terms) ≤ length (reached .terms)
 
@@ -64,7 +65,8 @@ unfolding RowPassed
 row-none table f first x a h = absurd (N.lt-irrefl x (omega arith))
 
 -- up to the next
-pub row-more : (marks table : List ℕ) (f : S.Form) (first at i : ℕ) (r : Next) → FormInShape f → Covering marks (f .terms) → at / 40960 ≡ i → RowPassed table f first at
+pub row-more : (marks table : List ℕ) (f : S.Form) (first at i : ℕ) (r : Next) → FormInShape f → Covering marks (f .terms) → at / 40960 ≡ i
+    → RowPassed table f first at
     → NextPlace marks (f .kind) (termAt (f .terms) i) (at % 40960) r → Useless table f (r .found) (r .step)
     → RowPassed table f first (i * 40960 + r .next)
 unfolding RowPassed NothingAt Settled Hopeless OnlyStep Useless
@@ -81,7 +83,8 @@ row-more marks table f first at i r shape cover e w n u x b h = go (ltb x at) re
         (λ v. u (v .0) g (ap (stepAt table f) (sym (v .1 c can ex)) ∙ s)) (n .all (x % 40960) from before))
 
 -- the whole row
-pub row-all : (table : List ℕ) (f : S.Form) (at : ℕ) → ((i : ℕ) → i < length (f .terms) → length (termAt (f .terms) i .factors) ≤ 7) → length (f .terms) * 40960 ≤ at
+pub row-all : (table : List ℕ) (f : S.Form) (at : ℕ) → ((i : ℕ) → i < length (f .terms) → length (termAt (f .terms) i .factors) ≤ 7)
+    → length (f .terms) * 40960 ≤ at
     → RowPassed table f 0 at → AllKnown table (f .terms) → NoCandidate table f
 unfolding RowPassed NothingAt NoCandidate maskOf ruleOf pickOf isRule
 row-all table f at few h w known i k r j c g hi hk rule hj can ex s =
@@ -98,9 +101,11 @@ row-all table f at few h w known i k r j c g hi hk rule hj can ex s =
     let term : x / 40960 ≡ i = omega (arith, inside) in
     let place : x % 40960 ≡ p = omega (arith, inside) in
     let behind : x < at = omega (arith, inside, hi, h) in
-    let there : NothingAt table f i p = subst (λ (n : ℕ). NothingAt table f n p) term (subst (NothingAt table f (x / 40960)) place (w x (omega arith) behind)) in
+    let there : NothingAt table f i p = subst (λ (n : ℕ). NothingAt table f n p) term (subst (NothingAt table f (x / 40960)) place (w x (omega arith) behind))
+    in
     let here : Nothing table f i k r j =
-    subst (λ (n : ℕ). Nothing table f i k r n) pick (subst (λ (n : ℕ). Nothing table f i k n (p % 64)) ruled (subst (λ (n : ℕ). Nothing table f i n (p / 64 % 5 + 1) (p % 64)) mask there)) in
+    subst (λ (n : ℕ). Nothing table f i k r n) pick (subst (λ (n : ℕ). Nothing table f i k n (p % 64)) ruled (subst (λ (n : ℕ). Nothing table f i n (p / 64 % 5
+    + 1) (p % 64)) mask there)) in
     here c g hi hk hj (E.all-at (λ (t : S.Term). MonomialKnown table (monomial t)) (f .terms) i _ known hi) can ex s
 
 -- ════ the forms of the code
@@ -123,7 +128,10 @@ module _ (kind n : ℕ) (rows : List (List ℕ)) (coefs : List ℤ) (v : FormRun
     row-valid t z e q = record {
       counted = q .1;
       inShape = subst (λ (t : S.Term). T (termInShape t)) (sym (q .0 ∙ ap (termBy (getD rows i [])) e ∙ row-term))
-          (E.all-at (λ (t : S.Term). T (termInShape t)) (runOf n rows coefs) i _ (all-T termInShape (runOf n rows coefs) (v .inShape .terms)) (omega (arith, long)));
+          (E.all-at (λ (t : S.Term). T (termInShape t)) (runOf n rows coefs) i _ (all-T termInShape (runOf n rows coefs) (v .inShape .terms)) (omega (
+            arith,
+            long,
+          )));
     }
 
   terms-few : (i : ℕ) → i < length (runOf n rows coefs) → length (termAt (runOf n rows coefs) i .factors) ≤ 7
@@ -131,16 +139,23 @@ module _ (kind n : ℕ) (rows : List (List ℕ)) (coefs : List ℤ) (v : FormRun
   terms-few i h =
       let inside : i < n = omega (arith, long) in
       subst (λ (t : S.Term). length (t .factors) ≤ 7) (row-term i inside)
-      (omega (arith, length-map (take (headOf (getD rows i []) % 8) (drop 1 (getD rows i []))) lettersOf, length-take (headOf (getD rows i []) % 8) (drop 1 (getD rows i []))))
+      (omega (
+        arith,
+        length-map (take (headOf (getD rows i []) % 8) (drop 1 (getD rows i []))) lettersOf,
+        length-take (headOf (getD rows i []) % 8)
+            (drop 1 (getD rows i [])),
+      ))
 
   -- the row of places by the code's numbers
   pub row-searched : (table : List ℕ) (first at end : ℕ) → end ≡ n * 40960 → end ≤ at → RowPassed table (formBy kind n rows coefs) first at → first ≡ 0
       → AllKnown table (runOf n rows coefs) → NoCandidate table (formBy kind n rows coefs)
-  row-searched table first at end e h w z = row-all table (formBy kind n rows coefs) at terms-few (omega (arith, long, e, h)) (subst (λ (k : ℕ). RowPassed table (formBy kind n rows coefs) k at) z w)
+  row-searched table first at end e h w z = row-all table (formBy kind n rows coefs) at terms-few (omega (arith, long, e, h))
+      (subst (λ (k : ℕ). RowPassed table (formBy kind n rows coefs) k at) z w)
 
 -- ════ trials
 
-module _ (table : List ℕ) (f : S.Form) (s : Step) (r : Worked) (rows : List (List ℕ)) (coefs : List ℤ) (w : RowsGive (stepAt table f (stepOf s)) r rows coefs) where
+module _ (table : List ℕ) (f : S.Form) (s : Step) (r : Worked) (rows : List (List ℕ)) (coefs : List ℤ)
+    (w : RowsGive (stepAt table f (stepOf s)) r rows coefs) where
   pub refused-useless : (b : Bool) → (r .refusal ≡ 0 → ⊥) → Useless table f b s
   unfolding Useless
   refused-useless b h e g q = absurd (refused≢given (sym (w .refuses h) ∙ q))
@@ -157,7 +172,8 @@ module _ (table : List ℕ) (f : S.Form) (s : Step) (r : Worked) (rows : List (L
         → Shorter table f (record { found = true; behind = i; count = r .count; step = s }) rows coefs
     unfolding stepOf
     shorter e k c i few =
-        let reached : stepAt table f (stepOf s) ≡ given (formBy (f .kind) (r .count) rows coefs) = w .gives h ∙ ap (λ (n : ℕ). given (formBy n (r .count) rows coefs)) e in
+        let reached : stepAt table f (stepOf s) ≡ given (formBy (f .kind) (r .count) rows coefs) = w .gives h
+        ∙ ap (λ (n : ℕ). given (formBy n (r .count) rows coefs)) e in
         let a = step-admitted table f (stepOf s) (formBy (f .kind) (r .count) rows coefs) reached in
         record {
           admissible = reached;

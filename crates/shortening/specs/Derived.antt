@@ -36,7 +36,8 @@ pub record Leads (table : List ℕ) (f : S.Form) (steps : List Step) (n : ℕ) (
   pub inShape : StepsInShape (map stepOf (take n steps))
 
 -- from the form of a kind in n rows such steps lead to one that has no candidate, if its letters are in the table
-pub record RoundsTaken (table : List ℕ) (kind n : ℕ) (rows : List (List ℕ)) (coefs : List ℤ) (r : Rounds) (rows' : List (List ℕ)) (coefs' : List ℤ) : Type 0 where
+pub record RoundsTaken (table : List ℕ) (kind n : ℕ) (rows : List (List ℕ)) (coefs : List ℤ) (r : Rounds) (rows' : List (List ℕ))
+    (coefs' : List ℤ) : Type 0 where
   pub leads : Leads table (formBy kind n rows coefs) (r .steps .steps) (r .steps .count) (formBy kind (r .count) rows' coefs')
   pub form : FormRun kind (r .count) rows' coefs'
   pub none : AllKnown table (runOf (r .count) rows' coefs') → NoCandidate table (formBy kind (r .count) rows' coefs')

@@ -65,8 +65,10 @@ unfolding lettersOf
 letters-long k = go (ltb k 256) (ltb k 65792)
   where
     go : (a b : Bool)
-        → (1 ≤ length (if a then k ∷ [] else if b then (k - 256) / 256 ∷ (k - 256) % 256 ∷ [] else (k - 65792) / 65536 ∷ (k - 65792) / 256 % 256 ∷ (k - 65792) % 256 ∷ []))
-        × (length (if a then k ∷ [] else if b then (k - 256) / 256 ∷ (k - 256) % 256 ∷ [] else (k - 65792) / 65536 ∷ (k - 65792) / 256 % 256 ∷ (k - 65792) % 256 ∷ []) ≤ 3)
+        → (1 ≤ length (if a then k ∷ [] else if b then (k - 256) / 256 ∷ (k - 256) % 256 ∷ [] else (k - 65792) / 65536 ∷ (k - 65792) / 256 % 256 ∷ (k - 65792)
+        % 256 ∷ []))
+        × (length (if a then k ∷ [] else if b then (k - 256) / 256 ∷ (k - 256) % 256 ∷ [] else (k - 65792) / 65536 ∷ (k - 65792) / 256 % 256 ∷ (k - 65792) %
+        256 ∷ []) ≤ 3)
     go true b = (omega arith, omega arith)
     go false true = (omega arith, omega arith)
     go false false = (omega arith, omega arith)

@@ -83,7 +83,8 @@ three-less k l h = inr (refl, go (below (k / 65536) (l / 65536) (omega arith)))
     last e (inr g) = inr (g, inl (omega arith))
 
     go : (k / 65536 < l / 65536) ⊎ (k / 65536 ≡ l / 65536)
-        → (k / 65536 < l / 65536) ⊎ ((k / 65536 ≡ l / 65536) × ((k / 256 % 256 < l / 256 % 256) ⊎ ((k / 256 % 256 ≡ l / 256 % 256) × ((k % 256 < l % 256) ⊎ ((k % 256 ≡ l % 256) × ⊥)))))
+        → (k / 65536 < l / 65536) ⊎ ((k / 65536 ≡ l / 65536) × ((k / 256 % 256 < l / 256 % 256) ⊎ ((k / 256 % 256 ≡ l / 256 % 256)
+        × ((k % 256 < l % 256) ⊎ ((k % 256 ≡ l % 256) × ⊥)))))
     go (inl g) = inl g
     go (inr e) = inr (e, last e (below (k / 256 % 256) (l / 256 % 256) (omega arith)))
 
@@ -91,20 +92,24 @@ three-less k l h = inr (refl, go (below (k / 65536) (l / 65536) (omega arith)))
 pub letters-less : (k l : ℕ) → k < l → LtLetters (lettersOf k) (lettersOf l)
 letters-less k l h = go (ltb k 256) refl (ltb k 65792) refl (ltb l 256) refl (ltb l 65792) refl
   where
-    go : (a : Bool) → ltb k 256 ≡ a → (b : Bool) → ltb k 65792 ≡ b → (c : Bool) → ltb l 256 ≡ c → (d : Bool) → ltb l 65792 ≡ d → LtLetters (lettersOf k) (lettersOf l)
+    go : (a : Bool) → ltb k 256 ≡ a → (b : Bool) → ltb k 65792 ≡ b → (c : Bool) → ltb l 256 ≡ c → (d : Bool) → ltb l 65792 ≡ d → LtLetters (lettersOf k)
+        (lettersOf l)
     go true a b p true c d q = rw (one-is k (ltb-true k 256 a), one-is l (ltb-true l 256 c)) (inr (refl, inl h))
     go true a b p false c true q = rw (one-is k (ltb-true k 256 a), two-is l (ltb-false l 256 c) (ltb-true l 65792 q)) (inl (omega arith))
     go true a b p false c false q = rw (one-is k (ltb-true k 256 a), three-is l (ltb-false l 65792 q)) (inl (omega arith))
     go false a true p true c d q = absurd (omega (arith, ltb-false k 256 a, ltb-true l 256 c))
     go false a true p false c true q =
-        rw (two-is k (ltb-false k 256 a) (ltb-true k 65792 p), two-is l (ltb-false l 256 c) (ltb-true l 65792 q)) (two-less (k - 256) (l - 256) (omega (arith, ltb-false k 256 a)))
+        rw (two-is k (ltb-false k 256 a) (ltb-true k 65792 p), two-is l (ltb-false l 256 c) (ltb-true l 65792 q)) (two-less (k - 256) (l - 256)
+        (omega (arith, ltb-false k 256 a)))
     go false a true p false c false q = rw (two-is k (ltb-false k 256 a) (ltb-true k 65792 p), three-is l (ltb-false l 65792 q)) (inl (omega arith))
     go false a false p true c d q = absurd (omega (arith, ltb-false k 256 a, ltb-true l 256 c))
     go false a false p false c true q = absurd (omega (arith, ltb-false k 65792 p, ltb-true l 65792 q))
-    go false a false p false c false q = rw (three-is k (ltb-false k 65792 p), three-is l (ltb-false l 65792 q)) (three-less (k - 65792) (l - 65792) (omega (arith, ltb-false k 65792 p)))
+    go false a false p false c false q = rw (three-is k (ltb-false k 65792 p), three-is l (ltb-false l 65792 q)) (three-less (k - 65792) (l - 65792)
+        (omega (arith, ltb-false k 65792 p)))
 
 -- numbers in their order number things in theirs
-by-number : (lettersBy : ℕ → List ℕ) → ((k l : ℕ) → k < l → LtLetters (lettersBy k) (lettersBy l)) → (k l : ℕ) → compareLetters (lettersBy k) (lettersBy l) ≡ order k l
+by-number : (lettersBy : ℕ → List ℕ) → ((k l : ℕ) → k < l → LtLetters (lettersBy k) (lettersBy l)) → (k l : ℕ) → compareLetters (lettersBy k)
+    (lettersBy l) ≡ order k l
 by-number lettersBy less k l = go (O.tri nat-laws k l)
   where
     go : ((k < l) ⊎ (k ≡ l)) ⊎ (l < k) → compareLetters (lettersBy k) (lettersBy l) ≡ order k l
@@ -123,7 +128,8 @@ unfolding lettersOf
 some-letters k = go (ltb k 256) (ltb k 65792)
   where
     go : (a b : Bool)
-        → 0 < length (if a then k ∷ [] else if b then (k - 256) / 256 ∷ (k - 256) % 256 ∷ [] else (k - 65792) / 65536 ∷ (k - 65792) / 256 % 256 ∷ (k - 65792) % 256 ∷ [])
+        → 0 < length (if a then k ∷ [] else if b then (k - 256) / 256 ∷ (k - 256) % 256 ∷ [] else (k - 65792) / 65536 ∷ (k - 65792) / 256 % 256 ∷ (k - 65792) %
+        256 ∷ [])
     go true b = omega arith
     go false true = omega arith
     go false false = omega arith
@@ -149,7 +155,8 @@ unfolding lettersOf
 few-letters k = go (ltb k 256) refl (ltb k 65792) refl
   where
     go : (a : Bool) → ltb k 256 ≡ a → (b : Bool) → ltb k 65792 ≡ b
-        → length (if a then k ∷ [] else if b then (k - 256) / 256 ∷ (k - 256) % 256 ∷ [] else (k - 65792) / 65536 ∷ (k - 65792) / 256 % 256 ∷ (k - 65792) % 256 ∷ []) < 3 → k < 65792
+        → length (if a then k ∷ [] else if b then (k - 256) / 256 ∷ (k - 256) % 256 ∷ [] else (k - 65792) / 65536 ∷ (k - 65792) / 256 % 256 ∷ (k - 65792) % 256
+        ∷ []) < 3 → k < 65792
     go true p b q h = omega (arith, ltb-true k 256 p)
     go false p true q h = ltb-true k 65792 q
     go false p false q h = absurd (omega arith)

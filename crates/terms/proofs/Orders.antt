@@ -59,7 +59,8 @@ module _ (a b : Term) (x y : ℕ) (p : partLettersOf x ≡ partOf (a .part)) (q 
       let m = b .«factor_count» in
       let la : length (map lettersOf (take n (a .factors))) ≡ n = length-map (take n (a .factors)) lettersOf ∙ length-take-le n (a .factors) al in
       let lb : length (map lettersOf (take m (b .factors))) ≡ m = length-map (take m (b .factors)) lettersOf ∙ length-take-le m (b .factors) bl in
-      λ i. thenBy (((λ j. compareLetters (sym p j) (sym q j)) ∙ part-order x y) i) (thenBy (order (la i) (lb i)) (by-numbers (take n (a .factors)) (take m (b .factors)) i))
+      λ i. thenBy (((λ j. compareLetters (sym p j) (sym q j)) ∙ part-order x y) i) (thenBy (order (la i) (lb i)) (by-numbers (take n (a .factors))
+      (take m (b .factors)) i))
 
   pub part-less : x < y → compareTerms (termOf a) (termOf b) ≡ Ordering·lt
   part-less h = by-parts ∙ rw (compares-less nat-laws x y h)

@@ -17,7 +17,8 @@ check-table-requires c κs = search needs
 
 returns : tie.Need-returns
 unfolding checkedOf
-returns c = table-bad (now (c .before .before .before .before .args .table)) (now (c .before .before .before .before .args .log)) _ (c .before .check-table .ensures) (c .if1 .taken)
+returns c = table-bad (now (c .before .before .before .before .args .table)) (now (c .before .before .before .before .args .log))
+    _ (c .before .check-table .ensures) (c .if1 .taken)
 
 read-log-requires : tie.Need-read-log-requires
 read-log-requires c κs = search needs
@@ -25,7 +26,8 @@ read-log-requires c κs = search needs
 returns-2 : tie.Need-returns-2
 unfolding checkedOf
 returns-2 c = let w = c .before .before .before .before .before .before .before in
-    shape-bad (now (w .args .table)) (now (w .args .log)) _ (c .before .before .before .before .check-table .ensures) (c .before .before .before .if1 .left) (log-refused _ _ (c .before .before .read-log .ensures) (not-true _ (c .if2 .taken)))
+    shape-bad (now (w .args .table)) (now (w .args .log)) _ (c .before .before .before .before .check-table .ensures) (c .before .before .before .if1 .left)
+    (log-refused _ _ (c .before .before .read-log .ensures) (not-true _ (c .if2 .taken)))
 
 add-behind : tie.Need-add-behind
 add-behind c = omega (arith, c .before .before .read-log .ensures .steps .few)
@@ -39,8 +41,10 @@ test-terms-requires c κs = let v = c .before .before .read-log .ensures .first 
 returns-3 : tie.Need-returns-3
 unfolding checkedOf partsOf
 returns-3 c = let w = c .before .before .before .before .before .before .before .before .before in
-    first-letters (now (w .args .table)) (now (w .args .log)) _ (c .before .before .before .before .before .before .check-table .ensures) (c .before .before .before .before .before .if1 .left) _ _ _ _ _
-    (log-parts _ _ (c .before .before .before .before .read-log .ensures) (not-false _ (c .before .before .if2 .left))) _ (c .before .test-terms .ensures) (c .if3 .taken)
+    first-letters (now (w .args .table)) (now (w .args .log)) _ (c .before .before .before .before .before .before .check-table .ensures)
+    (c .before .before .before .before .before .if1 .left) _ _ _ _ _
+    (log-parts _ _ (c .before .before .before .before .read-log .ensures) (not-false _ (c .before .before .if2 .left))) _ (c .before .test-terms .ensures)
+    (c .if3 .taken)
 
 test-steps-requires : tie.Need-test-steps-requires
 test-steps-requires c κs = c .before .before .before .before .read-log .ensures .steps
@@ -48,18 +52,27 @@ test-steps-requires c κs = c .before .before .before .before .read-log .ensures
 returns-4 : tie.Need-returns-4
 unfolding checkedOf partsOf
 returns-4 c = let w = c .before .before .before .before .before .before .before .before .before .before .before .before in
-    step-letters (now (w .args .table)) (now (w .args .log)) _ (c .before .before .before .before .before .before .before .before .before .check-table .ensures) (c .before .before .before .before .before .before .before .before .if1 .left) _ _ _ _ _
-    (log-parts _ _ (c .before .before .before .before .before .before .before .read-log .ensures) (not-false _ (c .before .before .before .before .before .if2 .left))) _ (c .before .before .before .before .test-terms .ensures) (c .before .before .before .if3 .left) _ (c .before .before .test-steps .ensures) (c .if4 .taken)
+    step-letters (now (w .args .table)) (now (w .args .log)) _ (c .before .before .before .before .before .before .before .before .before .check-table
+    .ensures) (c .before .before .before .before .before .before .before .before .if1 .left) _ _ _ _ _
+    (log-parts _ _ (c .before .before .before .before .before .before .before .read-log .ensures)
+    (not-false _ (c .before .before .before .before .before .if2 .left))) _ (c .before .before .before .before .test-terms .ensures)
+    (c .before .before .before .if3 .left) _ (c .before .before .test-steps .ensures) (c .if4 .taken)
 
 test-terms-requires-2 : tie.Need-test-terms-requires-2
-test-terms-requires-2 c κs = let v = c .before .before .before .before .before .before .before .read-log .ensures .last (not-false _ (c .before .before .before .before .before .if2 .left)) in record { few = v .few; counted = v .counted }
+test-terms-requires-2 c κs = let v = c .before .before .before .before .before .before .before .read-log .ensures .last (not-false _ (c .before .before .before
+    .before .before .if2 .left)) in record { few = v .few; counted = v .counted }
 
 returns-5 : tie.Need-returns-5
 unfolding checkedOf partsOf
 returns-5 c = let w = c .before .before .before .before .before .before .before .before .before .before .before .before .before .before in
-    last-letters (now (w .args .table)) (now (w .args .log)) _ (c .before .before .before .before .before .before .before .before .before .before .before .check-table .ensures) (c .before .before .before .before .before .before .before .before .before .before .if1 .left) _ _ _ _ _
-    (log-parts _ _ (c .before .before .before .before .before .before .before .before .before .read-log .ensures) (not-false _ (c .before .before .before .before .before .before .before .if2 .left))) _ (c .before .before .before .before .before .before .test-terms .ensures) (c .before .before .before .before .before .if3 .left) _ (c .before .before .before .before .test-steps .ensures) (c .before .before .if4 .left) _
-    (steps-long _ (c .before .before .before .before .before .before .before .before .before .read-log .ensures .steps)) _ (c .before .test-terms2 .ensures) (c .if5 .taken)
+    last-letters (now (w .args .table)) (now (w .args .log)) _ (c .before .before .before .before .before .before .before .before .before .before .before
+    .check-table .ensures) (c .before .before .before .before .before .before .before .before .before .before .if1 .left) _ _ _ _ _
+    (log-parts _ _ (c .before .before .before .before .before .before .before .before .before .read-log .ensures)
+    (not-false _ (c .before .before .before .before .before .before .before .if2 .left)))
+    _ (c .before .before .before .before .before .before .test-terms .ensures) (c .before .before .before .before .before .if3 .left)
+    _ (c .before .before .before .before .test-steps .ensures) (c .before .before .if4 .left) _
+    (steps-long _ (c .before .before .before .before .before .before .before .before .before .read-log .ensures .steps)) _ (c .before .test-terms2 .ensures)
+    (c .if5 .taken)
 
 replay-requires : tie.Need-replay-requires
 replay-requires c κs = let r = c .before .before .before .before .before .before .before .before .before .read-log .ensures in
@@ -68,24 +81,53 @@ replay-requires c κs = let r = c .before .before .before .before .before .befor
 
 returns-6 : tie.Need-returns-6
 unfolding checkedOf partsOf
-returns-6 c = let w = c .before .before .before .before .before .before .before .before .before .before .before .before .before .before .before .before .before in
-    step-taken (now (w .args .table)) (now (w .args .log)) _ (c .before .before .before .before .before .before .before .before .before .before .before .before .before .before .check-table .ensures) (c .before .before .before .before .before .before .before .before .before .before .before .before .before .if1 .left) _ _ _ _ _
-    (log-parts _ _ (c .before .before .before .before .before .before .before .before .before .before .before .before .read-log .ensures) (not-false _ (c .before .before .before .before .before .before .before .before .before .before .if2 .left))) _ (c .before .before .before .before .before .before .before .before .before .test-terms .ensures) (c .before .before .before .before .before .before .before .before .if3 .left) _ (c .before .before .before .before .before .before .before .test-steps .ensures) (c .before .before .before .before .before .if4 .left) _
-    (steps-long _ (c .before .before .before .before .before .before .before .before .before .before .before .before .read-log .ensures .steps)) _ (c .before .before .before .before .test-terms2 .ensures) (c .before .before .before .if5 .left) _ (c .before .before .replay .ensures) (c .if6 .taken)
+returns-6 c = let w = c .before .before .before .before .before .before .before .before .before .before .before .before .before .before .before .before .before
+    in
+    step-taken (now (w .args .table)) (now (w .args .log)) _ (c .before .before .before .before .before .before .before .before .before .before .before .before
+    .before .before .check-table .ensures) (c .before .before .before .before .before .before .before .before .before .before .before .before .before .if1
+    .left) _ _ _ _ _
+    (log-parts _ _ (c .before .before .before .before .before .before .before .before .before .before .before .before .read-log .ensures)
+    (not-false _ (c .before .before .before .before .before .before .before .before .before .before .if2 .left)))
+    _ (c .before .before .before .before .before .before .before .before .before .test-terms .ensures)
+    (c .before .before .before .before .before .before .before .before .if3 .left) _ (c .before .before .before .before .before .before .before .test-steps
+    .ensures) (c .before .before .before .before .before .if4 .left) _
+    (steps-long _ (c .before .before .before .before .before .before .before .before .before .before .before .before .read-log .ensures .steps))
+    _ (c .before .before .before .before .test-terms2 .ensures) (c .before .before .before .if5 .left) _ (c .before .before .replay .ensures)
+    (c .if6 .taken)
 
 returns-7 : tie.Need-returns-7
 unfolding checkedOf partsOf
-returns-7 c = let w = c .before .before .before .before .before .before .before .before .before .before .before .before .before .before .before .before .before .before .before in
-    not-reached (now (w .args .table)) (now (w .args .log)) _ (c .before .before .before .before .before .before .before .before .before .before .before .before .before .before .before .before .check-table .ensures) (c .before .before .before .before .before .before .before .before .before .before .before .before .before .before .before .if1 .left) _ _ _ _ _
-    (log-parts _ _ (c .before .before .before .before .before .before .before .before .before .before .before .before .before .before .read-log .ensures) (not-false _ (c .before .before .before .before .before .before .before .before .before .before .before .before .if2 .left))) _ (c .before .before .before .before .before .before .before .before .before .before .before .test-terms .ensures) (c .before .before .before .before .before .before .before .before .before .before .if3 .left) _ (c .before .before .before .before .before .before .before .before .before .test-steps .ensures) (c .before .before .before .before .before .before .before .if4 .left) _
-    (steps-long _ (c .before .before .before .before .before .before .before .before .before .before .before .before .before .before .read-log .ensures .steps)) _ (c .before .before .before .before .before .before .test-terms2 .ensures) (c .before .before .before .before .before .if5 .left) _ (c .before .before .before .before .replay .ensures) (c .before .before .if6 .left) refl (not-true _ (c .if7 .taken))
+returns-7 c = let w = c .before .before .before .before .before .before .before .before .before .before .before .before .before .before .before .before .before
+    .before .before in
+    not-reached (now (w .args .table)) (now (w .args .log)) _ (c .before .before .before .before .before .before .before .before .before .before .before
+    .before .before .before .before .before .check-table .ensures) (c .before .before .before .before .before .before .before .before .before .before
+    .before .before .before .before .before .if1 .left) _ _ _ _ _
+    (log-parts _ _ (c .before .before .before .before .before .before .before .before .before .before .before .before .before .before .read-log .ensures)
+    (not-false _ (c .before .before .before .before .before .before .before .before .before .before .before .before .if2 .left)))
+    _ (c .before .before .before .before .before .before .before .before .before .before .before .test-terms .ensures)
+    (c .before .before .before .before .before .before .before .before .before .before .if3 .left)
+    _ (c .before .before .before .before .before .before .before .before .before .test-steps .ensures)
+    (c .before .before .before .before .before .before .before .if4 .left) _
+    (steps-long _ (c .before .before .before .before .before .before .before .before .before .before .before .before .before .before .read-log .ensures
+    .steps)) _ (c .before .before .before .before .before .before .test-terms2 .ensures) (c .before .before .before .before .before .if5 .left)
+    _ (c .before .before .before .before .replay .ensures) (c .before .before .if6 .left) refl (not-true _ (c .if7 .taken))
 
 returns-8 : tie.Need-returns-8
 unfolding checkedOf partsOf
-returns-8 c = let w = c .before .before .before .before .before .before .before .before .before .before .before .before .before .before .before .before .before .before .before in
-    all-accepted (now (w .args .table)) (now (w .args .log)) _ (c .before .before .before .before .before .before .before .before .before .before .before .before .before .before .before .before .check-table .ensures) (c .before .before .before .before .before .before .before .before .before .before .before .before .before .before .before .if1 .left) _ _ _ _ _
-    (log-parts _ _ (c .before .before .before .before .before .before .before .before .before .before .before .before .before .before .read-log .ensures) (not-false _ (c .before .before .before .before .before .before .before .before .before .before .before .before .if2 .left))) _ (c .before .before .before .before .before .before .before .before .before .before .before .test-terms .ensures) (c .before .before .before .before .before .before .before .before .before .before .if3 .left) _ (c .before .before .before .before .before .before .before .before .before .test-steps .ensures) (c .before .before .before .before .before .before .before .if4 .left) _
-    (steps-long _ (c .before .before .before .before .before .before .before .before .before .before .before .before .before .before .read-log .ensures .steps)) _ (c .before .before .before .before .before .before .test-terms2 .ensures) (c .before .before .before .before .before .if5 .left) _ (c .before .before .before .before .replay .ensures) (c .before .before .if6 .left) refl (not-false _ (c .if7 .left))
+returns-8 c = let w = c .before .before .before .before .before .before .before .before .before .before .before .before .before .before .before .before .before
+    .before .before in
+    all-accepted (now (w .args .table)) (now (w .args .log)) _ (c .before .before .before .before .before .before .before .before .before .before .before
+    .before .before .before .before .before .check-table .ensures) (c .before .before .before .before .before .before .before .before .before .before
+    .before .before .before .before .before .if1 .left) _ _ _ _ _
+    (log-parts _ _ (c .before .before .before .before .before .before .before .before .before .before .before .before .before .before .read-log .ensures)
+    (not-false _ (c .before .before .before .before .before .before .before .before .before .before .before .before .if2 .left)))
+    _ (c .before .before .before .before .before .before .before .before .before .before .before .test-terms .ensures)
+    (c .before .before .before .before .before .before .before .before .before .before .if3 .left)
+    _ (c .before .before .before .before .before .before .before .before .before .test-steps .ensures)
+    (c .before .before .before .before .before .before .before .if4 .left) _
+    (steps-long _ (c .before .before .before .before .before .before .before .before .before .before .before .before .before .before .read-log .ensures
+    .steps)) _ (c .before .before .before .before .before .before .test-terms2 .ensures) (c .before .before .before .before .before .if5 .left)
+    _ (c .before .before .before .before .replay .ensures) (c .before .before .if6 .left) refl (not-false _ (c .if7 .left))
 
 pub check-spec : {M : Type 1} → statement M
 check-spec =

@@ -22,14 +22,22 @@ returns-3 c =
     (c .before .form-of .ensures) (c .if3 .taken)
 
 write-form-requires : tie.Need-write-form-requires
-write-form-requires c κs = let v = c .before .before .form-of .ensures .valid (c .before .if3 .left) in (v, omega (arith, v .few, c .before .before .before .if2 .left))
+write-form-requires c κs = let v = c .before .before .form-of .ensures .valid (c .before .if3 .left) in (
+  v,
+  omega (
+    arith,
+    v .few,
+    c .before .before .before .if2 .left,
+  ),
+)
 
 same-length : tie.Need-same-length
 same-length c = search needs
 
 returns-4 : tie.Need-returns-4
 returns-4 c =
-    form-written _ _ _ _ (c .before .before .before .before .before .before .before .before .check-table .ensures) (c .before .before .before .before .before .before .before .if1 .left) (c .before .before .before .before .before .before .if2 .left) _
+    form-written _ _ _ _ (c .before .before .before .before .before .before .before .before .check-table .ensures)
+    (c .before .before .before .before .before .before .before .if1 .left) (c .before .before .before .before .before .before .if2 .left) _
     (c .before .before .before .before .before .form-of .ensures) _ _ (c .before .before .before .before .if3 .left) (c .before .before .write-form .ensures)
 
 pub reduce-spec : {M : Type 1} → statement M

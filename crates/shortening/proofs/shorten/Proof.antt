@@ -30,7 +30,8 @@ returns-2 : tie.Need-returns-2
 unfolding shorteningOf logLength
 returns-2 c =
     let w = c .before .before .before .before .before .before in (
-      out-refused (now (w .args .table)) (now (w .args .form)) (now (w .args .out)) _ (c .before .before .check-table .ensures) (c .before .if1 .left) (c .if2 .taken),
+      out-refused (now (w .args .table)) (now (w .args .form)) (now (w .args .out)) _ (c .before .before .check-table .ensures) (c .before .if1 .left)
+          (c .if2 .taken),
       omega arith,
     )
 
@@ -62,11 +63,20 @@ returns-4 : tie.Need-returns-4
 unfolding shorteningOf logLength
 returns-4 c =
     let w = c .before .before .before .before .before .before .before .before .before .before .before .before .before in (
-      log-written (now (w .args .table)) (now (w .args .form)) (now (w .args .out)) _ (c .before .before .before .before .before .before .before .before .before .check-table .ensures) (c .before .before .before .before .before .before .before .before .if1 .left) (c .before .before .before .before .before .before .before .if2 .left) _
-          (c .before .before .before .before .before .before .read-form .ensures) (c .before .before .before .before .before .if3 .left) (form-places (c .before .before .before .before .before .before)) _ (c .before .before .before .before .derive .ensures) (last-places (c .before .before .before .before))
-          (bytes-all (now (w .args .form)) (λ (k : ℕ). c .before .before .before .before .before .before .before .before .before .before .before .shared-slice-known2 .given k .fits)) _ _ (c .before .before .write-log .ensures),
-      log-fits (now (w .args .table)) (now (w .args .form)) (now (w .args .out)) _ (c .before .before .before .before .before .before .before .before .before .check-table .ensures) (c .before .before .before .before .before .before .before .before .if1 .left) (c .before .before .before .before .before .before .before .if2 .left) _
-          (c .before .before .before .before .before .before .read-form .ensures) (c .before .before .before .before .before .if3 .left) (form-places (c .before .before .before .before .before .before)) _ (c .before .before .before .before .derive .ensures) (last-places (c .before .before .before .before))
+      log-written (now (w .args .table)) (now (w .args .form)) (now (w .args .out)) _ (c .before .before .before .before .before .before .before .before
+          .before .check-table .ensures) (c .before .before .before .before .before .before .before .before .if1 .left)
+          (c .before .before .before .before .before .before .before .if2 .left) _
+          (c .before .before .before .before .before .before .read-form .ensures) (c .before .before .before .before .before .if3 .left)
+          (form-places (c .before .before .before .before .before .before)) _ (c .before .before .before .before .derive .ensures)
+          (last-places (c .before .before .before .before))
+          (bytes-all (now (w .args .form)) (λ (k : ℕ). c .before .before .before .before .before .before .before .before .before .before .before
+          .shared-slice-known2 .given k .fits)) _ _ (c .before .before .write-log .ensures),
+      log-fits (now (w .args .table)) (now (w .args .form)) (now (w .args .out)) _ (c .before .before .before .before .before .before .before .before .before
+          .check-table .ensures) (c .before .before .before .before .before .before .before .before .if1 .left)
+          (c .before .before .before .before .before .before .before .if2 .left) _
+          (c .before .before .before .before .before .before .read-form .ensures) (c .before .before .before .before .before .if3 .left)
+          (form-places (c .before .before .before .before .before .before)) _ (c .before .before .before .before .derive .ensures)
+          (last-places (c .before .before .before .before))
           _ _ (c .before .before .write-log .ensures),
     )
 

@@ -28,7 +28,8 @@ rule-letters-requires c κs = search needs
 
 returns-2 : tie.Need-returns-2
 unfolding RuledOut
-returns-2 c = λ e. inr (λ q. eqb-false _ _ e (ap (λ n. c .before .before .before .before .args .left + n) (c .before .rule-part .ensures) ∙ q ∙ sym (c .rule-letters .ensures .0)))
+returns-2 c = λ e. inr (λ q. eqb-false _ _ e (ap (λ n. c .before .before .before .before .args .left + n) (c .before .rule-part .ensures) ∙ q
+    ∙ sym (c .rule-letters .ensures .0)))
 
 pub is-open-spec : {M : Type 1} → statement M
 is-open-spec =

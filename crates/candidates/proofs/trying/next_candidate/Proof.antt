@@ -36,17 +36,40 @@ letters-left-requires c κs = let w = c .before .before .before .before .before 
 
 next-of-mask-requires : tie.Need-next-of-mask-requires Inv-loop μ-loop
 unfolding termOf
-next-of-mask-requires c κs = let w = c .before .before .before .before .before .before .before in (w .pre .0, w .pre .1, subst (λ (n : ℕ). c .before .before .before .before .before .loop .k < n) (c .before .before .before .before .before .before .mask-count .ensures) (c .before .before .before .before .loop-test .taken), c .before .letters-left .ensures, c .before .before .before .before .before .loop .inv .1)
+next-of-mask-requires c κs = let w = c .before .before .before .before .before .before .before in (
+  w .pre .0,
+  w .pre .1,
+  subst (λ (n : ℕ). c .before .before .before .before .before .loop .k < n) (c .before .before .before .before .before .before .mask-count .ensures)
+      (c .before .before .before .before .loop-test .taken),
+  c .before .letters-left .ensures,
+  c .before .before .before .before .before .loop .inv .1,
+)
 
 mul-next : tie.Need-mul-next Inv-loop μ-loop
-mul-next c = omega (arith, c .before .before .before .before .before .before .before .loop-test .taken, few (c .before .before .before .before .before .before .before .before .before))
+mul-next c = omega (
+  arith,
+  c .before .before .before .before .before .before .before .loop-test .taken,
+  few (c .before .before .before .before .before .before .before .before .before),
+)
 
 add-next : tie.Need-add-next Inv-loop μ-loop
-add-next c = omega (arith, c .before .before .before .before .before .before .before .before .loop-test .taken, few (c .before .before .before .before .before .before .before .before .before .before), c .before .before .before .next-of-mask .ensures .inside)
+add-next c = omega (
+  arith,
+  c .before .before .before .before .before .before .before .before .loop-test .taken,
+  few (c .before .before .before .before .before .before .before .before .before .before),
+  c .before .before .before .next-of-mask .ensures .inside,
+)
 
 returns : tie.Need-returns Inv-loop μ-loop
-returns c = let w = c .before .before .before .before .before .before .before .before .before .before .before in let v = c .before .before .before .before .before .before .before .before .before .loop in
-    mask-found (now (w .args .marks)) (w .args .kind) (termOf (w .args .t3)) (w .args .from) (v .k) (v .at) (v .inv .2) _ (c .before .before .before .next-of-mask .ensures) (v .inv .0) (omega (arith, c .before .before .before .before .before .before .before .before .loop-test .taken, few (c .before .before .before .before .before .before .before .before .before .before))) (c .before .before .if2 .taken)
+returns c = let w = c .before .before .before .before .before .before .before .before .before .before .before in let v =
+    c .before .before .before .before .before .before .before .before .before .loop in
+    mask-found (now (w .args .marks)) (w .args .kind) (termOf (w .args .t3)) (w .args .from) (v .k) (v .at) (v .inv .2)
+    _ (c .before .before .before .next-of-mask .ensures) (v .inv .0) (omega (
+      arith,
+      c .before .before .before .before .before .before .before .before
+          .loop-test .taken,
+      few (c .before .before .before .before .before .before .before .before .before .before),
+    )) (c .before .before .if2 .taken)
 
 add-k : tie.Need-add-k Inv-loop μ-loop
 add-k c = omega (arith, c .before .before .before .before .loop-test .taken, few (c .before .before .before .before .before .before))
@@ -59,7 +82,8 @@ unfolding termOf
 loop-again c = let w = c .before .before .before .before .before .before .before in let v = c .before .before .before .before .before .loop in (
   omega (arith, v .inv .0, v .inv .1),
   omega arith,
-  ⊎-elim (λ x. mask-passed (now (w .args .marks)) (w .args .kind) (termOf (w .args .t3)) (w .args .from) (v .k) (v .at) (v .inv .2) _ (x .1 .ensures) (x .2 .left))
+  ⊎-elim (λ x. mask-passed (now (w .args .marks)) (w .args .kind) (termOf (w .args .t3)) (w .args .from) (v .k) (v .at) (v .inv .2) _ (x .1 .ensures)
+      (x .2 .left))
       (λ x. mask-skipped (now (w .args .marks)) (w .args .kind) (termOf (w .args .t3)) (w .args .from) (v .k) (v .at) (v .inv .2)
       (many-hopeless (now (w .args .marks)) (w .args .kind) (termOf (w .args .t3)) (v .k) _ (c .before .letters-left .ensures) (x .left))) (c .if1 .came),
 )
@@ -68,7 +92,12 @@ no-step-requires : tie.Need-no-step-requires Inv-loop μ-loop
 no-step-requires c κs = tt
 
 returns-2 : tie.Need-returns-2 Inv-loop μ-loop
-returns-2 c = let w = c .before .before .before .before in let v = c .before .before .loop in places-end (now (w .args .marks)) (w .args .kind) (w .args .t3) (w .args .from) (v .k) (v .at) _ _ (c .no-step .ensures) (v .inv .2) (factors-long (w .args .t3) (omega (arith, seven w, w .pre .1 .counted .few))) (c .before .before .before .mask-count .ensures) (c .before .loop-test .left) (w .pre .2)
+returns-2 c = let w = c .before .before .before .before in let v = c .before .before .loop in places-end (now (w .args .marks)) (w .args .kind)
+    (w .args .t3) (w .args .from) (v .k) (v .at) _ _ (c .no-step .ensures) (v .inv .2) (factors-long (w .args .t3) (omega (
+      arith,
+      seven w,
+      w .pre .1 .counted .few,
+    ))) (c .before .before .before .mask-count .ensures) (c .before .loop-test .left) (w .pre .2)
 
 pub next-candidate-spec : {M : Type 1} → statement M
 next-candidate-spec =

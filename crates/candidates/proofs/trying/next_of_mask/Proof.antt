@@ -47,15 +47,31 @@ unfolding termOf
 loop-again c = let w = c .before .before .before .before in let v = c .before .before .before .loop in (
   omega (arith, v .inv .0),
   rules-skipped (now (w .args .marks)) (w .args .kind) (w .args .t) (w .args .k) (w .args .from) (v .at) (v .at / 64) (v .inv .1) refl
-      (ruled-hopeless (now (w .args .marks)) (w .args .kind) (termOf (w .args .t)) (w .args .k) (w .args .left) (v .at / 64 + 1) (place-rule (v .at / 64) (few (c .before .before))) (w .pre .3) (c .before .is-open .ensures (not-true _ (c .if1 .taken)))),
+      (ruled-hopeless (now (w .args .marks)) (w .args .kind) (termOf (w .args .t)) (w .args .k) (w .args .left) (v .at / 64 + 1) (place-rule (v .at / 64)
+      (few (c .before .before))) (w .pre .3) (c .before .is-open .ensures (not-true _ (c .if1 .taken)))),
 )
 
 open-requires : tie.Need-open-requires Inv-loop μ-loop
-open-requires c κs = let w = c .before .before .before .before in (place-rule (c .before .before .before .loop .at / 64) (few (c .before .before)), w .pre .1 .counted, w .pre .2)
+open-requires c κs = let w = c .before .before .before .before in (
+  place-rule (c .before .before .before .loop .at / 64) (few (c .before .before)),
+  w .pre .1 .counted,
+  w .pre .2,
+)
 
 next-pick-requires : tie.Need-next-pick-requires Inv-loop μ-loop
-next-pick-requires c κs = let w = c .before .before .before .before .before .before in let v = c .before .before .before .before .before .loop in
-    (w .pre .0, w .pre .1, place-rule (v .at / 64) (few (c .before .before .before .before)), record { kind = w .args .kind; mask = w .args .k; opened = opened-there (now (w .args .marks)) (w .args .kind) (w .args .t) (w .args .k) (w .args .from) (v .at) (v .at / 64) (v .inv .1) refl _ _ (c .before .«open» .ensures) (c .if2 .taken) }, omega arith)
+next-pick-requires c κs = let w = c .before .before .before .before .before .before in let v = c .before .before .before .before .before .loop in (
+  w .pre .0,
+  w .pre .1,
+  place-rule (v .at / 64) (few (c .before .before .before .before)),
+  record {
+    kind = w .args .kind;
+    mask = w .args .k;
+    opened =
+        opened-there (now (w .args .marks)) (w .args .kind) (w .args .t) (w .args .k) (w .args .from) (v .at) (v .at / 64)
+        (v .inv .1) refl _ _ (c .before .«open» .ensures) (c .if2 .taken);
+  },
+  omega arith,
+)
 
 mul-next : tie.Need-mul-next Inv-loop μ-loop
 mul-next c = omega (arith, few (c .before .before .before .before .before .before .before))
@@ -64,8 +80,12 @@ add-next : tie.Need-add-next Inv-loop μ-loop
 add-next c = omega (arith, few (c .before .before .before .before .before .before .before .before), c .before .before .before .next-pick .ensures .inside)
 
 returns : tie.Need-returns Inv-loop μ-loop
-returns c = let w = c .before .before .before .before .before .before .before .before .before .before in let v = c .before .before .before .before .before .before .before .before .before .loop in
-    rules-found (now (w .args .marks)) (w .args .kind) (w .args .t) (w .args .k) (w .args .from) (v .at) (v .at / 64) (v .inv .1) refl _ _ (c .before .before .before .before .before .«open» .ensures) (c .before .before .before .before .if2 .taken) _ (c .before .before .before .next-pick .ensures) (v .inv .0) (c .before .before .before .before .before .before .before .before .loop-test .taken) (c .before .before .if3 .taken)
+returns c = let w = c .before .before .before .before .before .before .before .before .before .before in let v =
+    c .before .before .before .before .before .before .before .before .before .loop in
+    rules-found (now (w .args .marks)) (w .args .kind) (w .args .t) (w .args .k) (w .args .from) (v .at) (v .at / 64)
+    (v .inv .1) refl _ _ (c .before .before .before .before .before .«open» .ensures) (c .before .before .before .before .if2 .taken)
+    _ (c .before .before .before .next-pick .ensures) (v .inv .0) (c .before .before .before .before .before .before .before .before .loop-test .taken)
+    (c .before .before .if3 .taken)
 
 add-at-2 : tie.Need-add-at-2 Inv-loop μ-loop
 add-at-2 c = omega (arith, few (c .before .before .before .before))
@@ -80,15 +100,18 @@ loop-again-2 : tie.Need-loop-again-2 Inv-loop μ-loop
 loop-again-2 c = let w = c .before .before .before .before .before .before in let v = c .before .before .before .before .before .loop in (
   omega (arith, v .inv .0),
   ⊎-elim
-      (λ x. rules-passed (now (w .args .marks)) (w .args .kind) (w .args .t) (w .args .k) (w .args .from) (v .at) (v .at / 64) (v .inv .1) refl _ _ (c .before .«open» .ensures) (x .0 .taken) _ (x .1 .ensures) (x .2 .left))
-      (λ x. rules-shut (now (w .args .marks)) (w .args .kind) (w .args .t) (w .args .k) (w .args .from) (v .at) (v .at / 64) (v .inv .1) refl _ _ (c .before .«open» .ensures) (x .left)) (c .if2 .came),
+      (λ x. rules-passed (now (w .args .marks)) (w .args .kind) (w .args .t) (w .args .k) (w .args .from) (v .at) (v .at / 64)
+      (v .inv .1) refl _ _ (c .before .«open» .ensures) (x .0 .taken) _ (x .1 .ensures) (x .2 .left))
+      (λ x. rules-shut (now (w .args .marks)) (w .args .kind) (w .args .t) (w .args .k) (w .args .from) (v .at) (v .at / 64)
+      (v .inv .1) refl _ _ (c .before .«open» .ensures) (x .left)) (c .if2 .came),
 )
 
 no-step-requires : tie.Need-no-step-requires Inv-loop μ-loop
 no-step-requires c κs = tt
 
 returns-2 : tie.Need-returns-2 Inv-loop μ-loop
-returns-2 c = let w = c .before .before .before in let v = c .before .before .loop in rules-end (now (w .args .marks)) (w .args .kind) (termOf (w .args .t)) (w .args .k) (w .args .from) (v .at) _ (c .no-step .ensures) (v .inv .1) (c .before .loop-test .left) (w .pre .4)
+returns-2 c = let w = c .before .before .before in let v = c .before .before .loop in rules-end (now (w .args .marks)) (w .args .kind) (termOf (w .args .t))
+    (w .args .k) (w .args .from) (v .at) _ (c .no-step .ensures) (v .inv .1) (c .before .loop-test .left) (w .pre .4)
 
 pub next-of-mask-spec : {M : Type 1} → statement M
 next-of-mask-spec =

@@ -46,7 +46,20 @@ loop-holds : tie.Need-loop-holds Inv-loop μ-loop
 loop-holds c = (omega arith, picks-none _ _ _ _ _)
 
 may-take-block-requires : tie.Need-may-take-block-requires Inv-loop μ-loop
-may-take-block-requires c κs = (counted (c .before .before .before .before .before .before), omega (arith, c .before .loop-test .taken, few (c .before .before .before .before .before .before .before .before)), omega (arith, c .before .before .before .before .before .before .before .block-size .ensures, block-few (c .before .before .before .before .before .before .before .before .before .before .args .rule)))
+may-take-block-requires c κs = (
+  counted (c .before .before .before .before .before .before),
+  omega (
+    arith,
+    c .before .loop-test .taken,
+    few (c .before .before .before .before .before .before .before .before),
+  ),
+  omega (
+    arith,
+    c .before .before .before .before .before .before .before .block-size .ensures,
+    block-few (c .before .before .before .before .before .before .before
+        .before .before .before .args .rule),
+  ),
+)
 
 add-j : tie.Need-add-j Inv-loop μ-loop
 add-j c = omega (arith, c .before .before .before .loop-test .taken, few (c .before .before .before .before .before .before .before .before .before .before))
@@ -55,35 +68,64 @@ loop-less : tie.Need-loop-less Inv-loop μ-loop
 loop-less c = omega (arith, c .before .before .before .loop-test .taken)
 
 loop-again : tie.Need-loop-again Inv-loop μ-loop
-loop-again c = let w = c .before .before .before .before .before .before .before .before .before .before .before .before in let v = c .before .before .before .before .loop in (
-  omega (arith, v .inv .0),
-  picks-skipped (now (w .args .marks)) (w .args .t) (w .args .rule) (w .args .t4) (w .args .from) (v .j) (v .inv .1) (v .inv .0)
-      (λ kind k op inside can. takes-no-block (w .args .t) (w .args .rule) (w .args .t4) (v .j) kind k op inside can _ _ _ (c .before .before .before .before .before .before .before .before .bit-digits .ensures) (c .before .before .before .before .before .before .before .before .before .block-size .ensures) (c .before .before .before .before .before .may-leave-first .ensures) (c .before .may-take-block .ensures (not-true _ (c .if1 .taken)))),
-)
+loop-again c = let w = c .before .before .before .before .before .before .before .before .before .before .before .before in let v =
+    c .before .before .before .before .loop in (
+      omega (arith, v .inv .0),
+      picks-skipped (now (w .args .marks)) (w .args .t) (w .args .rule) (w .args .t4) (w .args .from) (v .j) (v .inv .1) (v .inv .0)
+          (λ kind k op inside can. takes-no-block (w .args .t) (w .args .rule) (w .args .t4) (v .j) kind k op inside can _ _ _ (c .before .before .before .before
+          .before .before .before .before .bit-digits .ensures) (c .before .before .before .before .before .before .before .before .before .block-size
+          .ensures) (c .before .before .before .before .before .may-leave-first .ensures) (c .before .may-take-block .ensures (not-true _ (c .if1 .taken)))),
+    )
 
 try-pick-requires : tie.Need-try-pick-requires Inv-loop μ-loop
-try-pick-requires c κs = let w = c .before .before .before .before .before .before .before .before .before .before .before .before in (w .pre .0, w .pre .1, w .pre .2, w .pre .3, subst (λ (n : ℕ). c .before .before .before .before .loop .j < n) (c .before .before .before .before .before .before .before .before .before .before .mask-count .ensures ∙ ap (λ (n : ℕ). 2 ^ n) (c .before .before .before .before .before .before .before .before .before .before .before .rule-letters .ensures .0)) (c .before .before .before .loop-test .taken))
+try-pick-requires c κs = let w = c .before .before .before .before .before .before .before .before .before .before .before .before in (
+  w .pre .0,
+  w .pre .1,
+  w .pre .2,
+  w .pre .3,
+  subst (λ (n : ℕ). c .before .before .before .before .loop .j < n)
+      (c .before .before .before .before .before .before .before .before .before .before .mask-count .ensures ∙ ap (λ (n : ℕ). 2 ^ n)
+      (c .before .before .before .before .before .before .before .before .before .before .before .rule-letters .ensures .0))
+      (c .before .before .before .loop-test .taken),
+)
 
 add-j-2 : tie.Need-add-j-2 Inv-loop μ-loop
-add-j-2 c = omega (arith, c .before .before .before .before .loop-test .taken, few (c .before .before .before .before .before .before .before .before .before .before .before))
+add-j-2 c = omega (
+  arith,
+  c .before .before .before .before .loop-test .taken,
+  few (c .before .before .before .before .before .before .before .before .before
+      .before .before),
+)
 
 returns : tie.Need-returns Inv-loop μ-loop
-returns c = let w = c .before .before .before .before .before .before .before .before .before .before .before .before .before .before .before in let v = c .before .before .before .before .before .before .before .loop in
-    picks-found (now (w .args .marks)) (w .args .t) (w .args .rule) (w .args .t4) (w .args .from) (v .j) (v .inv .1) (v .inv .0) _ (c .before .before .try-pick .ensures) (c .before .if2 .taken) (omega (arith, c .before .before .before .before .before .before .loop-test .taken, few (c .before .before .before .before .before .before .before .before .before .before .before .before .before)))
+returns c = let w = c .before .before .before .before .before .before .before .before .before .before .before .before .before .before .before in let v =
+    c .before .before .before .before .before .before .before .loop in
+    picks-found (now (w .args .marks)) (w .args .t) (w .args .rule) (w .args .t4) (w .args .from) (v .j) (v .inv .1) (v .inv .0)
+    _ (c .before .before .try-pick .ensures) (c .before .if2 .taken) (omega (
+      arith,
+      c .before .before .before .before .before .before .loop-test .taken,
+      few (c .before .before .before .before .before .before .before .before .before .before .before .before .before),
+    ))
 
 loop-less-2 : tie.Need-loop-less-2 Inv-loop μ-loop
 loop-less-2 c = omega (arith, c .before .before .before .before .before .loop-test .taken)
 
 loop-again-2 : tie.Need-loop-again-2 Inv-loop μ-loop
-loop-again-2 c = let w = c .before .before .before .before .before .before .before .before .before .before .before .before .before .before in let v = c .before .before .before .before .before .before .loop in
-    (omega (arith, v .inv .0), picks-more (now (w .args .marks)) (w .args .t) (w .args .rule) (w .args .t4) (w .args .from) (v .j) (v .inv .1) (v .inv .0) _ (c .before .try-pick .ensures) (c .if2 .left))
+loop-again-2 c = let w = c .before .before .before .before .before .before .before .before .before .before .before .before .before .before in let v =
+    c .before .before .before .before .before .before .loop in (
+      omega (arith, v .inv .0),
+      picks-more (now (w .args .marks)) (w .args .t) (w .args .rule) (w .args .t4) (w .args .from) (v .j) (v .inv .1) (v .inv .0)
+          _ (c .before .try-pick .ensures) (c .if2 .left),
+    )
 
 no-step-requires : tie.Need-no-step-requires Inv-loop μ-loop
 no-step-requires c κs = tt
 
 returns-2 : tie.Need-returns-2 Inv-loop μ-loop
 returns-2 c = let w = c .before .before .before .before .before .before .before .before .before .before in let v = c .before .before .loop in
-    picks-end (now (w .args .marks)) (w .args .t) (w .args .rule) (w .args .t4) (w .args .from) (v .j) (v .inv .1) (v .inv .0) _ (c .no-step .ensures) (subst (λ (n : ℕ). n ≤ v .j) (c .before .before .before .before .before .before .before .before .mask-count .ensures ∙ ap (λ (n : ℕ). 2 ^ n) (c .before .before .before .before .before .before .before .before .before .rule-letters .ensures .0)) (c .before .loop-test .left)) (w .pre .4)
+    picks-end (now (w .args .marks)) (w .args .t) (w .args .rule) (w .args .t4) (w .args .from) (v .j) (v .inv .1) (v .inv .0) _ (c .no-step .ensures)
+    (subst (λ (n : ℕ). n ≤ v .j) (c .before .before .before .before .before .before .before .before .mask-count .ensures ∙ ap (λ (n : ℕ). 2 ^ n)
+    (c .before .before .before .before .before .before .before .before .before .rule-letters .ensures .0)) (c .before .loop-test .left)) (w .pre .4)
 
 pub next-pick-spec : {M : Type 1} → statement M
 next-pick-spec =

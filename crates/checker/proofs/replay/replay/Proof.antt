@@ -22,10 +22,19 @@ slice-aggregate-take-steps-2 : tie.Need-slice-aggregate-take-steps-2
 slice-aggregate-take-steps-2 c = search needs
 
 take-steps-requires : tie.Need-take-steps-requires
-take-steps-requires c κs = (held-run _ _ _ (c .before .before .before .before .before .before .before .pre .0) (c .before .before .before .before .hold .ensures), omega arith, omega arith, c .before .before .before .before .before .before .before .pre .2)
+take-steps-requires c κs = (
+  held-run _ _ _ (c .before .before .before .before .before .before .before .pre .0)
+      (c .before .before .before .before .hold .ensures),
+  omega arith,
+  omega arith,
+  c .before .before .before .before .before .before .before .pre .2,
+)
 
 returns : tie.Need-returns
-returns c = not-replayed (c .before .before .before .before .before .before .before .before .before .before .before .args .f) (c .before .before .before .before .before .before .before .before .before .before .before .args .last) _ _ _ _ _ _ _ (held-is (c .before .before .before .before .before .before .before .before .before .before .before .args .f) _ _ (c .before .before .before .before .before .before .before .before .hold .ensures)) (c .before .before .before .take-steps .ensures) (c .if1 .taken)
+returns c = not-replayed (c .before .before .before .before .before .before .before .before .before .before .before .args .f)
+    (c .before .before .before .before .before .before .before .before .before .before .before .args .last)
+    _ _ _ _ _ _ _ (held-is (c .before .before .before .before .before .before .before .before .before .before .before .args .f)
+    _ _ (c .before .before .before .before .before .before .before .before .hold .ensures)) (c .before .before .before .take-steps .ensures) (c .if1 .taken)
 
 slice-aggregate-same-form : tie.Need-slice-aggregate-same-form
 slice-aggregate-same-form c = search needs
@@ -34,10 +43,17 @@ slice-aggregate-same-form-2 : tie.Need-slice-aggregate-same-form-2
 slice-aggregate-same-form-2 c = search needs
 
 same-form-requires : tie.Need-same-form-requires
-same-form-requires c κs = (c .before .before .before .before .before .before .before .before .before .before .before .before .before .pre .1, c .before .before .before .before .before .take-steps .ensures .form (c .before .before .if1 .left) .run)
+same-form-requires c κs = (
+  c .before .before .before .before .before .before .before .before .before .before .before .before .before .pre .1,
+  c .before .before .before .before .before .take-steps .ensures .form (c .before .before .if1 .left) .run,
+)
 
 returns-2 : tie.Need-returns-2
-returns-2 c = replayed (c .before .before .before .before .before .before .before .before .before .before .before .before .before .before .args .f) (c .before .before .before .before .before .before .before .before .before .before .before .before .before .before .args .last) _ _ _ _ _ _ _ (held-is (c .before .before .before .before .before .before .before .before .before .before .before .before .before .before .args .f) _ _ (c .before .before .before .before .before .before .before .before .before .before .before .hold .ensures)) (c .before .before .before .before .before .before .take-steps .ensures) (c .before .before .before .if1 .left) _ (c .same-form .ensures)
+returns-2 c = replayed (c .before .before .before .before .before .before .before .before .before .before .before .before .before .before .args .f)
+    (c .before .before .before .before .before .before .before .before .before .before .before .before .before .before .args .last)
+    _ _ _ _ _ _ _ (held-is (c .before .before .before .before .before .before .before .before .before .before .before .before .before .before .args .f)
+    _ _ (c .before .before .before .before .before .before .before .before .before .before .before .hold .ensures))
+    (c .before .before .before .before .before .before .take-steps .ensures) (c .before .before .before .if1 .left) _ (c .same-form .ensures)
 
 pub replay-spec : {M : Type 1} → statement M
 replay-spec =

@@ -10,7 +10,8 @@ use Rattle.checker.proofs.replay.same_row.Tie as tie
 
 -- both coefficients are read back as they were stored
 coefs : (c : tie.After-equal) → c .equal .result ≡ sameCoef (c .before .before .args .t .coef) (c .before .before .args .c)
-coefs c = c .equal .ensures ∙ (λ i. sameCoef (back-is {z = c .before .before .args .t .coef} (record { sfits = c .before .struct-told .given .0 .1 }) i) (back-is (c .before .before .fits .c) i))
+coefs c = c .equal .ensures ∙ (λ i. sameCoef (back-is {z = c .before .before .args .t .coef} (record { sfits = c .before .struct-told .given .0 .1 }) i)
+    (back-is (c .before .before .fits .c) i))
 
 equal-requires : tie.Need-equal-requires
 equal-requires c κs = search needs
@@ -28,7 +29,9 @@ is-equal-requires : tie.Need-is-equal-requires
 is-equal-requires c κs = search needs
 
 returns-2 : tie.Need-returns-2
-returns-2 c = c .is-equal .ensures ∙ row-same (c .before .before .before .before .before .before .before .args .t) _ _ _ _ _ (coefs (c .before .before .before .before .before)) (not-false _ (c .before .before .before .before .if1 .left)) (c .before .before .before .row-of .ensures .is) (c .before .order-of .ensures _ _)
+returns-2 c = c .is-equal .ensures ∙ row-same (c .before .before .before .before .before .before .before .args .t)
+    _ _ _ _ _ (coefs (c .before .before .before .before .before)) (not-false _ (c .before .before .before .before .if1 .left))
+    (c .before .before .before .row-of .ensures .is) (c .before .order-of .ensures _ _)
 
 pub same-row-spec : {M : Type 1} → statement M
 same-row-spec =

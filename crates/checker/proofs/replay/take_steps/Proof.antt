@@ -1,4 +1,5 @@
--- `checker::replay::take_steps` meets its contract: the rows stand for the current form, in shape, and replaying the steps that are left from it gives what replaying all gives. Assumes nothing.
+-- `checker::replay::take_steps` meets its contract: the rows stand for the current form, in shape, and replaying the steps that are left from it gives what
+-- replaying all gives. Assumes nothing.
 use mathlib.Core.Path.{_≡_, refl, ap, subst, _∙_}
 use mathlib.Core.List.{[]}
 use Prim.Native.Nat.{ℕ, _+_, _-_, _≤_, _<_}
@@ -20,7 +21,8 @@ use Rattle.checker.proofs.replay.take_steps.Tie as tie
 
 abbrev Inv-loop : tie.InvT-loop
 Inv-loop kind held rows₀ coefs₀ q n count₀ i₀ rows coefs count i = (i ≤ n) × (n ≡ q .count) × FormRun kind count rows coefs
-    × ((log : Log) → L.replay log 1 (formBy kind held rows₀ coefs₀) (stepsOf q) ≡ L.replay log (i + 1) (formBy kind count rows coefs) (stepsFrom (q .steps) n i))
+    × ((log : Log) → L.replay log 1 (formBy kind held rows₀ coefs₀) (stepsOf q) ≡ L.replay log (i + 1) (formBy kind count rows coefs)
+    (stepsFrom (q .steps) n i))
     × (length rows ≡ length rows₀) × (length coefs ≡ length coefs₀)
 
 abbrev μ-loop : tie.MeasureT-loop
@@ -51,8 +53,17 @@ cast-k c = omega (arith, c .before .before .before .pre .3 .few, c .before .loop
 
 take-step-requires : tie.Need-take-step-requires Inv-loop μ-loop
 take-step-requires c κs = let a = c .before .before .before .before .before in
-    let v = c .before .before .before .before .loop in
-    (v .inv .2, valid a (v .i) (c .before .before .before .loop-test .taken), omega (arith, v .inv .2 .few, v .inv .4, a .pre .1), omega (arith, v .inv .2 .few, v .inv .5, a .pre .2))
+    let v = c .before .before .before .before .loop in (
+      v .inv .2,
+      valid a (v .i) (c .before .before .before .loop-test .taken),
+      omega (arith, v .inv .2 .few, v .inv .4, a .pre .1),
+      omega (
+        arith,
+        v .inv .2 .few,
+        v .inv .5,
+        a .pre .2,
+      ),
+    )
 
 same-length : tie.Need-same-length Inv-loop μ-loop
 same-length c = search needs
@@ -64,7 +75,8 @@ returns : tie.Need-returns Inv-loop μ-loop
 returns c = let a = c .before .before .before .before .before .before .before .before .before in
     let v = c .before .before .before .before .before .before .before .before .loop in
     record {
-      is = λ log. v .inv .3 log ∙ step-fails (a .args .t5 .steps) (a .args .t5 .count) (v .i) (room a) _ (v .i + 1) log _ _ (c .before .before .before .before .before .before .before .loop-test .taken) (c .if1 .taken)
+      is = λ log. v .inv .3 log ∙ step-fails (a .args .t5 .steps) (a .args .t5 .count) (v .i) (room a)
+          _ (v .i + 1) log _ _ (c .before .before .before .before .before .before .before .loop-test .taken) (c .if1 .taken)
           (c .before .before .before .take-step .ensures .0 .refuses (c .if1 .taken));
       form = λ z. absurd (c .if1 .taken z);
     }
@@ -80,7 +92,8 @@ loop-again c =
       omega arith,
       v .inv .1,
       subst (λ (k : ℕ). FormRun k (w .result .count) (w .last .1 .1 .0) (w .last .1 .1 .1 .0)) (w .ensures .1) (w .ensures .0 .form (c .if1 .left)),
-      λ log. v .inv .3 log ∙ step-reaches (a .args .t5 .steps) (a .args .t5 .count) (v .i) (room a) _ (v .i + 1) log _ (c .before .before .before .before .before .before .before .loop-test .taken)
+      λ log. v .inv .3 log ∙ step-reaches (a .args .t5 .steps) (a .args .t5 .count) (v .i) (room a)
+          _ (v .i + 1) log _ (c .before .before .before .before .before .before .before .loop-test .taken)
           (w .ensures .0 .gives (c .if1 .left) ∙ ap (λ (k : ℕ). given (formBy k (w .result .count) (w .last .1 .1 .0) (w .last .1 .1 .1 .0))) (w .ensures .1)),
       omega (arith, v .inv .4),
       omega (arith, v .inv .5),

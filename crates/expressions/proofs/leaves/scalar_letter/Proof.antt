@@ -14,7 +14,14 @@ array-write-f c = search needs
 
 returns : tie.Need-returns
 unfolding termOf partOf
-returns c = record { is = λ i. plus ((c .scalar-number .ensures .letters) i ∷ []) []; counted = record { few = omega arith; small = ((c .scalar-number .ensures .small), tt) } }
+returns c = record {
+  is = λ i. plus ((c .scalar-number .ensures .letters) i ∷ []) [];
+  counted = record {
+    few = omega arith;
+    small =
+        ((c .scalar-number .ensures .small), tt);
+  };
+}
 
 pub scalar-letter-spec : {M : Type 1} → statement M
 scalar-letter-spec = tie.close (tie.spec scalar-number-requires array-write-f returns)

@@ -16,7 +16,8 @@ test-token-requires : tie.Need-test-token-requires
 test-token-requires c κs = bytes-there _ _ _ (c .before .before .test-bytes .ensures) (c .before .if1 .left)
 
 returns-3 : tie.Need-returns-3
-returns-3 c = head-token _ _ _ _ _ _ (c .before .before .before .test-bytes .ensures) (c .before .before .if1 .left) (c .before .if2 .left) (c .test-token .ensures)
+returns-3 c = head-token _ _ _ _ _ _ (c .before .before .before .test-bytes .ensures) (c .before .before .if1 .left) (c .before .if2 .left)
+    (c .test-token .ensures)
 
 pub test-head-spec : {M : Type 1} → statement M
 test-head-spec =

@@ -160,26 +160,52 @@ module _ (t : ℕ) where
   ends-in-leaf-requires c κs = tt
 
   sub-with-leaf : lts.Need-sub-with-leaf claims given-at reads.Post
-  sub-with-leaf c = omega (arith, some-depth _ ((level _ _ _ _ _ (c .before .before .before .before .before .before .before .before .before .before .before .before .before .before .before .test-head .ensures) (c .before .before .before .before .before .before .before .before .before .before .before .before .before .before .if1 .left)) .deep))
+  sub-with-leaf c = omega (
+    arith,
+    some-depth _ ((level _ _ _ _ _ (c .before .before .before .before .before .before .before .before .before .before .before
+        .before .before .before .before .test-head .ensures) (c .before .before .before .before .before .before .before .before .before .before .before .before
+        .before .before .if1 .left)) .deep),
+  )
 
   with-leaf-requires : lts.Need-with-leaf-requires claims given-at reads.Post
   with-leaf-requires c κs = (
     c .before .before .before .ends-in-leaf .ensures (c .before .before .if5 .taken) .1,
-    read-sound _ _ _ _ (c .before .before .before .before .before .before .before .before .before .before .read-tree .ensures) (c .before .before .before .before .before .before .if3 .left),
-    omega (arith, c .before .before .before .before .before .before .before .before .before .before .read-tree .kept .1 .1 .1 .1 .0, c .before .before .before .before .before .before .before .before .before .before .before .before .before .before .before .before .before .before .before .before .pre .1 .0),
-    omega (arith, c .before .before .before .before .before .before .before .before .before .before .read-tree .kept .1 .1 .1 .1 .1 .0, c .before .before .before .before .before .before .before .before .before .before .before .before .before .before .before .before .before .before .before .before .pre .1 .1),
+    read-sound _ _ _ _ (c .before .before .before .before .before .before .before .before .before .before .read-tree .ensures)
+        (c .before .before .before .before .before .before .if3 .left),
+    omega (
+      arith,
+      c .before .before .before .before .before .before .before .before .before .before .read-tree .kept .1 .1 .1 .1 .0,
+      c .before .before .before .before .before .before .before .before .before .before .before .before .before .before .before .before .before .before
+          .before .before .pre .1 .0,
+    ),
+    omega (
+      arith,
+      c .before .before .before .before .before .before .before .before .before .before .read-tree .kept .1 .1 .1 .1 .1 .0,
+      c .before .before .before .before .before .before .before .before .before .before .before .before .before .before .before .before .before .before
+          .before .before .pre .1 .1,
+    ),
   )
 
   same-length-7 : lts.Need-same-length-7 claims given-at reads.Post
-  same-length-7 c = c .before .before .with-leaf .kept .1 .1 .1 .1 .1 .0 ∙ c .before .before .before .before .before .before .before .before .before .before .before .before .before .read-tree .kept .1 .1 .1 .1 .0
+  same-length-7 c = c .before .before .with-leaf .kept .1 .1 .1 .1 .1 .0 ∙ c .before .before .before .before .before .before .before .before .before .before
+      .before .before .before .read-tree .kept .1 .1 .1 .1 .0
 
   same-length-8 : lts.Need-same-length-8 claims given-at reads.Post
-  same-length-8 c = c .before .before .with-leaf .kept .1 .1 .1 .1 .1 .1 .0 ∙ c .before .before .before .before .before .before .before .before .before .before .before .before .before .read-tree .kept .1 .1 .1 .1 .1 .0
+  same-length-8 c = c .before .before .with-leaf .kept .1 .1 .1 .1 .1 .1 .0 ∙ c .before .before .before .before .before .before .before .before .before .before
+      .before .before .before .read-tree .kept .1 .1 .1 .1 .1 .0
 
   returns-5 : lts.Need-returns-5 claims given-at reads.Post
   returns-5 c =
-      level-leafy _ _ _ _ (level _ _ _ _ _ (c .before .before .before .before .before .before .before .before .before .before .before .before .before .before .before .before .before .before .before .before .test-head .ensures) (c .before .before .before .before .before .before .before .before .before .before .before .before .before .before .before .before .before .before .before .if1 .left)) _ _ _ (c .before .before .before .before .before .before .before .before .before .before .before .before .before .before .before .before .before .operands .ensures) _ _ _ (c .before .before .before .before .before .before .before .before .before .before .before .before .before .read-tree .ensures)
-      (c .before .before .before .before .before .before .before .before .before .before .before .before .before .before .before .before .if2 .left) (c .before .before .before .before .before .before .before .before .before .if3 .left) (c .before .before .before .before .before .before .before .if4 .left) _ (c .before .before .before .before .before .before .ends-in-leaf .ensures (c .before .before .before .before .before .if5 .taken) .0) (c .before .before .with-leaf .ensures)
+      level-leafy _ _ _ _ (level _ _ _ _ _ (c .before .before .before .before .before .before .before .before .before .before .before .before .before .before
+      .before .before .before .before .before .before .test-head .ensures) (c .before .before .before .before .before .before .before .before .before
+      .before .before .before .before .before .before .before .before .before .before .if1 .left))
+      _ _ _ (c .before .before .before .before .before .before .before .before .before .before .before .before .before .before .before .before .before
+      .operands .ensures) _ _ _ (c .before .before .before .before .before .before .before .before .before .before .before .before .before .read-tree
+      .ensures)
+      (c .before .before .before .before .before .before .before .before .before .before .before .before .before .before .before .before .if2 .left)
+      (c .before .before .before .before .before .before .before .before .before .if3 .left)
+      (c .before .before .before .before .before .before .before .if4 .left) _ (c .before .before .before .before .before .before .ends-in-leaf .ensures (c
+      .before .before .before .before .before .if5 .taken) .0) (c .before .before .with-leaf .ensures)
 
   sub-read-tree-2 : lts.Need-sub-read-tree-2 claims given-at reads.Post
   sub-read-tree-2 c =
@@ -238,23 +264,28 @@ module _ (t : ℕ) where
 
   apply-two-requires : lts.Need-apply-two-requires claims given-at reads.Post
   apply-two-requires c κs = (
-    read-sound _ _ _ _ (c .before .before .before .before .before .before .before .before .before .before .before .before .before .before .before .before .before .before .before .before .before .read-tree .ensures)
+    read-sound _ _ _ _ (c .before .before .before .before .before .before .before .before .before .before .before .before .before .before .before .before
+        .before .before .before .before .before .read-tree .ensures)
         (c .before .before .before .before .before .before .before .before .before .before .before .before .before .before .before .before .before .if3 .left),
     read-sound _ _ _ _
         (c .before .before .before .before .before .before .before .before .before .before .read-tree2 .ensures)
         (c .before .before .before .before .before .before .if6 .left),
     omega (
       arith,
-      c .before .before .before .before .before .before .before .before .before .before .before .before .before .before .before .before .before .before .before .before .before .read-tree .kept .1 .1 .1 .1
+      c .before .before .before .before .before .before .before .before .before .before .before .before .before .before .before .before .before .before .before
+          .before .before .read-tree .kept .1 .1 .1 .1
           .0,
-      c .before .before .before .before .before .before .before .before .before .before .before .before .before .before .before .before .before .before .before .before .before .before .before .before .before .before .before .before .before .before .before .pre .1
+      c .before .before .before .before .before .before .before .before .before .before .before .before .before .before .before .before .before .before .before
+          .before .before .before .before .before .before .before .before .before .before .before .before .pre .1
           .0,
     ),
     omega (
       arith,
-      c .before .before .before .before .before .before .before .before .before .before .before .before .before .before .before .before .before .before .before .before .before .read-tree .kept .1 .1 .1 .1 .1
+      c .before .before .before .before .before .before .before .before .before .before .before .before .before .before .before .before .before .before .before
+          .before .before .read-tree .kept .1 .1 .1 .1 .1
           .0,
-      c .before .before .before .before .before .before .before .before .before .before .before .before .before .before .before .before .before .before .before .before .before .before .before .before .before .before .before .before .before .before .before .pre .1
+      c .before .before .before .before .before .before .before .before .before .before .before .before .before .before .before .before .before .before .before
+          .before .before .before .before .before .before .before .before .before .before .before .before .pre .1
           .1,
     ),
   )
@@ -350,25 +381,34 @@ module _ (t : ℕ) where
 
   apply-three-requires : lts.Need-apply-three-requires claims given-at reads.Post
   apply-three-requires c κs = (
-    read-sound _ _ _ _ (c .before .before .before .before .before .before .before .before .before .before .before .before .before .before .before .before .before .before .before .before .before .before .before .before .before .before .before .before .before .before .before .read-tree .ensures)
-        (c .before .before .before .before .before .before .before .before .before .before .before .before .before .before .before .before .before .before .before .before .before .before .before .before .before .before .before .if3 .left),
-    read-sound _ _ _ _ (c .before .before .before .before .before .before .before .before .before .before .before .before .before .before .before .before .before .before .before .before .read-tree2 .ensures)
+    read-sound _ _ _ _ (c .before .before .before .before .before .before .before .before .before .before .before .before .before .before .before .before
+        .before .before .before .before .before .before .before .before .before .before .before .before .before .before .before .read-tree .ensures)
+        (c .before .before .before .before .before .before .before .before .before .before .before .before .before .before .before .before .before .before
+        .before .before .before .before .before .before .before .before .before .if3 .left),
+    read-sound _ _ _ _ (c .before .before .before .before .before .before .before .before .before .before .before .before .before .before .before .before
+        .before .before .before .before .read-tree2 .ensures)
         (c .before .before .before .before .before .before .before .before .before .before .before .before .before .before .before .before .if6 .left),
     read-sound
         _ _ _ _ (c .before .before .before .before .before .before .before .before .before .before .before .read-tree3 .ensures)
         (c .before .before .before .before .before .before .before .if8 .left),
     omega (
       arith,
-      c .before .before .before .before .before .before .before .before .before .before .before .before .before .before .before .before .before .before .before .before .before .before .before .before .before .before .before .before .before .before .before .read-tree .kept .1 .1 .1 .1
+      c .before .before .before .before .before .before .before .before .before .before .before .before .before .before .before .before .before .before .before
+          .before .before .before .before .before .before .before .before .before .before .before .before .read-tree .kept .1 .1 .1 .1
           .0,
-      c .before .before .before .before .before .before .before .before .before .before .before .before .before .before .before .before .before .before .before .before .before .before .before .before .before .before .before .before .before .before .before .before .before .before .before .before .before .before .before .before .before .pre .1
+      c .before .before .before .before .before .before .before .before .before .before .before .before .before .before .before .before .before .before .before
+          .before .before .before .before .before .before .before .before .before .before .before .before .before .before .before .before .before .before
+          .before .before .before .before .pre .1
           .0,
     ),
     omega (
       arith,
-      c .before .before .before .before .before .before .before .before .before .before .before .before .before .before .before .before .before .before .before .before .before .before .before .before .before .before .before .before .before .before .before .read-tree .kept .1 .1 .1 .1 .1
+      c .before .before .before .before .before .before .before .before .before .before .before .before .before .before .before .before .before .before .before
+          .before .before .before .before .before .before .before .before .before .before .before .before .read-tree .kept .1 .1 .1 .1 .1
           .0,
-      c .before .before .before .before .before .before .before .before .before .before .before .before .before .before .before .before .before .before .before .before .before .before .before .before .before .before .before .before .before .before .before .before .before .before .before .before .before .before .before .before .before .pre .1
+      c .before .before .before .before .before .before .before .before .before .before .before .before .before .before .before .before .before .before .before
+          .before .before .before .before .before .before .before .before .before .before .before .before .before .before .before .before .before .before
+          .before .before .before .before .pre .1
           .1,
     ),
   )

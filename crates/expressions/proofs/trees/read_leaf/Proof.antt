@@ -15,7 +15,12 @@ returns : tie.Need-returns
 returns c = level-refused _ _ _ _ _ _ _ _ (c .before .before .test-head .ensures) (c .before .if1 .taken) (c .unread .ensures)
 
 leaf-requires : tie.Need-leaf-requires
-leaf-requires c κs = let p = c .before .before .before .before .before .before .pre in (leaf-at _ _ _ _ (level _ _ _ _ _ (c .before .before .before .test-head .ensures) (c .before .before .if1 .left)) [] [] (p .0), p .1, p .2)
+leaf-requires c κs = let p = c .before .before .before .before .before .before .pre in (
+  leaf-at _ _ _ _ (level _ _ _ _ _ (c .before .before .before .test-head
+      .ensures) (c .before .before .if1 .left)) [] [] (p .0),
+  p .1,
+  p .2,
+)
 
 same-length : tie.Need-same-length
 same-length c = search needs
@@ -24,7 +29,9 @@ same-length-2 : tie.Need-same-length-2
 same-length-2 c = search needs
 
 returns-2 : tie.Need-returns-2
-returns-2 c = level-leaf _ _ _ _ (level _ _ _ _ _ (c .before .before .before .before .before .before .test-head .ensures) (c .before .before .before .before .before .if1 .left)) _ _ _ (c .before .before .before .before .before .before .before .before .before .pre .0) (c .before .before .leaf .ensures)
+returns-2 c = level-leaf _ _ _ _ (level _ _ _ _ _ (c .before .before .before .before .before .before .test-head .ensures)
+    (c .before .before .before .before .before .if1 .left)) _ _ _ (c .before .before .before .before .before .before .before .before .before .pre .0)
+    (c .before .before .leaf .ensures)
 
 pub read-leaf-spec : {M : Type 1} → statement M
 read-leaf-spec =

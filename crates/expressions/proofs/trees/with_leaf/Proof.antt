@@ -34,7 +34,13 @@ slice-aggregate-apply-two-2 : tie.Need-slice-aggregate-apply-two-2
 slice-aggregate-apply-two-2 c = search needs
 
 apply-two-requires : tie.Need-apply-two-requires
-apply-two-requires c κs = let p = c .before .before .before .before .before .before .before .before .before .before .before .before .before .pre in (p .1, read-sound _ _ _ _ (c .before .before .before .before .before .before .before .before .read-leaf .ensures) (c .before .before .before .before .if1 .left), p .2, p .3)
+apply-two-requires c κs = let p = c .before .before .before .before .before .before .before .before .before .before .before .before .before .pre in (
+  p .1,
+  read-sound _ _ _ _ (c .before .before .before .before .before .before .before .before .read-leaf .ensures)
+      (c .before .before .before .before .if1 .left),
+  p .2,
+  p .3,
+)
 
 same-length : tie.Need-same-length
 same-length c = search needs

@@ -21,7 +21,8 @@ abbrev μ-loop : tie.MeasureT-loop
 μ-loop coefs n i₀ i = n - i
 
 -- the test is of the coefficient at the place
-small : (c : tie.After-within Inv-loop μ-loop) → c .within .result ≡ coefWithin (getD (now (c .before .before .before .before .args .coefs)) (c .before .before .before .loop .i) (pos 0))
+small : (c : tie.After-within Inv-loop μ-loop) → c .within .result ≡ coefWithin (getD (now (c .before .before .before .before .args .coefs))
+    (c .before .before .before .loop .i) (pos 0))
 small c = c .within .ensures ∙ ap coefWithin (back-is (record { sfits = c .before .within-arg .given }))
 
 loop-holds : tie.Need-loop-holds Inv-loop μ-loop
@@ -37,7 +38,8 @@ within-requires : tie.Need-within-requires Inv-loop μ-loop
 within-requires c κs = search needs
 
 returns : tie.Need-returns Inv-loop μ-loop
-returns c = let v = c .before .before .before .before .loop in let a = c .before .before .before .before .before in sym (beyond-at _ _ (a .pre) (v .i) (c .before .before .before .loop-test .taken) (v .inv .1) _ (small (c .before)) (not-true _ (c .if1 .taken)))
+returns c = let v = c .before .before .before .before .loop in let a = c .before .before .before .before .before in sym (beyond-at _ _ (a .pre) (v .i)
+    (c .before .before .before .loop-test .taken) (v .inv .1) _ (small (c .before)) (not-true _ (c .if1 .taken)))
 
 add-i : tie.Need-add-i Inv-loop μ-loop
 add-i c = omega arith
@@ -46,7 +48,11 @@ loop-less : tie.Need-loop-less Inv-loop μ-loop
 loop-less c = omega arith
 
 loop-again : tie.Need-loop-again Inv-loop μ-loop
-loop-again c = let v = c .before .before .before .before .loop in let a = c .before .before .before .before .before in (omega arith, inside-at _ _ (a .pre) (v .i) (c .before .before .before .loop-test .taken) (v .inv .1) _ (small (c .before)) (not-false _ (c .if1 .left)))
+loop-again c = let v = c .before .before .before .before .loop in let a = c .before .before .before .before .before in (
+  omega arith,
+  inside-at _ _ (a .pre)
+      (v .i) (c .before .before .before .loop-test .taken) (v .inv .1) _ (small (c .before)) (not-false _ (c .if1 .left)),
+)
 
 returns-2 : tie.Need-returns-2 Inv-loop μ-loop
 returns-2 c = let v = c .before .loop in let a = c .before .before in sym (inside-to-end _ _ (a .pre) (v .i) (c .loop-test .left) (v .inv .1))

@@ -16,7 +16,8 @@ returns-2 : tie.Need-returns-2
 returns-2 c = tested-10 _ _ (c .before .before .before .pre) (sym (c .before .before .all-within .ensures) ∙ not-false _ (c .before .if1 .left)) (c .if2 .taken)
 
 returns-3 : tie.Need-returns-3
-returns-3 c = tested-none _ _ (c .before .before .before .pre) (sym (c .before .before .all-within .ensures) ∙ not-false _ (c .before .if1 .left)) (c .if2 .left)
+returns-3 c = tested-none _ _ (c .before .before .before .pre) (sym (c .before .before .all-within .ensures) ∙ not-false _ (c .before .if1 .left))
+    (c .if2 .left)
 
 pub test-limits-spec : {M : Type 1} → statement M
 test-limits-spec = tie.close (tie.spec all-within-requires returns returns-2 returns-3)

@@ -50,7 +50,13 @@ loop-less : tie.Need-loop-less Inv-loop μ-loop
 loop-less c = omega arith
 
 loop-again : tie.Need-loop-again Inv-loop μ-loop
-loop-again c = let v = c .before .before .before .loop in (omega arith, copied-more _ _ _ _ _ _ (omega arith) (omega arith) (omega arith) (omega arith) (back-is (record { sfits = c .c .given })) (v .inv .1), length-set (v .rows) (v .i) _ ∙ v .inv .2, length-set (v .coefs) (v .i) _ ∙ v .inv .3)
+loop-again c = let v = c .before .before .before .loop in (
+  omega arith,
+  copied-more _ _ _ _ _ _ (omega arith) (omega arith) (omega arith) (omega arith)
+      (back-is (record { sfits = c .c .given })) (v .inv .1),
+  length-set (v .rows) (v .i) _ ∙ v .inv .2,
+  length-set (v .coefs) (v .i) _ ∙ v .inv .3,
+)
 
 same-length : tie.Need-same-length Inv-loop μ-loop
 same-length c = search needs
@@ -64,4 +70,5 @@ returns c = copied-all _ _ _ _ _ _ (omega (arith, c .before .loop .inv .0)) (c .
 pub copy-spec : {M : Type 1} → statement M
 copy-spec =
     tie.close
-    (tie.spec Inv-loop μ-loop loop-holds mul-r shared-slice-copy-out-r mul-r-2 slice-set-from-r mul-c shared-slice-copy-out-c mul-c-2 slice-set-from-c add-i loop-less loop-again same-length same-length-2 returns)
+    (tie.spec Inv-loop μ-loop loop-holds mul-r shared-slice-copy-out-r mul-r-2 slice-set-from-r mul-c shared-slice-copy-out-c mul-c-2 slice-set-from-c add-i
+    loop-less loop-again same-length same-length-2 returns)

@@ -38,7 +38,8 @@ shared-slice-copy-out-term-of : tie.Need-shared-slice-copy-out-term-of Inv-loop 
 shared-slice-copy-out-term-of c = omega arith
 
 term-of-requires : tie.Need-term-of-requires Inv-loop μ-loop
-term-of-requires c κs = let a = c .before .before .before .before .before in all-at RowValid (now (a .args .rows)) (a .args .n) (c .before .before .before .loop .i) [] (a .pre .0 .room) (c .before .before .loop-test .taken) (a .pre .0 .valid)
+term-of-requires c κs = let a = c .before .before .before .before .before in all-at RowValid (now (a .args .rows)) (a .args .n)
+    (c .before .before .before .loop .i) [] (a .pre .0 .room) (c .before .before .loop-test .taken) (a .pre .0 .valid)
 
 mul-ts : tie.Need-mul-ts Inv-loop μ-loop
 mul-ts c = omega arith
@@ -53,10 +54,16 @@ loop-less : tie.Need-loop-less Inv-loop μ-loop
 loop-less c = omega arith
 
 loop-again : tie.Need-loop-again Inv-loop μ-loop
-loop-again c = let a = c .before .before .before .before .before .before in let v = c .before .before .before .before .loop in (omega arith, given-more _ _ _ (v .i) (v .ts) _ _ (a .pre .0) (c .before .before .before .loop-test .taken) (omega (arith, v .inv .2, a .pre .1)) (v .inv .1) (c .term-of .ensures) (back-is (record { sfits = c .before .term-of-arg .given })), length-set (v .ts) (v .i) _ ∙ v .inv .2)
+loop-again c = let a = c .before .before .before .before .before .before in let v = c .before .before .before .before .loop in (
+  omega arith,
+  given-more _ _ _ (v .i) (v .ts) _ _ (a .pre .0) (c .before .before .before .loop-test .taken) (omega (arith, v .inv .2, a .pre .1)) (v .inv .1)
+      (c .term-of .ensures) (back-is (record { sfits = c .before .term-of-arg .given })),
+  length-set (v .ts) (v .i) _ ∙ v .inv .2,
+)
 
 returns : tie.Need-returns Inv-loop μ-loop
-returns c = let a = c .before .before .before in let v = c .before .loop in let e : v .i ≡ a .args .n = omega arith in given-all _ _ _ _ (v .i) _ (a .pre .0) (a .pre .1) e (v .inv .1)
+returns c = let a = c .before .before .before in let v = c .before .loop in let e : v .i ≡ a .args .n = omega arith in given-all _ _ _ _ (v .i)
+    _ (a .pre .0) (a .pre .1) e (v .inv .1)
 
 pub form-of-spec : {M : Type 1} → statement M
 form-of-spec =

@@ -21,14 +21,16 @@ abbrev μ-loop : tie.MeasureT-loop
 μ-loop rows coefs n marks₀ i₀ marks i = n - i
 
 -- the coefficient is read back as it was stored
-coefficient : (c : tie.After-c Inv-loop μ-loop) → back (getD (now (c .before .before .before .before .args .coefs)) (c .before .before .before .loop .i) (pos 0)) ≡ getD (now (c .before .before .before .before .args .coefs)) (c .before .before .before .loop .i) (pos 0)
+coefficient : (c : tie.After-c Inv-loop μ-loop) → back (getD (now (c .before .before .before .before .args .coefs)) (c .before .before .before .loop .i)
+    (pos 0)) ≡ getD (now (c .before .before .before .before .args .coefs)) (c .before .before .before .loop .i) (pos 0)
 coefficient c = back-is (record { sfits = c .c .given })
 
 -- and is small
 small : (c : tie.In-loop Inv-loop μ-loop) → natAbs (getD (now (c .before .before .args .coefs)) (c .before .loop .i) (pos 0)) ≤ 2147483647
 unfolding Light
 small c = let w = c .before .before in
-    all-at (λ (z : ℤ). natAbs z ≤ 2147483647) (now (w .args .coefs)) (w .args .n) (c .before .loop .i) (pos 0) (w .pre .0 .beside) (c .loop-test .taken) (w .pre .1)
+    all-at (λ (z : ℤ). natAbs z ≤ 2147483647) (now (w .args .coefs)) (w .args .n) (c .before .loop .i) (pos 0) (w .pre .0 .beside) (c .loop-test .taken)
+    (w .pre .1)
 
 loop-holds : tie.Need-loop-holds Inv-loop μ-loop
 loop-holds c = (omega arith, refl, covering-none _)
@@ -46,7 +48,8 @@ shared-slice-copy-out-c : tie.Need-shared-slice-copy-out-c Inv-loop μ-loop
 shared-slice-copy-out-c c = omega (arith, c .before .before .before .pre .0 .beside, c .before .loop-test .taken)
 
 term-of-requires : tie.Need-term-of-requires Inv-loop μ-loop
-term-of-requires c κs = let w = c .before .before .before .before in all-at RowValid (now (w .args .rows)) (w .args .n) (c .before .before .before .loop .i) [] (w .pre .0 .room) (c .before .before .loop-test .taken) (w .pre .0 .valid)
+term-of-requires c κs = let w = c .before .before .before .before in all-at RowValid (now (w .args .rows)) (w .args .n)
+    (c .before .before .before .loop .i) [] (w .pre .0 .room) (c .before .before .loop-test .taken) (w .pre .0 .valid)
 
 term-mark-requires : tie.Need-term-mark-requires Inv-loop μ-loop
 term-mark-requires c κs = c .term-of .ensures .1
@@ -64,7 +67,11 @@ array-write-marks : tie.Need-array-write-marks Inv-loop μ-loop
 array-write-marks c = omega (arith, c .before .before .term-mark .ensures .1, c .before .before .before .before .before .before .before .loop .inv .1)
 
 add-i : tie.Need-add-i Inv-loop μ-loop
-add-i c = omega (arith, c .before .before .before .before .before .before .before .before .pre .0 .room, c .before .before .before .before .before .before .loop-test .taken)
+add-i c = omega (
+  arith,
+  c .before .before .before .before .before .before .before .before .pre .0 .room,
+  c .before .before .before .before .before .before .loop-test .taken,
+)
 
 loop-less : tie.Need-loop-less Inv-loop μ-loop
 loop-less c = omega arith
@@ -77,7 +84,8 @@ loop-again c = let v = c .before .before .before .before .before .before .before
       length-set (v .marks) _ _ ∙ v .inv .1,
       covering-more _ _ _ (v .marks) (v .i) _ _ (w .pre .0) (c .before .before .before .before .before .before .loop-test .taken) (v .inv .1)
           (c .before .before .term-mark .ensures .0 ∙ ap markOf (c .before .before .before .term-of .ensures .0 ∙ ap (termBy _) e))
-          (subst (λ (n : ℕ). Joint (getD (v .marks) (c .before .before .term-mark .result) 0) n (c .joint-mark .result)) (c .before .size-mark .ensures ∙ ap sizeMark e) (c .joint-mark .ensures)) (v .inv .2),
+          (subst (λ (n : ℕ). Joint (getD (v .marks) (c .before .before .term-mark .result) 0) n (c .joint-mark .result)) (c .before .size-mark .ensures
+          ∙ ap sizeMark e) (c .joint-mark .ensures)) (v .inv .2),
     )
 
 returns : tie.Need-returns Inv-loop μ-loop

@@ -34,7 +34,8 @@ factors : (c : tie.Start Inv-loop μ-loop) → c .args .s .m .«factor_count» �
 factors c = let e : length (c .args .s .m .factors) ≡ 7 = search needs in omega (arith, e, c .pre .1 .m .counted .few)
 
 -- the step, its rows and its marks
-fitting : (r : tie.After-rule-rows Inv-loop μ-loop) → Fitting (r .before .before .before .before .args .t3) (r .before .row-count .result) (r .rule-rows .result) (r .before .before .before .before .args .s)
+fitting : (r : tie.After-rule-rows Inv-loop μ-loop) → Fitting (r .before .before .before .before .args .t3) (r .before .row-count .result)
+    (r .rule-rows .result) (r .before .before .before .before .args .s)
 fitting r = let w = r .before .before .before .before in record {
   valid = w .pre .1;
   fits = w .pre .2;
@@ -67,19 +68,35 @@ array-read-k : tie.Need-array-read-k Inv-loop μ-loop
 array-read-k c = omega (arith, c .loop-test .taken, few (c .before .before .before), c .before .before .before .rule-rows .ensures .places)
 
 product-mark-requires : tie.Need-product-mark-requires Inv-loop μ-loop
-product-mark-requires c κs = let m = c .before .before .before .before .before .before .before .before .before .pre .3 in ((m .fewFactors, m .smallPart), (m .letters .places, m .letters .small))
+product-mark-requires c κs = let m = c .before .before .before .before .before .before .before .before .before .pre .3 in (
+  (m .fewFactors, m .smallPart),
+  (m .letters .places, m .letters .small),
+)
 
 row-gain-requires : tie.Need-row-gain-requires Inv-loop μ-loop
 row-gain-requires c κs = let r = c .before .before .before .before .before .before .before in
     let w = r .before .before .before .before in
     let f = fitting r in
     let inside = c .before .before .before .before .loop-test .taken in
-    let v = row-fits (w .args .s) (w .pre .1) (six w) (w .pre .2) _ (row-here f inside) (factors w) in
-    ((w .pre .0, v .0 .0, v .0 .1, v .0 .2), subst (λ (k : ℕ). (partOf (w .args .s .m .part) ≡ []) ⊎ (partAt (w .args .s .letters) (k % 64) ≡ [])) (sym (row-is f inside)) (v .1))
+    let v = row-fits (w .args .s) (w .pre .1) (six w) (w .pre .2) _ (row-here f inside) (factors w) in (
+      (w .pre .0, v .0 .0, v .0 .1, v .0 .2),
+      subst (λ (k : ℕ). (partOf (w .args .s .m .part) ≡ []) ⊎ (partAt (w .args .s .letters) (k % 64) ≡ []))
+          (sym (row-is f inside)) (v .1),
+    )
 
 add-requires : tie.Need-add-requires Inv-loop μ-loop
 add-requires c κs = let v = c .before .before .before .before .before .before .loop in
-    omega (arith, v .inv .1 .light, v .inv .0, c .row-gain .ensures .light, ap natAbs (back-is {z = c .row-gain .result} (record { sfits = c .row-gain .ok })), few (c .before .before .before .before .before .before .before .before))
+    omega (
+      arith,
+      v .inv .1 .light,
+      v .inv .0,
+      c .row-gain .ensures .light,
+      ap natAbs (back-is {z = c .row-gain .result} (record {
+        sfits =
+            c .row-gain .ok;
+      })),
+      few (c .before .before .before .before .before .before .before .before),
+    )
 
 add-i : tie.Need-add-i Inv-loop μ-loop
 add-i c = omega (arith, c .before .before .before .before .loop-test .taken, few (c .before .before .before .before .before .before .before))
@@ -98,9 +115,13 @@ loop-again c = let v = c .before .before .before .before .before .loop in
       ⊎-elim
           (λ x. gained-more t s (v .i) (row-here f inside) _ (v .inv .1) _ _
           (subst (λ (k : ℕ). RowGained (termOf t) (timesTerm (termOf (s .m)) (rowTerm (s .letters) k)) (x .1 .result)) (row-is f inside) (x .1 .ensures))
-          (ap (toZ w64) (x .3) ∙ back-is (record { sfits = x .2 .ok }) ∙ x .2 .ensures ∙ ap (λ (z : ℤ). toZ w64 (v .g) +ℤ z) (back-is (record { sfits = x .1 .ok }))))
+          (ap (toZ w64) (x .3) ∙ back-is (record { sfits = x .2 .ok }) ∙ x .2 .ensures ∙ ap (λ (z : ℤ). toZ w64 (v .g) +ℤ z) (back-is (record {
+            sfits =
+                x .1 .ok;
+          }))))
           (λ x. subst (λ (g : ℕ). Gained t s (v .i + 1) (toZ w64 g)) (sym (x .1))
-          (gained-apart t s (v .i) (row-here f inside) _ (v .inv .1) _ _ (mark-here f inside _ (c .before .product-mark .ensures .0)) (c .before .before .before .before .before .before .term-mark .ensures .0) (x .0 .left))) (c .if1 .came),
+          (gained-apart t s (v .i) (row-here f inside) _ (v .inv .1) _ _ (mark-here f inside _ (c .before .product-mark .ensures .0))
+          (c .before .before .before .before .before .before .term-mark .ensures .0) (x .0 .left))) (c .if1 .came),
     )
 
 returns : tie.Need-returns Inv-loop μ-loop

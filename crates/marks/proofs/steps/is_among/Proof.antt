@@ -35,7 +35,15 @@ loop-less : tie.Need-loop-less Inv-loop μ-loop
 loop-less c = omega arith
 
 loop-again : tie.Need-loop-again Inv-loop μ-loop
-loop-again c = (omega arith, among-more _ _ (c .before .before .before .loop .i) (omega (arith, c .before .before .loop-test .taken, c .before .before .before .before .pre .0, c .before .before .before .before .pre .1)) (c .before .before .before .loop .inv .1) (c .if1 .left))
+loop-again c = (
+  omega arith,
+  among-more _ _ (c .before .before .before .loop .i) (omega (
+    arith,
+    c .before .before .loop-test .taken,
+    c .before .before .before .before .pre .0,
+    c .before .before .before .before .pre .1,
+  )) (c .before .before .before .loop .inv .1) (c .if1 .left),
+)
 
 returns-2 : tie.Need-returns-2 Inv-loop μ-loop
 returns-2 c =

@@ -37,10 +37,21 @@ mul-product-mark : tie.Need-mul-product-mark Inv-loop μ-loop
 mul-product-mark c = omega (arith, c .before .before .loop-test .taken, few (c .before .before .before .before .before .before))
 
 array-read-product-mark : tie.Need-array-read-product-mark Inv-loop μ-loop
-array-read-product-mark c = omega (arith, c .before .before .loop-test .taken, few (c .before .before .before .before .before .before), c .before .before .before .before .before .rule-rows .ensures .places)
+array-read-product-mark c = omega (
+  arith,
+  c .before .before .loop-test .taken,
+  few (c .before .before .before .before .before .before),
+  c .before .before .before .before .before .rule-rows .ensures .places,
+)
 
 product-mark-requires : tie.Need-product-mark-requires Inv-loop μ-loop
-product-mark-requires c κs = let m = c .before .before .before .before .mark-step .ensures in ((m .fewFactors, m .smallPart), (m .letters .places, m .letters .small))
+product-mark-requires c κs = let m = c .before .before .before .before .mark-step .ensures in (
+  (m .fewFactors, m .smallPart),
+  (
+    m .letters .places,
+    m .letters .small,
+  ),
+)
 
 element-write-marks : tie.Need-element-write-marks Inv-loop μ-loop
 element-write-marks c = omega (arith, c .product-mark .ensures .1, c .before .before .before .before .loop .inv .1 .long)
@@ -52,13 +63,24 @@ loop-less : tie.Need-loop-less Inv-loop μ-loop
 loop-less c = omega arith
 
 loop-again : tie.Need-loop-again Inv-loop μ-loop
-loop-again c = let v = c .before .before .before .before .loop in
-    (omega (arith, c .before .before .before .loop-test .taken), raised-more _ _ _ (v .i) _ (v .marks) (v .inv .1) (omega (arith, c .product-mark .ensures .1)) (c .product-mark .ensures .0))
+loop-again c = let v = c .before .before .before .before .loop in (
+  omega (arith, c .before .before .before .loop-test .taken),
+  raised-more _ _ _ (v .i) _ (v .marks) (v .inv .1) (omega (
+    arith,
+    c .product-mark .ensures .1,
+  )) (c .product-mark .ensures .0),
+)
 
 returns : tie.Need-returns Inv-loop μ-loop
 returns c = let v = c .before .loop in
     let w = c .before .before .before .before .before in (
-      raised-all _ _ _ (v .i) (v .marks) (w .args .s) (v .inv .1) (omega (arith, v .inv .0, c .loop-test .left, c .before .before .before .before .row-count .ensures)) (w .pre .0) (six w) (c .before .before .mark-step .ensures) (c .before .before .before .rule-rows .ensures),
+      raised-all _ _ _ (v .i) (v .marks) (w .args .s) (v .inv .1) (omega (
+        arith,
+        v .inv .0,
+        c .loop-test .left,
+        c .before .before .before .before .row-count .ensures,
+      )) (w .pre .0) (six w) (c .before .before .mark-step .ensures)
+          (c .before .before .before .rule-rows .ensures),
       v .inv .1 .long,
     )
 

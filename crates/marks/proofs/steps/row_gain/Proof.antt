@@ -31,7 +31,8 @@ returns c =
     let x = c .before .before .before .before .before .times-row in
     let u = c .before .before .before .before .tidy in
     row-like _ _ (x .result) (u .result) (x .ensures .is) (u .ensures) _ (like (c .before .before)) (c .before .if1 .taken)
-    (omega (arith, u .ensures .below, x .ensures .light, c .before .before .before .before .before .before .pre .0 .3)) _ (back-is {z = u .result .coef} (record { sfits = c .struct-told .given .0 .1 }))
+    (omega (arith, u .ensures .below, x .ensures .light, c .before .before .before .before .before .before .pre .0 .3)) _ (back-is {z =
+    u .result .coef} (record { sfits = c .struct-told .given .0 .1 }))
 
 returns-2 : tie.Need-returns-2
 returns-2 c =

@@ -23,7 +23,8 @@ factors : (c : tie.Start Inv-loop μ-loop) → c .args .s .m .«factor_count» �
 factors c = let e : length (c .args .s .m .factors) ≡ 7 = search needs in omega (arith, e, c .pre .0 .m .counted .few)
 
 -- the step, its rows and its marks
-fitting : (r : tie.After-rule-rows Inv-loop μ-loop) → Fitting (r .before .before .args .t4) (r .before .row-count .result) (r .rule-rows .result) (r .before .before .args .s)
+fitting : (r : tie.After-rule-rows Inv-loop μ-loop) → Fitting (r .before .before .args .t4) (r .before .row-count .result) (r .rule-rows .result)
+    (r .before .before .args .s)
 fitting r = let w = r .before .before in record {
   valid = w .pre .0;
   fits = w .pre .1;
@@ -56,33 +57,73 @@ array-read-k : tie.Need-array-read-k Inv-loop μ-loop
 array-read-k c = omega (arith, c .before .loop-test .taken, few (c .before .before .before), c .before .before .before .rule-rows .ensures .places)
 
 product-mark-requires : tie.Need-product-mark-requires Inv-loop μ-loop
-product-mark-requires c κs = let m = c .before .before .before .before .before .before .before .pre .2 in ((m .fewFactors, m .smallPart), (m .letters .places, m .letters .small))
+product-mark-requires c κs = let m = c .before .before .before .before .before .before .before .pre .2 in (
+  (m .fewFactors, m .smallPart),
+  (m .letters .places, m .letters .small),
+)
 
 is-among-requires : tie.Need-is-among-requires Inv-loop μ-loop
-is-among-requires c κs = (omega (arith, c .before .before .before .before .before .loop-test .taken, few (c .before .before .before .before .before .before .before)), c .before .before .before .before .before .before .loop .inv .1)
+is-among-requires c κs = (
+  omega (
+    arith,
+    c .before .before .before .before .before .loop-test .taken,
+    few (c .before .before .before .before .before .before .before),
+  ),
+  c .before .before .before .before .before .before .loop .inv .1,
+)
 
 mul-hs : tie.Need-mul-hs Inv-loop μ-loop
-mul-hs c = omega (arith, c .before .before .before .before .before .before .loop-test .taken, few (c .before .before .before .before .before .before .before .before))
+mul-hs c = omega (
+  arith,
+  c .before .before .before .before .before .before .loop-test .taken,
+  few (c .before .before .before .before .before .before .before .before),
+)
 
 array-write-hs : tie.Need-array-write-hs Inv-loop μ-loop
-array-write-hs c = omega (arith, c .before .before .before .before .before .before .loop-test .taken, few (c .before .before .before .before .before .before .before .before), c .before .before .before .before .before .before .before .loop .inv .1)
+array-write-hs c = omega (
+  arith,
+  c .before .before .before .before .before .before .loop-test .taken,
+  few (c .before .before .before .before .before .before .before .before),
+  c .before .before .before .before .before .before .before .loop .inv .1,
+)
 
 add-i : tie.Need-add-i Inv-loop μ-loop
-add-i c = omega (arith, c .before .before .before .before .before .before .loop-test .taken, few (c .before .before .before .before .before .before .before .before))
+add-i c = omega (
+  arith,
+  c .before .before .before .before .before .before .loop-test .taken,
+  few (c .before .before .before .before .before .before .before .before),
+)
 
 loop-less : tie.Need-loop-less Inv-loop μ-loop
 loop-less c = omega arith
 
 loop-again : tie.Need-loop-again Inv-loop μ-loop
 loop-again c = let v = c .before .before .before .before .before .before .before .before .loop in
-    let here = c .before .before .before .before .before .before .before .loop-test .taken in
-    (omega (arith, here), length-set (v .hs) _ _ ∙ v .inv .1, omega (arith, v .inv .2), all-seen (v .inv .3) (v .inv .1) here (omega (arith, few (c .before .before .before .before .before .before .before .before .before))) (c .before .before .before .product-mark .ensures .0))
+    let here = c .before .before .before .before .before .before .before .loop-test .taken in (
+      omega (arith, here),
+      length-set (v .hs) _ _ ∙ v .inv .1,
+      omega (arith, v .inv .2),
+      all-seen (v .inv .3) (v .inv .1) here (omega (
+        arith,
+        few (c .before .before .before .before .before .before .before .before .before),
+      )) (c .before .before .before .product-mark .ensures .0),
+    )
 
 row-score-requires : tie.Need-row-score-requires Inv-loop μ-loop
-row-score-requires c κs = (c .before .before .before .before .before .product-mark .ensures .1, c .before .before .before .before .before .before .before .before .before .before .before .before .before .pre .3, c .before .before .before .before .before .before .before .before .before .before .before .before .before .pre .2 .letters .places)
+row-score-requires c κs = (
+  c .before .before .before .before .before .product-mark .ensures .1,
+  c .before .before .before .before .before .before .before .before .before .before .before .before .before .pre .3,
+  c .before .before .before .before .before .before .before .before .before .before .before .before .before .pre .2 .letters .places,
+)
 
 add-score : tie.Need-add-score Inv-loop μ-loop
-add-score c = let v = c .before .before .before .before .before .before .before .before .before .before .before .loop in omega (arith, v .inv .2, v .inv .0, c .row-score .ensures .few, few (c .before .before .before .before .before .before .before .before .before .before .before .before))
+add-score c = let v = c .before .before .before .before .before .before .before .before .before .before .before .loop in omega (
+  arith,
+  v .inv .2,
+  v .inv .0,
+  c .row-score .ensures .few,
+  few (c .before .before .before .before .before .before .before .before .before .before .before .before),
+)
 
 loop-less-2 : tie.Need-loop-less-2 Inv-loop μ-loop
 loop-less-2 c = omega arith
@@ -93,7 +134,12 @@ loop-again-2 c = let v = c .before .before .before .before .before .before .befo
       omega (arith, here),
       length-set (v .hs) _ _ ∙ v .inv .1,
       omega (arith, v .inv .2, c .row-score .ensures .few),
-      all-more (v .inv .3) (v .inv .1) here (omega (arith, few (c .before .before .before .before .before .before .before .before .before .before .before .before))) (c .before .before .before .before .before .before .product-mark .ensures .0) (c .before .before .before .before .is-among .ensures (c .before .before .before .if2 .left)) (c .row-score .ensures),
+      all-more (v .inv .3) (v .inv .1) here (omega (
+        arith,
+        few (c .before .before .before .before .before .before .before .before .before .before .before
+            .before),
+      )) (c .before .before .before .before .before .before .product-mark .ensures .0)
+          (c .before .before .before .before .is-among .ensures (c .before .before .before .if2 .left)) (c .row-score .ensures),
     )
 
 returns-2 : tie.Need-returns-2 Inv-loop μ-loop

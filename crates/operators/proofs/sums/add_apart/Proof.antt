@@ -48,7 +48,8 @@ same-length-2 c = search needs
 
 returns : tie.Need-returns
 returns c =
-    let p = c .before .before .before .before .before .before .before .before .before .before .before .before .before .before .before .before .before .before .before .pre
+    let p = c .before .before .before .before .before .before .before .before .before .before .before .before .before .before .before .before .before .before
+    .before .pre
     in let v = form-copied _ _ _ _ _
     (c .before .before .before .before .before .before .before .before .before .before .before .before .before .before .copy .ensures) _
     (omega (arith, p .0 .few)) (omega (arith, p .0 .few)) (p .0) in

@@ -25,15 +25,18 @@ dot-wedges-requires c κs = search needs
 
 returns : tie.Need-returns
 unfolding dotParts
-returns c = at-nothing (dotParts ((c .before .before .before .args .a) ∷ (c .before .before .before .args .b) ∷ [])) _ _ (c .before .enum-told .given .1) (c .none .ensures)
+returns c = at-nothing (dotParts ((c .before .before .before .args .a) ∷ (c .before .before .before .args .b) ∷ [])) _ _ (c .before .enum-told .given .1)
+    (c .none .ensures)
 
 returns-2 : tie.Need-returns-2
 unfolding dotParts
-returns-2 c = at-letter (dotParts ((c .before .before .before .before .args .a) ∷ (c .before .before .before .before .args .b) ∷ [])) _ _ _ (c .before .before .q .given .1) (c .triple-alone .ensures)
+returns-2 c = at-letter (dotParts ((c .before .before .before .before .args .a) ∷ (c .before .before .before .before .args .b) ∷ []))
+    _ _ _ (c .before .before .q .given .1) (c .triple-alone .ensures)
 
 returns-3 : tie.Need-returns-3
 unfolding dotParts
-returns-3 c = at-wedge (dotParts ((c .before .before .before .before .args .a) ∷ (c .before .before .before .before .args .b) ∷ [])) _ _ _ _ (c .before .before .q2 .given .1) (c .dot-wedges .ensures)
+returns-3 c = at-wedge (dotParts ((c .before .before .before .before .args .a) ∷ (c .before .before .before .before .args .b) ∷ []))
+    _ _ _ _ (c .before .before .q2 .given .1) (c .dot-wedges .ensures)
 
 pub dot-wedge-spec : {M : Type 1} → statement M
 dot-wedge-spec =

@@ -29,7 +29,8 @@ returns : tie.Need-returns
 unfolding dotParts
 returns c =
     four-factors _ _ _ _ _ _ _ _ _ _ _ (c .before .before .before .before .before .before .dot-number .ensures)
-    (c .before .before .before .before .before .dot-number2 .ensures) (c .before .before .before .dot-number3 .ensures) (c .before .before .dot-number4 .ensures)
+    (c .before .before .before .before .before .dot-number2 .ensures) (c .before .before .before .dot-number3 .ensures)
+    (c .before .before .dot-number4 .ensures)
     (c .before .before .before .before .with-factors .ensures) (c .before .with-factors2 .ensures) (c .two .ensures)
 
 pub dot-wedges-spec : {M : Type 1} → statement M

@@ -30,10 +30,12 @@ unfolding wedgeParts
 returns c = at-nothing (λ (p : List ℕ). wedgeParts p (partOf (c .before .before .before .args .q))) _ _ (c .before .enum-told .given .1) (c .none .ensures)
 
 returns-2 : tie.Need-returns-2
-returns-2 c = at-letter (λ (p : List ℕ). wedgeParts p (partOf (c .before .before .before .before .args .q))) _ _ _ (c .before .before .p .given .1) (c .wedge-letter .ensures)
+returns-2 c = at-letter (λ (p : List ℕ). wedgeParts p (partOf (c .before .before .before .before .args .q))) _ _ _ (c .before .before .p .given .1)
+    (c .wedge-letter .ensures)
 
 returns-3 : tie.Need-returns-3
-returns-3 c = at-wedge (λ (p : List ℕ). wedgeParts p (partOf (c .before .before .before .before .args .q))) _ _ _ _ (c .before .before .p2 .given .1) (c .wedge-wedge .ensures)
+returns-3 c = at-wedge (λ (p : List ℕ). wedgeParts p (partOf (c .before .before .before .before .args .q))) _ _ _ _ (c .before .before .p2 .given .1)
+    (c .wedge-wedge .ensures)
 
 pub wedge-parts-spec : {M : Type 1} → statement M
 wedge-parts-spec =

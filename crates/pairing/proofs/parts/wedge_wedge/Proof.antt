@@ -37,7 +37,8 @@ two-letters-requires-2 c κs = search needs
 
 returns : tie.Need-returns
 unfolding wedgeParts
-returns c = at-nothing (wedgeParts ((c .before .before .before .args .a) ∷ (c .before .before .before .args .b) ∷ [])) _ _ (c .before .enum-told .given .1) (c .none .ensures)
+returns c = at-nothing (wedgeParts ((c .before .before .before .args .a) ∷ (c .before .before .before .args .b) ∷ [])) _ _ (c .before .enum-told .given .1)
+    (c .none .ensures)
 
 returns-2 : tie.Need-returns-2
 unfolding wedgeParts

@@ -53,11 +53,13 @@ add-letter-requires-6 : tie.Need-add-letter-requires-6
 add-letter-requires-6 c κs = search needs
 
 returns : tie.Need-returns
-returns c = adds-as (scalar-is _ _ (c .before .before .before .before .before .letters-of .ensures) _ (c .before .before .before .f .given .1)) (c .add-letter .ensures)
+returns c = adds-as (scalar-is _ _ (c .before .before .before .before .before .letters-of .ensures) _ (c .before .before .before .f .given .1))
+    (c .add-letter .ensures)
 
 returns-2 : tie.Need-returns-2
 returns-2 c =
-    adds-as (dot-is _ _ (c .before .before .before .before .before .before .before .letters-of .ensures) _ _ (c .before .before .before .before .before .f2 .given .1))
+    adds-as (dot-is _ _ (c .before .before .before .before .before .before .before .letters-of .ensures)
+    _ _ (c .before .before .before .before .before .f2 .given .1))
     (adds-both (c .before .before .add-letter2 .ensures) (c .add-letter3 .ensures))
 
 returns-3 : tie.Need-returns-3

@@ -49,7 +49,8 @@ loop-again c = let v = c .before .before .before .before .loop in
     let next : v .i ≡ v .i - 1 + 1 = omega (arith, c .before .before .before .loop-test .taken) in (
       omega (arith, v .inv .0),
       factors-more (now (w .args .f)) (w .args .count) (v .i - 1) (few w) (omega (arith, v .inv .0, c .before .before .before .loop-test .taken))
-          (subst (λ (n : ℕ). Adds (joined (map lettersOf (drop n (take (w .args .count) (now (w .args .f)))))) (now (w .args .pool)) (w .args .n) (v .pool) (v .c)) next
+          (subst (λ (n : ℕ). Adds (joined (map lettersOf (drop n (take (w .args .count) (now (w .args .f)))))) (now (w .args .pool)) (w .args .n) (v .pool)
+          (v .c)) next
           (v .inv .1)) (c .add-factor .ensures),
     )
 
@@ -58,7 +59,8 @@ returns c =
     let v = c .before .loop in
     let w = c .before .before in
     let none : v .i ≡ 0 = omega (arith, c .loop-test .left) in
-    subst (λ (n : ℕ). Adds (joined (map lettersOf (drop n (take (w .args .count) (now (w .args .f)))))) (now (w .args .pool)) (w .args .n) (v .pool) (v .c)) none
+    subst (λ (n : ℕ). Adds (joined (map lettersOf (drop n (take (w .args .count) (now (w .args .f)))))) (now (w .args .pool)) (w .args .n) (v .pool)
+    (v .c)) none
     (v .inv .1)
 
 pub add-factors-spec : {M : Type 1} → statement M

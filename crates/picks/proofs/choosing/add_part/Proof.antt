@@ -38,11 +38,13 @@ returns c = pooled-as (ap partOf (c .enum-told .given .1)) (pooled-none _ (c .be
 
 returns-2 : tie.Need-returns-2
 unfolding partOf
-returns-2 c = adds-first (c .before .before .before .before .before .pre) (adds-as (ap partOf (c .before .before .before .p .given .1)) (c .add-letter .ensures))
+returns-2 c = adds-first (c .before .before .before .before .before .pre) (adds-as (ap partOf (c .before .before .before .p .given .1))
+    (c .add-letter .ensures))
 
 returns-3 : tie.Need-returns-3
 unfolding partOf
-returns-3 c = adds-first (c .before .before .before .before .before .before .before .pre) (adds-as (ap partOf (c .before .before .before .before .before .p2 .given .1)) (adds-both (c .before .before .add-letter2 .ensures) (c .add-letter3 .ensures)))
+returns-3 c = adds-first (c .before .before .before .before .before .before .before .pre) (adds-as (ap partOf (c .before .before .before .before .before .p2
+    .given .1)) (adds-both (c .before .before .add-letter2 .ensures) (c .add-letter3 .ensures)))
 
 pub add-part-spec : {M : Type 1} → statement M
 add-part-spec =

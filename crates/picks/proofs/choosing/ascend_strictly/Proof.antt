@@ -61,7 +61,8 @@ loop-again c =
     )
 
 returns-2 : tie.Need-returns-2 Inv-loop μ-loop
-returns-2 c = let w = c .before .before in let v = c .before .loop in sym (ascend-ends (now (w .args .f)) (w .args .n) (v .i) (few w) (c .loop-test .left)) ∙ v .inv .1
+returns-2 c = let w = c .before .before in let v = c .before .loop in sym (ascend-ends (now (w .args .f)) (w .args .n) (v .i) (few w) (c .loop-test .left))
+    ∙ v .inv .1
 
 pub ascend-strictly-spec : {M : Type 1} → statement M
 ascend-strictly-spec =

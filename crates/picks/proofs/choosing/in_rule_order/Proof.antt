@@ -57,12 +57,18 @@ returns : tie.Need-returns
 returns c = let w = c .before .before .before .before .before .before .before .before .before .before .before .before .before .before in
     let x = now (w .args .x) in
     let y = now (w .args .y) in
-    let d : c .before .before .before .before .before .before .before .before .before .before .before .before .if1 .d ≡ (if eqb (w .args .rule) 2 then getD x 3 0 else getD y 0 0) =
-    ⊎-elim (λ v. v .2 ∙ chosen (getD x 3 0) (getD y 0 0) (w .args .rule) 2 (v .0 .taken)) (λ v. v .1 ∙ not-chosen (getD x 3 0) (getD y 0 0) (w .args .rule) 2 (v .0 .left)) (c .before .before .before .before .before .before .before .before .before .before .before .before .if1 .came) in
-    let e : c .before .before .before .before .before .before .before .before .before .before .if2 .e ≡ (if eqb (w .args .rule) 3 then getD x 3 0 else getD y 1 0) =
-    ⊎-elim (λ v. v .2 ∙ chosen (getD x 3 0) (getD y 1 0) (w .args .rule) 3 (v .0 .taken)) (λ v. v .1 ∙ not-chosen (getD x 3 0) (getD y 1 0) (w .args .rule) 3 (v .0 .left)) (c .before .before .before .before .before .before .before .before .before .before .if2 .came) in
+    let d : c .before .before .before .before .before .before .before .before .before .before .before .before .if1 .d ≡ (if eqb (w .args .rule) 2 then getD x 3
+    0 else getD y 0 0) =
+    ⊎-elim (λ v. v .2 ∙ chosen (getD x 3 0) (getD y 0 0) (w .args .rule) 2 (v .0 .taken)) (λ v. v .1 ∙ not-chosen (getD x 3 0) (getD y 0 0)
+    (w .args .rule) 2 (v .0 .left)) (c .before .before .before .before .before .before .before .before .before .before .before .before .if1 .came) in
+    let e : c .before .before .before .before .before .before .before .before .before .before .if2 .e ≡ (if eqb (w .args .rule) 3 then getD x 3 0 else getD y 1
+    0) =
+    ⊎-elim (λ v. v .2 ∙ chosen (getD x 3 0) (getD y 1 0) (w .args .rule) 3 (v .0 .taken)) (λ v. v .1 ∙ not-chosen (getD x 3 0) (getD y 1 0)
+    (w .args .rule) 3 (v .0 .left)) (c .before .before .before .before .before .before .before .before .before .before .if2 .came) in
     rule-ordered (w .args .rule) (w .pre .0) x y _ (w .pre .1) (w .pre .2)
-    (λ i. c .before .before .before .before .before .before .before .before .low .ensures i ∷ c .before .before .before .before .before .before .low2 .ensures i ∷ c .before .before .before .before .low3 .ensures i ∷ (c .before .before .before .low4 .ensures ∙ ap (λ (n : ℕ). n % 256) d) i ∷ (c .before .before .low5 .ensures ∙ ap (λ (n : ℕ). n % 256) e) i ∷ c .low6 .ensures i ∷ [])
+    (λ i. c .before .before .before .before .before .before .before .before .low .ensures i ∷ c .before .before .before .before .before .before .low2 .ensures
+    i ∷ c .before .before .before .before .low3 .ensures i ∷ (c .before .before .before .low4 .ensures
+    ∙ ap (λ (n : ℕ). n % 256) d) i ∷ (c .before .before .low5 .ensures ∙ ap (λ (n : ℕ). n % 256) e) i ∷ c .low6 .ensures i ∷ [])
 
 pub in-rule-order-spec : {M : Type 1} → statement M
 in-rule-order-spec =

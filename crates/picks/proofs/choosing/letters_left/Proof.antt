@@ -1,4 +1,5 @@
--- `picks::choosing::letters_left`. The loop: the letters counted and those that the mask leaves from factor i on are all that it leaves, and no scalar letter was left so far. Assumes nothing.
+-- `picks::choosing::letters_left`. The loop: the letters counted and those that the mask leaves from factor i on are all that it leaves, and no scalar letter
+-- was left so far. Assumes nothing.
 use Rattle.terms.proofs.Letters.{letters-long}
 use Rattle.picks.proofs.choosing.letters_left.Statement.{statement}
 use Rattle.picks.proofs.choosing.letters_left.Tie as tie
@@ -37,7 +38,8 @@ returns : tie.Need-returns Inv-loop μ-loop
 returns c =
     let w = c .before .before .before .before .before .before in
     scalar-stays (now (w .args .f)) (w .args .n) (w .args .mask) (few (c .before .before .before .before .before .before))
-    (c .before .before .before .before .before .loop .b) (c .before .before .before .before .before .loop .c) (c .before .before .before .before .before .loop .i)
+    (c .before .before .before .before .before .loop .b) (c .before .before .before .before .before .loop .c)
+    (c .before .before .before .before .before .loop .i)
     (c .before .before .before .before .loop-test .taken) (c .before .before .before .before .before .loop .inv .2) (c .before .before .before .if1 .taken)
     (sym (c .before .letter-count .ensures) ∙ c .if2 .taken)
 
@@ -66,10 +68,12 @@ loop-again c = let v = c .before .before .loop in
           (λ x. let e : c .if1 .c ≡ v .c + x .2 .result = x .4 in omega (arith, e, v .inv .1, x .2 .ensures, letters-long (getD f (v .i) 0) .1))
           (λ x. let e : c .if1 .c ≡ v .c = x .1 in omega (arith, e, v .inv .1)) (c .if1 .came),
       ⊎-elim
-          (λ x. counting-as (x .4) (vectors-stay (now (c .before .before .before .args .f)) (c .before .before .before .args .n) (c .before .before .before .args .mask)
+          (λ x. counting-as (x .4) (vectors-stay (now (c .before .before .before .args .f)) (c .before .before .before .args .n)
+          (c .before .before .before .args .mask)
           (few (c .before .before .before)) (c .before .before .loop .b) (c .before .before .loop .c) (c .before .before .loop .i) (c .before .loop-test .taken)
           (c .before .before .loop .inv .2) (x .0 .taken) _ (x .2 .ensures) (x .3 .left)))
-          (λ x. counting-as (x .1) (factor-goes (now (c .before .before .before .args .f)) (c .before .before .before .args .n) (c .before .before .before .args .mask)
+          (λ x. counting-as (x .1) (factor-goes (now (c .before .before .before .args .f)) (c .before .before .before .args .n)
+          (c .before .before .before .args .mask)
           (few (c .before .before .before)) (c .before .before .loop .b) (c .before .before .loop .c) (c .before .before .loop .i) (c .before .loop-test .taken)
           (c .before .before .loop .inv .2) (x .0 .left))) (c .if1 .came),
     )
@@ -78,7 +82,12 @@ returns-2 : tie.Need-returns-2 Inv-loop μ-loop
 returns-2 c =
     let w = c .before .before in
     let v = c .before .loop in
-    counting-all (now (w .args .f)) (w .args .n) (w .args .mask) (few w) (v .b) (v .c) (v .i) (c .loop-test .left) (omega (arith, v .inv .0, v .inv .1, w .pre .0))
+    counting-all (now (w .args .f)) (w .args .n) (w .args .mask) (few w) (v .b) (v .c) (v .i) (c .loop-test .left) (omega (
+      arith,
+      v .inv .0,
+      v .inv .1,
+      w .pre .0,
+    ))
     (v .inv .2)
 
 pub letters-left-spec : {M : Type 1} → statement M

@@ -35,7 +35,8 @@ returns-7 : tie.Need-returns-7
 returns-7 c = ap (λ (n : ℕ). 2 ^ n) (sym (c .match .keys7))
 
 returns-8 : tie.Need-returns-8
-returns-8 c = let w = c .match .rest in ap (λ (n : ℕ). 2 ^ n) (seven (c .before .args .n) (c .before .pre) (four (c .before .args .n) (two (c .before .args .n) (w .0 .0 .0 .0 .0 .0 .1) (w .0 .0 .0 .0 .0 .1)) (w .0 .0 .0 .0 .1) (w .0 .0 .0 .1)) (w .0 .0 .1) (w .0 .1) (w .1))
+returns-8 c = let w = c .match .rest in ap (λ (n : ℕ). 2 ^ n) (seven (c .before .args .n) (c .before .pre) (four (c .before .args .n)
+    (two (c .before .args .n) (w .0 .0 .0 .0 .0 .0 .1) (w .0 .0 .0 .0 .0 .1)) (w .0 .0 .0 .0 .1) (w .0 .0 .0 .1)) (w .0 .0 .1) (w .0 .1) (w .1))
 
 pub mask-count-spec : {M : Type 1} → statement M
 mask-count-spec =

@@ -50,8 +50,10 @@ loop-again c = let w = c .before .before .before in
     let v = c .before .before .loop in
     let inside = c .before .loop-test .taken in (
       omega arith,
-      ⊎-elim (λ x. under-as (x .2) (x .3) (under-taken (now (w .args .from)) (w .args .n) (w .args .mask) (few w) (w .pre .0) (v .to) (v .b) (v .c) (v .i) inside (v .inv .1) (x .0 .taken)))
-          (λ x. under-as (x .1) (x .2) (under-left (now (w .args .from)) (w .args .n) (w .args .mask) (few w) (w .pre .0) (v .to) (v .b) (v .c) (v .i) inside (v .inv .1) (x .0 .left))) (c .if1 .came),
+      ⊎-elim (λ x. under-as (x .2) (x .3) (under-taken (now (w .args .from)) (w .args .n) (w .args .mask) (few w) (w .pre .0) (v .to) (v .b) (v .c)
+          (v .i) inside (v .inv .1) (x .0 .taken)))
+          (λ x. under-as (x .1) (x .2) (under-left (now (w .args .from)) (w .args .n) (w .args .mask) (few w) (w .pre .0) (v .to) (v .b) (v .c)
+          (v .i) inside (v .inv .1) (x .0 .left))) (c .if1 .came),
     )
 
 returns : tie.Need-returns Inv-loop μ-loop

@@ -23,7 +23,8 @@ returns c = let w = c .before .before .before .before .before .before in
     let e = c .before .before .before .before .before .rule-kind .ensures in
     unit-multiplier-is (w .args .t1) (w .args .k) (w .args .rule) (w .pre) (seven w) _ _ _ (c .take-by-mask .ensures)
     (⊎-elim (λ x. ap partOf (x .1) ∙ part-gone (w .args .t1 .part) (ruleKind (w .args .rule)) (sym e ∙ x .0 .taken))
-    (λ x. ap partOf (x .1) ∙ part-stays (w .args .t1 .part) (ruleKind (w .args .rule)) (λ q. x .0 .left (e ∙ q))) (c .before .before .before .before .if1 .came))
+    (λ x. ap partOf (x .1) ∙ part-stays (w .args .t1 .part) (ruleKind (w .args .rule)) (λ q. x .0 .left (e ∙ q)))
+    (c .before .before .before .before .if1 .came))
 
 pub unit-multiplier-spec : {M : Type 1} → statement M
 unit-multiplier-spec = tie.close (tie.spec rule-kind-requires take-by-mask-requires returns)

@@ -16,7 +16,12 @@ use Rattle.rules.proofs.steps.bring_step.Statement.{statement}
 use Rattle.rules.proofs.steps.bring_step.Tie as tie
 
 abbrev Inv-loop : tie.InvT-loop
-Inv-loop rows₀ coefs₀ n m letters rule count table held₀ i₀ rows coefs held i = (i ≤ count) × Turned (record { rule = rule; letters = letters; m = m }) n rows₀ coefs₀ i held rows coefs × (length rows ≡ length rows₀) × (length coefs ≡ length coefs₀)
+Inv-loop rows₀ coefs₀ n m letters rule count table held₀ i₀ rows coefs held i = (i ≤ count) × Turned (record {
+  rule = rule;
+  letters = letters;
+  m =
+      m;
+}) n rows₀ coefs₀ i held rows coefs × (length rows ≡ length rows₀) × (length coefs ≡ length coefs₀)
 
 abbrev μ-loop : tie.MeasureT-loop
 μ-loop rows₀ coefs₀ n m letters rule count table held₀ i₀ rows coefs held i = count - i
@@ -34,12 +39,16 @@ here : (c : tie.In-loop Inv-loop μ-loop) → c .before .loop .i < rowCount (c .
 here c = omega (arith, c .loop-test .taken, c .before .before .before .row-count .ensures)
 
 -- the row that is read is the rule's
-row : (c : tie.In-loop Inv-loop μ-loop) → getD (c .before .before .rule-rows .result) (c .before .loop .i) 0 ≡ getD ruleRows (firstRow (c .before .before .before .before .before .before .args .s .rule) + c .before .loop .i) 0
+row : (c : tie.In-loop Inv-loop μ-loop) → getD (c .before .before .rule-rows .result) (c .before .loop .i) 0 ≡ getD ruleRows (firstRow (c .before .before
+    .before .before .before .before .args .s .rule) + c .before .loop .i) 0
 row c = row-given _ _ _ (c .before .before .rule-rows .ensures) (here c)
 
 -- M times it
-product : (c : tie.After-times-row Inv-loop μ-loop) → TimesRow (c .before .before .before .before .before .before .before .args .s .m) (c .before .before .before .before .before .before .before .args .s .letters) (getD ruleRows (firstRow (c .before .before .before .before .before .before .before .args .s .rule) + c .before .before .loop .i) 0) (c .times-row .result)
-product c = subst (λ (k : ℕ). TimesRow (c .before .before .before .before .before .before .before .args .s .m) (c .before .before .before .before .before .before .before .args .s .letters) k (c .times-row .result)) (row (c .before)) (c .times-row .ensures)
+product : (c : tie.After-times-row Inv-loop μ-loop) → TimesRow (c .before .before .before .before .before .before .before .args .s .m)
+    (c .before .before .before .before .before .before .before .args .s .letters) (getD ruleRows (firstRow (c .before .before .before .before .before .before
+    .before .args .s .rule) + c .before .before .loop .i) 0) (c .times-row .result)
+product c = subst (λ (k : ℕ). TimesRow (c .before .before .before .before .before .before .before .args .s .m)
+    (c .before .before .before .before .before .before .before .args .s .letters) k (c .times-row .result)) (row (c .before)) (c .times-row .ensures)
 
 row-count-requires : tie.Need-row-count-requires Inv-loop μ-loop
 row-count-requires c κs = tt
@@ -67,8 +76,17 @@ bring-term-requires c κs = let w = c .before .before .before .before .before .b
     let v = c .before .before .before .before .loop in
     let t = v .inv .1 in (
       t .run,
-      light-more ((v .i + 1) * 2147483647) coefBound _ _ (omega (arith, few (c .before .before .before), c .before .before .before .loop-test .taken)) (t .light),
-      omega (arith, t .count, here (c .before .before .before), few (c .before .before .before), c .before .before .before .loop-test .taken, w .pre .0 .2, v .inv .2),
+      light-more ((v .i + 1) * 2147483647) coefBound _ _ (omega (arith, few (c .before .before .before), c .before .before .before .loop-test .taken))
+          (t .light),
+      omega (
+        arith,
+        t .count,
+        here (c .before .before .before),
+        few (c .before .before .before),
+        c .before .before .before .loop-test .taken,
+        w .pre .0 .2,
+        v .inv .2,
+      ),
       omega (arith, t .count, few (c .before .before .before), c .before .before .before .loop-test .taken, w .pre .0 .3, v .inv .3),
       product-light (w .args .s) (w .pre .1 .0) (six w) _ _ (product (c .before .before)),
     )
@@ -83,7 +101,8 @@ loop-again : tie.Need-loop-again Inv-loop μ-loop
 loop-again c = let w = c .before .before .before .before .before .before .before .before .before .before .before .before in
     let v = c .before .before .before .before .before .before .before .loop in (
       omega arith,
-      turned-more (w .args .s) (w .pre .1 .0) (six w) _ _ _ (v .i) (v .held) _ _ _ _ _ _ (here (c .before .before .before .before .before .before)) (v .inv .1) (product (c .before .before .before .before .before)) (c .before .before .bring-term .ensures),
+      turned-more (w .args .s) (w .pre .1 .0) (six w) _ _ _ (v .i) (v .held) _ _ _ _ _ _ (here (c .before .before .before .before .before .before))
+          (v .inv .1) (product (c .before .before .before .before .before)) (c .before .before .bring-term .ensures),
       omega (arith, v .inv .2),
       omega (arith, v .inv .3),
     )

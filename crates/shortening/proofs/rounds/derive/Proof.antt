@@ -28,7 +28,12 @@ slice-aggregate-take-rounds-4 : tie.Need-slice-aggregate-take-rounds-4
 slice-aggregate-take-rounds-4 c = search needs
 
 take-rounds-requires : tie.Need-take-rounds-requires
-take-rounds-requires c κs = (held-run _ _ _ (c .before .before .before .before .before .before .before .before .before .before .pre) (c .before .before .before .before .before .before .hold .ensures), omega arith, omega arith)
+take-rounds-requires c κs = (
+  held-run _ _ _ (c .before .before .before .before .before .before .before .before .before .before .pre)
+      (c .before .before .before .before .before .before .hold .ensures),
+  omega arith,
+  omega arith,
+)
 
 slice-aggregate-form-of : tie.Need-slice-aggregate-form-of
 slice-aggregate-form-of c = search needs
@@ -40,7 +45,10 @@ form-of-requires : tie.Need-form-of-requires
 form-of-requires c κs = let w = c .before .before .before .before .before .before .before .take-rounds .ensures in (w .form .run, w .form .few)
 
 returns : tie.Need-returns
-returns c = rounds-derived _ (c .before .before .before .before .before .before .before .before .before .before .before .before .before .before .before .before .before .before .before .args .f) _ _ _ _ _ _ (c .before .before .before .before .before .before .before .before .before .before .before .before .before .before .before .before .before .before .before .pre) (c .before .before .before .before .before .before .before .before .before .before .before .before .before .before .before .hold .ensures) (c .before .before .before .before .before .before .before .before .take-rounds .ensures) (c .form-of .ensures)
+returns c = rounds-derived _ (c .before .before .before .before .before .before .before .before .before .before .before .before .before .before .before .before
+    .before .before .before .args .f) _ _ _ _ _ _ (c .before .before .before .before .before .before .before .before .before .before .before .before .before
+    .before .before .before .before .before .before .pre) (c .before .before .before .before .before .before .before .before .before .before .before .before
+    .before .before .before .hold .ensures) (c .before .before .before .before .before .before .before .before .take-rounds .ensures) (c .form-of .ensures)
 
 pub derive-spec : {M : Type 1} → statement M
 derive-spec =

@@ -23,7 +23,8 @@ low-requires-3 : tie.Need-low-requires-3
 low-requires-3 c κs = search needs
 
 returns-3 : tie.Need-returns-3
-returns-3 c = part-wedge _ _ (c .before .before .before .if1 .left) refl _ _ (c .before .before .if2 .left) (c .before .before .before .before .pre) (c .before .low2 .ensures) (c .low3 .ensures)
+returns-3 c = part-wedge _ _ (c .before .before .before .if1 .left) refl _ _ (c .before .before .if2 .left) (c .before .before .before .before .pre)
+    (c .before .low2 .ensures) (c .low3 .ensures)
 
 pub part-of-spec : {M : Type 1} → statement M
 part-of-spec =
