@@ -8,11 +8,13 @@ ghost use Rattle.terms.specs.Valid.{FormValid};
 ghost use Rattle.gathering.specs.Rows.{termBy, RowValid, Run, formBy, FormRun};
 ghost use Rattle.logs.specs.Steps.{StepsValid};
 ghost use Rattle.checker.specs.Replaying.{sameTerm, ReachedAs, ReplayedAs};
+use gathering::limits::largest;
 use gathering::rows::hold;
 use gathering::rows::order_of;
 use gathering::rows::row_of;
 use integers::equal;
 use logs::steps::Steps;
+use rules::steps::raised;
 use rules::steps::take_step;
 use terms::order::is_equal;
 use terms::types::Form;
@@ -32,19 +34,21 @@ pub struct Replayed {
     pub same: bool,
 }
 
-// The steps taken in their order from the form of a kind in lent rows. They stand for the current form from step to step, so that each step costs its own terms alone.
+// The steps taken in their order from the form of a kind in lent rows. They stand for the current form from step to step, and so does a bound on their
+// coefficients, so that each step costs its own terms alone.
 fn take_steps(kind: u8, held: usize, rows: &mut [[u32; 8]], coefs: &mut [i64], q: Steps) -> Reached
     requires { ⌜ FormRun kind held (now rows) (now coefs) × (55 ≤ length (now rows)) × (55 ≤ length (now coefs)) × StepsValid q ⌝ }
     ensures { λ r. ⌜ ReachedAs kind held (now (rows .entry)) (now (coefs .entry)) q r (now (rows .exit)) (now (coefs .exit)) ⌝ }
 {
     let n = q.count;
     let mut count = held;
+    let mut bound = largest(coefs, held);
     let mut i: usize = 0;
     while i < n {
         let s = q.steps[i];
         i += 1;
         let k = i as u8;
-        let w = take_step(kind, count, rows, coefs, s);
+        let w = take_step(kind, count, rows, coefs, s, bound);
         let e = w.refusal;
         if e != 0 {
             return Reached {
@@ -54,6 +58,7 @@ fn take_steps(kind: u8, held: usize, rows: &mut [[u32; 8]], coefs: &mut [i64], q
             };
         }
         count = w.count;
+        bound = raised(bound, s.m.coef);
     }
     Reached {
         number: 0,

@@ -5,7 +5,7 @@ use mathlib.Core.List.{List, [], _∷_, _++_, map}
 use Prim.Native.Nat.{ℕ, _+_, _<_, _≤_}
 use native.Mathlib.Omega.{arith}
 use native.Mathlib.Numerals.{add-one}
-use lib.Dec.{T, leb→le}
+use lib.Dec.{T, leb→le, le→leb}
 use lib.IntN.{ℤ, pos, natAbs}
 use lib.ListN.{length, take, drop, getD, set, drop-of-length-le}
 use lib.Seq.{length-take-le, take-suc, take-add, take-all}
@@ -13,7 +13,7 @@ use Rattle.specification.specs.Lists.{all}
 use Rattle.specification.specs.Results.{Result, given, refused}
 use Rattle.specification.specs.Terms.{insert, tidy, termInShape, coefWithin, termWithin}
 use Rattle.specification.specs.Terms as S
-use Rattle.theory.specs.Elements.{All, all-append, all-implies, all-T}
+use Rattle.theory.specs.Elements.{All, all-append, all-implies, all-T, T-all}
 use Rattle.theory.specs.Gathering.Coefficients.{Ascending}
 use Rattle.theory.specs.Shape.Forms.{FormInShape, form-gathered}
 use Rattle.theory.specs.Shape.Terms.{in-limit}
@@ -23,7 +23,8 @@ use Rattle.terms.specs.declared.types.Outcome.{Outcome}
 use Rattle.terms.specs.Abstraction.{termOf, formOf, outcomeOf, Counted}
 use Rattle.terms.proofs.Outcomes.{refuses}
 use Rattle.terms.specs.Valid.{FormValid}
-use Rattle.terms.proofs.Arrays.{noTerm, rest-at, stored-behind, mapped-behind}
+use Rattle.theory.specs.Tests.{is-true}
+use Rattle.terms.proofs.Arrays.{noTerm, all-at, rest-at, stored-behind, mapped-behind}
 use Rattle.gathering.specs.Rows.{termBy, RowValid, RowOf, termsBy, runOf, Run, Light, formBy, BroughtIn, TermBroughtIn, HeldIn, Copied, RunTested, FormOfRun, FormRun, RowsGive, OutcomeOf, limitedOf}
 use Rattle.gathering.specs.declared.rows.Worked.{Worked}
 use Rattle.gathering.proofs.Inserting.{within-9, within-10, within-both}
@@ -154,6 +155,25 @@ unfolding coefWithin
 within-light cs e =
     all-implies (λ (z : ℤ). T (coefWithin z)) (λ (z : ℤ). natAbs z ≤ 2147483647) (λ z h. leb→le (natAbs z) 2147483647 h) cs (all-T coefWithin cs (subst T (sym
     e) tt))
+
+-- and back
+pub light-within : (coefs : List ℤ) (n b : ℕ) → b ≤ 2147483647 → Light b n coefs → all coefWithin (take n coefs) ≡ true
+unfolding coefWithin Light
+light-within coefs n b h l =
+    is-true (all coefWithin (take n coefs))
+    (T-all coefWithin (take n coefs) (all-implies (λ (z : ℤ). natAbs z ≤ b) (λ (z : ℤ). T (coefWithin z)) (λ z g. le→leb (natAbs z) 2147483647 (omega arith)) (take n coefs) l))
+
+-- one coefficient more
+pub light-next : (coefs : List ℤ) (b i : ℕ) → i < length coefs → Light b i coefs → natAbs (getD coefs i (pos 0)) ≤ b → Light b (i + 1) coefs
+unfolding Light
+light-next coefs b i h l g =
+    subst (All (λ (z : ℤ). natAbs z ≤ b)) (sym (ap (λ (k : ℕ). take k coefs) (add-one i) ∙ take-suc coefs i (pos 0) h))
+    (all-append (λ (z : ℤ). natAbs z ≤ b) (take i coefs) (getD coefs i (pos 0) ∷ []) l (g, tt))
+
+-- each of them
+pub light-at : (coefs : List ℤ) (b n i : ℕ) → n ≤ length coefs → i < n → Light b n coefs → natAbs (getD coefs i (pos 0)) ≤ b
+unfolding Light
+light-at coefs b n i h g l = all-at (λ (z : ℤ). natAbs z ≤ b) coefs n i (pos 0) h g l
 
 module _ (coefs : List ℤ) (n : ℕ) (hc : n ≤ length coefs) where
   run-within : (rows : List (List ℕ)) → n ≤ length rows → all termWithin (runOf n rows coefs) ≡ all coefWithin (take n coefs)

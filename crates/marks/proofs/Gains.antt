@@ -19,7 +19,6 @@ use Rattle.theory.specs.Gathering.Gathered.{gather-coefficient}
 use Rattle.theory.specs.Rules.Table.{stepTerms-rule}
 use Rattle.terms.specs.declared.types.Term.{Term}
 use Rattle.terms.specs.Abstraction.{termOf}
-use Rattle.terms.specs.Tidy.{Tidied}
 use Rattle.terms.proofs.Arrays.{mapped-behind}
 use Rattle.gathering.specs.Rows.{isLike}
 use Rattle.rules.specs.declared.steps.Step.{Step}
@@ -72,10 +71,7 @@ unlike-marks t u h = go (compareTerms t u) (compareTerms-eq t u)
 
 -- ════ one row
 
-module _ (t p : S.Term) (x u : Term) (is : termOf x ≡ p) (w : Tidied x u) (b : Bool) (eb : b ≡ isLike t (termOf u)) where
-  tidied : termOf u ≡ S.tidy p
-  tidied = w .is ∙ ap S.tidy is
-
+module _ (t p : S.Term) (u : Term) (tidied : termOf u ≡ S.tidy p) (b : Bool) (eb : b ≡ isLike t (termOf u)) where
   pub row-like : b ≡ true → natAbs (u .coef) ≤ 2147483647 → (r : ℤ) → r ≡ u .coef → RowGained t p r
   unfolding termOf
   row-like q light r e = record {

@@ -21,7 +21,7 @@ use Rattle.theory.specs.Order.{nat-laws}
 use Rattle.theory.specs.Sorting as O
 use Rattle.theory.specs.Signs.{pair-lt, pair-gt}
 use Rattle.theory.specs.Shape.Terms.{term-opens, in-shape-tidy}
-use Rattle.rules.specs.Table.{ruleRows, letter, letterAt, factorAt, partAt, rowSign, rowTerm}
+use Rattle.rules.specs.Table.{ruleRows, letter, letterAt, factorLetters, factorAt, partAt, rowSign, rowTerm}
 use Rattle.marks.specs.Marks.{letterMark, lettersMark, factorsMark, markOf, LettersMarked, placesMark, rowMark, rowPartMark, productMark, Differing, RowStands}
 use Rattle.marks.proofs.MarkedTerms.{factors-joined, mark-product}
 
@@ -121,7 +121,7 @@ module _ (ls l : List ℕ) (w : LettersMarked ls l) where
       go false e = w .at p (omega (arith, eqb-false p 0 e)) h ∙ sym (N.mul-one (letterMark (letter ls p)))
 
   factor-mark : (c : ℕ) → T (goodPlaces c) → placesMark l c ≡ factorsMark (factorAt ls c)
-  unfolding goodPlaces placesMark factorAt factorsMark lettersMark
+  unfolding goodPlaces placesMark factorLetters factorAt factorsMark lettersMark
   factor-mark c = go (eqb c 0)
     where
       go : (b : Bool) → T (if b then true else leb 1 (c / 64) && leb (c / 64) 6 && leb 1 (c / 8 % 8) && leb (c / 8 % 8) 6 && leb (c % 8) 6)
@@ -152,7 +152,7 @@ module _ (ls l : List ℕ) (w : LettersMarked ls l) where
   differ p q p1 p6 q1 q6 h e = h (w .at p p1 p6 ∙ ap letterMark e ∙ sym (w .at q q1 q6))
 
   factor-stands : (c : ℕ) → T (goodPlaces c) → Differing l c → NonZero (factorsSign (factorAt ls c))
-  unfolding goodPlaces factorAt factorsSign factorSign letterAt
+  unfolding goodPlaces factorLetters factorAt factorsSign factorSign letterAt
   factor-stands c g d = go (eqb c 0) g
     where
       go : (b : Bool) → T (if b then true else leb 1 (c / 64) && leb (c / 64) 6 && leb 1 (c / 8 % 8) && leb (c / 8 % 8) 6 && leb (c % 8) 6)

@@ -6,13 +6,13 @@ ghost use mathlib.Core.Bool.{true, false};
 ghost use mathlib.Core.Logic.{_⊎_};
 ghost use mathlib.Core.List.{[]};
 ghost use Prim.Native.Nat.{_%_, _≤_};
-ghost use lib.IntN.{natAbs};
 ghost use lib.ListN.{length, take};
 ghost use Rattle.specification.specs.Terms.{timesTerm, gather};
 ghost use Rattle.specification.specs.Rules.{stepTerms};
 ghost use Rattle.theory.specs.Order.{monomial};
 ghost use Rattle.theory.specs.Gathering.Coefficients.{coeff};
 ghost use Rattle.terms.specs.Abstraction.{partOf, termOf, Counted};
+ghost use Rattle.terms.specs.Valid.{TermValid};
 ghost use Rattle.rules.specs.Table.{partAt, rowTerm};
 ghost use Rattle.rules.specs.Steps.{stepOf, StepValid, StepFits};
 ghost use Rattle.marks.specs.Marks.{Among, NotShorter, Carried, StepMarked, RowGained};
@@ -29,7 +29,6 @@ use rules::table::rule_rows;
 use rules::table::times_row;
 use terms::order::compare;
 use terms::order::is_equal;
-use terms::tidy::tidy;
 use terms::types::Term;
 
 // The marks of a step: those of M's factors and of its vector part, and those of the rule's letters at their places.
@@ -104,11 +103,11 @@ pub fn surely_longer(marks: &[u8; 512], v: u8, s: Step, w: StepMarks) -> bool
 
 // What M times a row adds to the monomial of a term.
 fn row_gain(t: Term, m: Term, letters: [u8; 6], k: u64) -> i64
-    requires counts { ⌜ Counted t × Counted m × (m .«factor_count» ≤ 4) × (natAbs (m .coef) ≤ 2147483647) ⌝ }
+    requires counts { ⌜ Counted t × TermValid m × (m .«factor_count» ≤ 4) ⌝ }
     requires part { ⌜ (partOf (m .part) ≡ []) ⊎ (partAt letters (k % 64) ≡ []) ⌝ }
     ensures { λ r. ⌜ RowGained (termOf t) (timesTerm (termOf m) (rowTerm letters k)) r ⌝ }
 {
-    let u = tidy(times_row(m, letters, k));
+    let u = times_row(m, letters, k);
     if is_equal(compare(t, u)) {
         return u.coef;
     }

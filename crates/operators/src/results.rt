@@ -5,6 +5,7 @@ ghost use lib.ListN.{length};
 ghost use Rattle.specification.specs.Terms.{within};
 ghost use Rattle.gathering.specs.Rows.{runOf, RowsGive};
 ghost use Rattle.operators.specs.Results.{GatheredRows};
+use gathering::limits::NO_BOUND;
 use gathering::limits::test_limits;
 use gathering::rows::Worked;
 use gathering::rows::copy;
@@ -32,7 +33,7 @@ pub fn close(
     requires { ⌜ GatheredRows kind n (now from) (now froms) × (48 ≤ length (now rows)) × (48 ≤ length (now coefs)) ⌝ }
     ensures { λ w. ⌜ RowsGive (within kind (runOf n (now (from .entry)) (now (froms .entry)))) w (now (rows .exit)) (now (coefs .exit)) ⌝ }
 {
-    let r = test_limits(froms, n);
+    let r = test_limits(froms, n, NO_BOUND);
     if r != 0 {
         return refuse(r);
     }

@@ -10,6 +10,7 @@ ghost use Rattle.operators.specs.Results.{SomeForm, Brought};
 use crate::results::close;
 use crate::results::refuse;
 use gathering::bringing::bring;
+use gathering::limits::NO_BOUND;
 use gathering::limits::test_limits;
 use gathering::rows::Worked;
 use gathering::rows::copy;
@@ -56,7 +57,7 @@ fn add_here(
         (now (rows .exit)) (now (coefs .exit)) ⌝ }
 {
     let count = bring_rows(rows, coefs, n, right, rights, m);
-    let r = test_limits(coefs, count);
+    let r = test_limits(coefs, count, NO_BOUND);
     Worked {
         refusal: r,
         kind: kind,

@@ -4,6 +4,8 @@ use mathlib.Core.Logic.{_⊎_, inl, inr, ⊎-elim}
 use mathlib.Core.Bool.{Bool, true, false, _&&_}
 use mathlib.Core.List.{List, [], _∷_, _++_, map}
 use Prim.Native.Nat.{ℕ, _+_, _*_, _%_, _<_, _≤_}
+use native.Mathlib.Nat.{suc-mul, mul-le-mul-right}
+use native.Mathlib.Numerals.{add-one}
 use native.Mathlib.Omega.{arith}
 use borrow.Author.Tests.{eq-eqb, ne-eqb}
 use lib.Dec.{T, eqb, leb, leb→le}
@@ -11,7 +13,7 @@ use lib.IntN.{ℤ, natAbs}
 use lib.ListN.{length, getD, take}
 use lib.Seq.{length-take-le}
 use Rattle.specification.specs.Results.{Test, refused, given, _>>_, require, if_then_else_}
-use Rattle.specification.specs.Terms.{timesTerm, tidy, insert, termKind, vectorLetters, scalarLetters, within, gather, gatherInto}
+use Rattle.specification.specs.Terms.{timesTerm, insert, termKind, vectorLetters, scalarLetters, within, gather, gatherInto}
 use Rattle.specification.specs.Terms as S
 use Rattle.specification.specs.Rules.{ruleKind, ruleLetters, stepKindsFit, stepTerms, takeStep}
 use Rattle.theory.specs.Elements.{All}
@@ -23,12 +25,13 @@ use Rattle.theory.specs.Rules.Table.{stepTerms-rule}
 use Rattle.theory.specs.Rules.Steps.{StepShape, agreeing, step-fits, step-parts}
 use Rattle.terms.specs.declared.types.Term.{Term}
 use Rattle.terms.specs.Numbers.{lettersOf}
-use Rattle.terms.specs.Abstraction.{partOf, termOf, Counted}
+use Rattle.terms.specs.Abstraction.{partOf, termOf}
+use Rattle.terms.specs.Valid.{TermValid}
 use Rattle.terms.proofs.Arrays.{mapped-behind}
 use Rattle.terms.specs.declared.shape.Used.{Used}
 use Rattle.terms.specs.Used.{UsedBy}
 use Rattle.terms.proofs.InShape.{factors-count}
-use Rattle.gathering.specs.Rows.{runOf, Run, Light, formBy, FormRun, TermBroughtIn, RunTested, RowsGive, Bringable, limitedOf}
+use Rattle.gathering.specs.Rows.{termBy, RowOf, runOf, Run, Light, formBy, FormRun, BroughtIn, RunTested, RowsGive, limitedOf}
 use Rattle.gathering.proofs.RowSums.{light-more}
 use Rattle.letters.specs.Tested.{testOf}
 use Rattle.letters.proofs.LetterTests.{test-passed, test-refused}
@@ -114,51 +117,54 @@ rows s = rowTerms (s .letters) (firstRow (s .rule)) (rowCount (s .rule))
 pub record Turned (s : Step) (n : ℕ) (before : List (List ℕ)) (coefs : List ℤ) (i m : ℕ) (before' : List (List ℕ)) (coefs' : List ℤ) : Type 0 where
   pub is : runOf m before' coefs' ≡ gatherInto (runOf n before coefs) (map (timesTerm (termOf (s .m))) (take i (rows s)))
   pub run : Run m before' coefs'
-  pub light : Light ((i + 1) * 2147483647) m coefs'
+  pub light : (b : ℕ) → Light b n coefs → Light (b + i * natAbs (s .m .coef)) m coefs'
   pub count : m ≤ n + i
 
 module _ (s : Step) (v : StepValid s) (six : length (s .letters) ≡ 6) where
-  -- a product can be brought in
-  pub product-light : (t : Term) (k : ℕ) → TimesRow (s .m) (s .letters) k t → Bringable t
+  -- a product is no larger than a coefficient
+  pub product-light : (t : Term) (k : ℕ) → TimesRow (s .m) (s .letters) k t → natAbs (t .coef) ≤ 2147483647
   unfolding termOf
-  product-light t k b = record { counted = b .counted; light = omega (arith, b .light, in-limit (termOf (s .m)) (v .m .inShape)) }
+  product-light t k b = omega (arith, b .light, in-limit (termOf (s .m)) (v .m .inShape))
 
   module _ (n : ℕ) (before : List (List ℕ)) (coefs : List ℤ) where
     -- none yet
-    pub turned-none : Run n before coefs → Light 2147483647 n coefs → Turned s n before coefs 0 n before coefs
+    pub turned-none : Run n before coefs → Turned s n before coefs 0 n before coefs
     unfolding gatherInto
-    turned-none r l = record { is = refl; run = r; light = light-more 2147483647 ((0 + 1) * 2147483647) n coefs (omega arith) l; count = omega arith }
+    turned-none r = record { is = refl; run = r; light = λ b. light-more b (b + 0 * natAbs (s .m .coef)) n coefs (omega arith); count = omega arith }
 
     -- one more
-    pub turned-more : (i m : ℕ) (rows' : List (List ℕ)) (coefs' : List ℤ) (t : Term) (m' : ℕ) (rows'' : List (List ℕ)) (coefs'' : List ℤ)
+    pub turned-more : (i m : ℕ) (rows' : List (List ℕ)) (coefs' : List ℤ) (t : Term) (r : List ℕ) (c : ℤ) (m' : ℕ) (rows'' : List (List ℕ)) (coefs'' : List ℤ)
         → i < rowCount (s .rule)
         → Turned s n before coefs i m rows' coefs' → TimesRow (s .m) (s .letters) (getD ruleRows (firstRow (s .rule) + i) 0) t
-        → TermBroughtIn m rows' coefs' t m' rows'' coefs'' → Turned s n before coefs (i + 1) m' rows'' coefs''
+        → RowOf t r → c ≡ t .coef → BroughtIn m rows' coefs' r c m' rows'' coefs'' → Turned s n before coefs (i + 1) m' rows'' coefs''
     unfolding gatherInto
-    turned-more i m rows' coefs' t m' rows'' coefs'' h w b q =
+    turned-more i m rows' coefs' t r c m' rows'' coefs'' h w b o ec q =
         let g = timesTerm (termOf (s .m)) in
         let k = rowTerm (s .letters) (getD ruleRows (firstRow (s .rule) + i) 0) in
+        let big = natAbs (s .m .coef) in
+        let size : (i + 1) * big ≡ i * big + big = ap (λ (j : ℕ). j * big) (add-one i) ∙ suc-mul i big in
         record {
-          is = q .is ∙ (λ j. insert (tidy (b .is j)) (w .is j))
+          is = q .is ∙ (λ j. insert ((ap (termBy r) ec ∙ o .is ∙ b .is) j) (w .is j))
               ∙ sym (ap (λ (l : List S.Term). gatherInto (runOf n before coefs) (map g l)) (row-next (s .letters) (firstRow (s .rule)) (rowCount (s .rule)) i h)
               ∙ ap (gatherInto (runOf n before coefs)) (mapped-behind g (take i (rows s)) k)
               ∙ into-join (runOf n before coefs) (map g (take i (rows s))) (g k ∷ []));
           run = q .run;
-          light = light-more ((i + 1) * 2147483647 + 2147483647) ((i + 1 + 1) * 2147483647) m' coefs'' (omega arith) (q .light ((i + 1) * 2147483647)
-              (w .light));
+          light = λ d l. light-more (d + i * big + natAbs c) (d + (i + 1) * big) m' coefs'' (omega (arith, size, b .light, ap natAbs ec))
+              (q .light (d + i * big) (w .light d l));
           count = omega (arith, q .count, w .count);
         }
 
     -- all of them are what the step adds
-    pub turned-all : (i m : ℕ) (rows' : List (List ℕ)) (coefs' : List ℤ) → i ≡ rowCount (s .rule) → Turned s n before coefs i m rows' coefs'
+    pub turned-all : (i m : ℕ) (rows' : List (List ℕ)) (coefs' : List ℤ) → i ≡ rowCount (s .rule) → i ≤ 7 → Turned s n before coefs i m rows' coefs'
         → StepBrought n before coefs s m rows' coefs'
     unfolding stepOf
-    turned-all i m rows' coefs' e w = record {
+    turned-all i m rows' coefs' e few w = record {
       is = w .is ∙ ap (λ (k : ℕ). gatherInto (runOf n before coefs) (map (timesTerm (termOf (s .m))) (take k (rows s)))) e
           ∙ ap (λ (l : List S.Term). gatherInto (runOf n before coefs) (map (timesTerm (termOf (s .m))) l))
           (row-all (s .letters) (firstRow (s .rule)) (rowCount (s .rule)) ∙ tied (s .rule) (v .rule) (s .letters) six)
           ∙ ap (gatherInto (runOf n before coefs)) (sym (stepTerms-rule (stepOf s)));
       run = w .run;
+      light = λ d l. light-more (d + i * natAbs (s .m .coef)) (d + 7 * natAbs (s .m .coef)) m coefs' (omega (arith, mul-le-mul-right (natAbs (s .m .coef)) few)) (w .light d l);
       six = six;
     }
 
@@ -175,11 +181,11 @@ module _ (s : Step) (v : StepValid s) (six : length (s .letters) ≡ 6) where
 
     -- a row times M
     pub row-fits : (i : ℕ) → i < rowCount (s .rule) → s .m .«factor_count» ≤ length (s .m .factors)
-        → (Counted (s .m) × (s .m .«factor_count» ≤ 4) × (natAbs (s .m .coef) ≤ 2147483647))
+        → (TermValid (s .m) × (s .m .«factor_count» ≤ 4))
         × ((partOf (s .m .part) ≡ []) ⊎ (partAt (s .letters) (getD ruleRows (firstRow (s .rule) + i) 0 % 64) ≡ []))
     unfolding stepOf termOf rowTerm
     row-fits i h n = (
-      (v .m .counted, few-factors s v n few-vectors, in-limit (termOf (s .m)) (v .m .inShape)),
+      (v .m, few-factors s v n few-vectors),
       ⊎-elim inl
           (λ a. inr (row-at (λ (u : S.Term). u .part ≡ []) (s .letters) (firstRow (s .rule)) (rowCount (s .rule)) i h
           (subst (All (λ (u : S.Term). u .part ≡ [])) (sym (tied (s .rule) (v .rule) (s .letters) six)) a)))

@@ -12,7 +12,7 @@ use Rattle.specification.specs.Rules.{rule1, rule2, rule3, rule4, bracket, rule
 use Rattle.specification.specs.Terms as S
 use Rattle.theory.specs.Elements.{All}
 use Rattle.theory.specs.Rules.Table.{by-rule, ruleTerms}
-use Rattle.rules.specs.Table.{ruleRows, letter, letterAt, factorAt, partAt, rowSign, rowTerm, rowTerms, firstRow, rowCount, RowsOf}
+use Rattle.rules.specs.Table.{ruleRows, letter, letterAt, factorLetters, factorAt, partAt, rowSign, rowTerm, rowTerms, firstRow, rowCount, RowsOf}
 
 -- six letters
 by-letters : (P : List ℕ → Type 0) → ((a b c d e f : ℕ) → P (a ∷ b ∷ c ∷ d ∷ e ∷ f ∷ [])) → (l : List ℕ) → length l ≡ 6 → P l
@@ -28,7 +28,7 @@ by-letters P h (a ∷ b ∷ c ∷ d ∷ e ∷ f ∷ g ∷ l) n = absurd (omega a
 -- the test
 rows-are : (r : ℕ) → T (isRule r) → (a b c d e f : ℕ)
     → rowTerms (a ∷ b ∷ c ∷ d ∷ e ∷ f ∷ []) (firstRow r) (rowCount r) ≡ ruleTerms r (take (ruleLetters r) (a ∷ b ∷ c ∷ d ∷ e ∷ f ∷ []))
-unfolding ruleRows letter letterAt factorAt partAt rowSign rowTerm rowTerms firstRow rowCount ruleTerms sides rule1 rule2 rule3 rule4 bracket rule5 ruleLetters
+unfolding ruleRows letter letterAt factorLetters factorAt partAt rowSign rowTerm rowTerms firstRow rowCount ruleTerms sides rule1 rule2 rule3 rule4 bracket rule5 ruleLetters
 rows-are =
     by-rule (λ (r : ℕ). (a b c d e f : ℕ) → rowTerms (a ∷ b ∷ c ∷ d ∷ e ∷ f ∷ []) (firstRow r) (rowCount r) ≡ ruleTerms r (take (ruleLetters r) (a ∷ b ∷ c ∷ d ∷ e ∷ f ∷ [])))
     (λ a b c d e f. refl) (λ a b c d e f. refl) (λ a b c d e f. refl) (λ a b c d e f. refl) (λ a b c d e f. refl)

@@ -1,9 +1,9 @@
 -- Steps as data. Assumes nothing.
 use mathlib.Core.Path.{_≡_}
 use mathlib.Core.List.{List, []}
-use Prim.Native.Nat.{ℕ, _+_}
+use Prim.Native.Nat.{ℕ, _+_, _*_}
 use lib.Dec.{T, leb}
-use lib.IntN.{ℤ}
+use lib.IntN.{ℤ, natAbs}
 use lib.ListN.{length, take}
 use Rattle.specification.specs.Results.{Test, given, _>>_, require}
 use Rattle.specification.specs.Terms.{vectorLetters, gatherInto}
@@ -11,7 +11,7 @@ use Rattle.specification.specs.Rules.{ruleLetters, isRule, stepKindsFit, stepTe
 use Rattle.specification.specs.Rules as R
 use Rattle.terms.specs.Abstraction.{termOf}
 use Rattle.terms.specs.Valid.{TermValid}
-use Rattle.gathering.specs.Rows.{runOf, Run}
+use Rattle.gathering.specs.Rows.{runOf, Run, Light}
 use Rattle.rules.specs.declared.steps.Step.{Step}
 
 -- a step, with as many letters as its rule has
@@ -38,4 +38,5 @@ pub record StepFits (s : Step) : Type 0 where
 pub record StepBrought (n : ℕ) (rows : List (List ℕ)) (coefs : List ℤ) (s : Step) (m : ℕ) (rows' : List (List ℕ)) (coefs' : List ℤ) : Type 0 where
   pub is : runOf m rows' coefs' ≡ gatherInto (runOf n rows coefs) (stepTerms (stepOf s))
   pub run : Run m rows' coefs'
+  pub light : (b : ℕ) → Light b n coefs → Light (b + 7 * natAbs (s .m .coef)) m coefs'
   pub six : length (s .letters) ≡ 6

@@ -3,15 +3,17 @@ use mathlib.Core.Path.{_≡_}
 use mathlib.Core.List.{List, [], _∷_, _++_, map}
 use Prim.Native.Nat.{ℕ, zero, suc, _+_, _-_, _*_, _/_, _%_, _<_, _≤_}
 use lib.Dec.{eqb}
-use lib.IntN.{ℤ, pos, negsuc, natAbs}
+use lib.IntN.{ℤ, pos, negsuc, natAbs, _*ℤ_}
 use lib.ListN.{length, getD, take, drop}
 use Rattle.specification.specs.Results.{if_then_else_}
-use Rattle.specification.specs.Terms.{timesTerm}
+use Rattle.specification.specs.Lists.{order, sorted}
+use Rattle.specification.specs.Terms.{compareLetters, factorsSign, tidy, timesTerm}
 use Rattle.specification.specs.Terms as S
 use Rattle.terms.specs.declared.types.Term.{Term}
 use Rattle.theory.specs.Elements.{All}
 use Rattle.terms.specs.Numbers.{lettersOf}
 use Rattle.terms.specs.Abstraction.{termOf, Counted}
+use Rattle.rules.specs.declared.table.Put.{Put}
 
 -- a row's octal digits: 1 for plus or 2 for minus, three letters for each of three factors, two letters for the vector part; a letter is its place, from 1, among the rule's letters
 unfoldable pub ruleRows : List ℕ
@@ -53,9 +55,13 @@ letter ls p = getD ls (p - 1) 0
 unfoldable pub letterAt : (letters : List ℕ) (place : ℕ) → List ℕ
 letterAt ls p = if eqb p 0 then [] else letter ls p ∷ []
 
+-- the letters at three places, the last of which may be 0
+unfoldable pub factorLetters : (letters : List ℕ) (places : ℕ) → List ℕ
+factorLetters ls c = letter ls (c / 64) ∷ letter ls (c / 8 % 8) ∷ letterAt ls (c % 8)
+
 -- the factor of three places, or none at 0
 unfoldable pub factorAt : (letters : List ℕ) (places : ℕ) → List (List ℕ)
-factorAt ls c = if eqb c 0 then [] else (letter ls (c / 64) ∷ letter ls (c / 8 % 8) ∷ letterAt ls (c % 8)) ∷ []
+factorAt ls c = if eqb c 0 then [] else factorLetters ls c ∷ []
 
 -- the vector part of two places, nothing where the first is 0
 unfoldable pub partAt : (letters : List ℕ) (places : ℕ) → List ℕ
@@ -93,15 +99,21 @@ pub record RowsOf (rule : ℕ) (r : List ℕ) : Type 0 where
   pub is : take (rowCount rule) r ≡ take (rowCount rule) (drop (firstRow rule) ruleRows)
   pub places : length r ≡ 8
 
--- at most one more factor behind n others
-pub record FactorPut (fs : List (List ℕ)) (n : ℕ) (before after : List ℕ) (r : ℕ) : Type 0 where
-  pub is : map lettersOf (take r after) ≡ map lettersOf (take n before) ++ fs
-  pub small : All (λ (k : ℕ). k < 16843008) (take n before) → All (λ (k : ℕ). k < 16843008) (take r after)
-  pub few : r ≤ n + 1
+-- factors put in order, as in a term in the order of forms
+unfoldable pub ordered : List (List ℕ) → List (List ℕ)
+ordered fs = sorted compareLetters (map (sorted order) fs)
+
+-- at most one more factor put in its place among n that stand for others in order, and a coefficient with its sign
+pub record FactorPut (fs : List (List ℕ)) (n : ℕ) (c : ℤ) (before after : List ℕ) (r : Put) : Type 0 where
+  pub is : (old : List (List ℕ)) → map lettersOf (take n before) ≡ ordered old → map lettersOf (take (r .count) after) ≡ ordered (old ++ fs)
+  pub signed : (d : ℤ) (old : List (List ℕ)) → c ≡ d *ℤ factorsSign old → r .coef ≡ d *ℤ factorsSign (old ++ fs)
+  pub light : natAbs (r .coef) ≤ natAbs c
+  pub small : All (λ (k : ℕ). k < 16843008) (take (r .count) after)
+  pub few : r .count ≤ n + 1
   pub places : length after ≡ 7
 
--- a term times a row
+-- a term in shape times a row, in the order of forms
 pub record TimesRow (m : Term) (letters : List ℕ) (row : ℕ) (r : Term) : Type 0 where
-  pub is : termOf r ≡ timesTerm (termOf m) (rowTerm letters row)
+  pub is : termOf r ≡ tidy (timesTerm (termOf m) (rowTerm letters row))
   pub counted : Counted r
   pub light : natAbs (r .coef) ≤ natAbs (m .coef)

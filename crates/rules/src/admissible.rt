@@ -96,5 +96,5 @@ pub fn step_at(
             count: n,
         };
     }
-    take_step(kind, n, rows, coefs, s)
+    take_step(kind, n, rows, coefs, s, 2147483647)
 }

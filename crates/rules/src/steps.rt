@@ -1,22 +1,25 @@
 // One step applied to a form: M times each term of a rule's left side less M times each term of its right side, gathered with the form.
 ghost use mathlib.Core.Path.{_≡_};
 ghost use mathlib.Core.List.{[]};
-ghost use Prim.Native.Nat.{_+_, _≤_};
+ghost use Prim.Native.Nat.{_+_, _*_, _≤_};
 ghost use lib.Dec.{leb};
+ghost use lib.IntN.{natAbs};
 ghost use lib.ListN.{length};
 ghost use Rattle.specification.specs.Terms.{vectorLetters};
 ghost use Rattle.specification.specs.Rules.{ruleLetters, ruleKind, stepKindsFit, takeStep};
 ghost use Rattle.terms.specs.Abstraction.{partOf};
-ghost use Rattle.gathering.specs.Rows.{Run, Light, formBy, FormRun, RowsGive};
+ghost use Rattle.gathering.specs.Rows.{Run, Light, coefBound, formBy, FormRun, RowsGive};
 ghost use Rattle.rules.specs.Table.{rowCount};
 ghost use Rattle.theory.specs.Shape.Terms.{kindOfPart};
 ghost use Rattle.letters.specs.Tested.{testOf};
 ghost use Rattle.rules.specs.Steps.{stepOf, StepValid, stepTests, StepFits, StepBrought};
 use crate::table::rule_rows;
 use crate::table::times_row;
-use gathering::bringing::bring_term;
+use gathering::bringing::bring;
 use gathering::limits::test_limits;
 use gathering::rows::Worked;
+use gathering::rows::row_of;
+use integers::size;
 use terms::shape::letters_used;
 use terms::shape::part_letters;
 use terms::types::Part;
@@ -127,17 +130,35 @@ fn bring_step(rows: &mut [[u32; 8]], coefs: &mut [i64], n: usize, s: Step) -> us
     let mut i: usize = 0;
     while i < count {
         let t = times_row(m, letters, table[i]);
-        held = bring_term(rows, coefs, held, t);
+        let r = row_of(t);
+        held = bring(rows, coefs, held, r, t.coef);
         i += 1;
     }
     held
 }
 
+// A bound on the coefficients behind a step, by one on those before it: a rule has at most seven rows.
+pub fn raised(bound: u64, c: i64) -> u64
+    requires { ⌜ (bound ≤ coefBound) × (natAbs c ≤ 2147483647) ⌝ }
+    ensures { λ r. ⌜ r ≡ bound + 7 * natAbs c ⌝ }
+{
+    bound + 7 * size(c)
+}
+
 // A step taken at the form of a kind in n rows, which become those of the form reached: 6, 8, then 9 and 10 of the gathered form.
-pub fn take_step(kind: u8, n: usize, rows: &mut [[u32; 8]], coefs: &mut [i64], s: Step) -> Worked
-    requires { ⌜ FormRun kind n (now rows) (now coefs) × StepValid s × (n + 7 ≤ length (now rows)) × (n + 7 ≤ length (now coefs)) ⌝ }
+// No coefficient is larger than the bound; while it is small, 9 needs no look at them.
+pub fn take_step(
+    kind: u8,
+    n: usize,
+    rows: &mut [[u32; 8]],
+    coefs: &mut [i64],
+    s: Step,
+    bound: u64,
+) -> Worked
+    requires { ⌜ FormRun kind n (now rows) (now coefs) × StepValid s × (n + 7 ≤ length (now rows)) × (n + 7 ≤ length (now coefs)) × Light bound n (now coefs) × (bound ≤ coefBound) ⌝ }
     ensures reached { λ r. ⌜ RowsGive (takeStep (formBy kind n (now (rows .entry)) (now (coefs .entry))) (stepOf s)) r (now (rows .exit)) (now (coefs .exit)) ⌝ }
     ensures kind { λ r. ⌜ r .kind ≡ kind ⌝ }
+    ensures light { λ r. ⌜ Light (bound + 7 * natAbs (s .m .coef)) (r .count) (now (coefs .exit)) ⌝ }
 {
     let e = test_step(kind, s);
     if e != 0 {
@@ -148,7 +169,8 @@ pub fn take_step(kind: u8, n: usize, rows: &mut [[u32; 8]], coefs: &mut [i64], s
         };
     }
     let m = bring_step(rows, coefs, n, s);
-    let e = test_limits(coefs, m);
+    let b = raised(bound, s.m.coef);
+    let e = test_limits(coefs, m, b);
     Worked {
         refusal: e,
         kind: kind,

@@ -1,7 +1,7 @@
 -- Putting a term in the order of forms: a term that has this order is tidy, and a term that is tidied and does not vanish has it. Assumes nothing.
 use mathlib.Core.Path.{_≡_, refl, sym, _∙_, ap}
 use mathlib.Core.Bool.{Bool, true, false}
-use mathlib.Core.List.{List, [], _∷_, map}
+use mathlib.Core.List.{List, [], _∷_, _++_, map}
 use Prim.Native.Nat.{ℕ}
 use lib.Dec.{T, eqb, eqb→eq}
 use lib.ListN.{length}
@@ -27,13 +27,22 @@ pub record InOrder (m : Monomial) : Type 0 where
   pub each : All FactorInOrder (m .1)
   pub order : O.Asc letters-laws (m .1)
 
+-- ════ signs
+
+-- the signs of factors one behind the other
+pub signs-append : (k l : List (List ℕ)) → factorsSign (k ++ l) ≡ factorsSign k *ℤ factorsSign l
+unfolding factorsSign
+signs-append [] l = sym (R.one-*ℤ (factorsSign l))
+signs-append (g ∷ k) l = ap (λ (z : ℤ). factorSign g *ℤ z) (signs-append k l) ∙ sym (R.*ℤ-assoc (factorSign g) (factorsSign k) (factorsSign l))
+
 -- ════ what has this order is tidy
 
 if-T : (b : Bool) (x y : ℤ) (P : ℤ → Type 0) → (T b → P x) → P y → P (if b then x else y)
 if-T true x y P f g = f tt
 if-T false x y P f g = g
 
-in-order-signs : (fs : List (List ℕ)) → All FactorInOrder fs → factorsSign fs ≡ pos 1
+-- the letters of such factors are not exchanged
+pub in-order-signs : (fs : List (List ℕ)) → All FactorInOrder fs → factorsSign fs ≡ pos 1
 unfolding factorsSign factorSign
 in-order-signs [] a = refl
 in-order-signs (f ∷ fs) a =
@@ -44,7 +53,8 @@ pub in-order-map : (fs : List (List ℕ)) → All FactorInOrder fs → map (sort
 in-order-map [] a = refl
 in-order-map (f ∷ fs) a = λ i. O.sort-asc nat-laws f (a .0 .ascend) i ∷ in-order-map fs (a .1) i
 
-in-order-factors : (fs : List (List ℕ)) → All FactorInOrder fs → O.Asc letters-laws fs → sorted compareLetters (map (sorted order) fs) ≡ fs
+-- such factors stay where they are
+pub in-order-factors : (fs : List (List ℕ)) → All FactorInOrder fs → O.Asc letters-laws fs → sorted compareLetters (map (sorted order) fs) ≡ fs
 in-order-factors fs a o = ap (sorted compareLetters) (in-order-map fs a) ∙ O.sort-asc letters-laws fs o
 
 -- a term in the order of forms is tidy

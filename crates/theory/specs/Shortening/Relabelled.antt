@@ -18,7 +18,7 @@ use Rattle.theory.specs.Order.{Monomial, monomial, nat-laws, letters-law
 use Rattle.theory.specs.Sorting as O
 use Rattle.theory.specs.Reordering.{Reordered, same, exchanged, behind, further, reordered-behind, reordered-map, reordered-sorted, sorted-reordered}
 use Rattle.theory.specs.Signs.{signs-reordered}
-use Rattle.theory.specs.Gathering.Tidy.{in-order-tidy, tidy-in-order}
+use Rattle.theory.specs.Gathering.Tidy.{in-order-tidy, tidy-in-order, signs-append}
 use Rattle.theory.specs.Gathering.Weights.{weight, weigh, weigh-gather, weigh-tidied, scaled, weigh-scaled}
 use Rattle.theory.specs.Gathering.Coefficients.{only, coeff}
 use Rattle.theory.specs.Rules.Table.{relabel}
@@ -39,11 +39,6 @@ unfolding tidy termSign
 tidy-sign t h =
     sym (R.one-*ℤ (termSign (tidy t)))
     ∙ ap (λ (u : Term). u .coef) (in-order-tidy (withCoef (pos 1) (tidy t)) (tidy-in-order (withCoef (pos 1) t) (λ z. h (sym (R.one-*ℤ (termSign t)) ∙ z))))
-
-signs-append : (k l : List (List ℕ)) → factorsSign (k ++ l) ≡ factorsSign k *ℤ factorsSign l
-unfolding factorsSign
-signs-append [] l = sym (R.one-*ℤ (factorsSign l))
-signs-append (g ∷ k) l = ap (λ (z : ℤ). factorSign g *ℤ z) (signs-append k l) ∙ sym (R.*ℤ-assoc (factorSign g) (factorsSign k) (factorsSign l))
 
 signs-in-any-order : {k l : List (List ℕ)} → Reordered k l → factorsSign k ≡ factorsSign l
 unfolding factorsSign

@@ -6,18 +6,18 @@ use Rattle.gathering.proofs.RowSums.{tested-9, tested-10, tested-none}
 use Rattle.gathering.proofs.limits.test_limits.Statement.{statement}
 use Rattle.gathering.proofs.limits.test_limits.Tie as tie
 
-all-within-requires : tie.Need-all-within-requires
-all-within-requires c κs = search needs
+all-below-requires : tie.Need-all-below-requires
+all-below-requires c κs = search needs
 
 returns : tie.Need-returns
-returns c = tested-9 _ _ (c .before .before .pre) (sym (c .before .all-within .ensures) ∙ not-true _ (c .if1 .taken))
+returns c = tested-9 _ _ (c .before .before .pre .0) (sym (c .before .all-below .ensures) ∙ not-true _ (c .if1 .taken))
 
 returns-2 : tie.Need-returns-2
-returns-2 c = tested-10 _ _ (c .before .before .before .pre) (sym (c .before .before .all-within .ensures) ∙ not-false _ (c .before .if1 .left)) (c .if2 .taken)
+returns-2 c = tested-10 _ _ (c .before .before .before .pre .0) (sym (c .before .before .all-below .ensures) ∙ not-false _ (c .before .if1 .left)) (c .if2 .taken)
 
 returns-3 : tie.Need-returns-3
-returns-3 c = tested-none _ _ (c .before .before .before .pre) (sym (c .before .before .all-within .ensures) ∙ not-false _ (c .before .if1 .left))
+returns-3 c = tested-none _ _ (c .before .before .before .pre .0) (sym (c .before .before .all-below .ensures) ∙ not-false _ (c .before .if1 .left))
     (c .if2 .left)
 
 pub test-limits-spec : {M : Type 1} → statement M
-test-limits-spec = tie.close (tie.spec all-within-requires returns returns-2 returns-3)
+test-limits-spec = tie.close (tie.spec all-below-requires returns returns-2 returns-3)

@@ -79,7 +79,7 @@ row-gain-requires c κs = let r = c .before .before .before .before .before .bef
     let f = fitting r in
     let inside = c .before .before .before .before .loop-test .taken in
     let v = row-fits (w .args .s) (w .pre .1) (six w) (w .pre .2) _ (row-here f inside) (factors w) in (
-      (w .pre .0, v .0 .0, v .0 .1, v .0 .2),
+      (w .pre .0, v .0 .0, v .0 .1),
       subst (λ (k : ℕ). (partOf (w .args .s .m .part) ≡ []) ⊎ (partAt (w .args .s .letters) (k % 64) ≡ []))
           (sym (row-is f inside)) (v .1),
     )

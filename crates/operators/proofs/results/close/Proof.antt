@@ -8,7 +8,7 @@ use Rattle.operators.proofs.results.close.Statement.{statement}
 use Rattle.operators.proofs.results.close.Tie as tie
 
 test-limits-requires : tie.Need-test-limits-requires
-test-limits-requires c κs = c .pre .0 .run .beside
+test-limits-requires c κs = (c .pre .0 .run .beside, λ h. absurd (omega (arith, h)))
 
 refuse-requires : tie.Need-refuse-requires
 refuse-requires c κs = search needs

@@ -1,6 +1,7 @@
 -- `operators::sums::add_here` meets its contract: the rows brought in where the others stand, then the limits tested. Assumes nothing.
 use Rattle.operators.proofs.Closing.{limits-give}
 use Rattle.operators.proofs.Adding.{sum-gathered, sum-gives}
+use native.Mathlib.Omega.{arith}
 use borrow.Author.Needs.{needs}
 use Rattle.operators.proofs.sums.add_here.Statement.{statement}
 use Rattle.operators.proofs.sums.add_here.Tie as tie
@@ -9,7 +10,7 @@ bring-rows-requires : tie.Need-bring-rows-requires
 bring-rows-requires c κs = let p = c .before .before .pre in (p .0 .run, p .0 .light, record { kind = _; form = p .1 }, p .2, p .3)
 
 test-limits-requires : tie.Need-test-limits-requires
-test-limits-requires c κs = c .before .before .before .bring-rows .ensures .run .beside
+test-limits-requires c κs = (c .before .before .before .bring-rows .ensures .run .beside, λ h. absurd (omega (arith, h)))
 
 same-length : tie.Need-same-length
 same-length c = search needs

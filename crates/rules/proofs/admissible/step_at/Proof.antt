@@ -81,6 +81,8 @@ take-step-requires c κs = let a = c .before .before .before .before .before .be
       _ (shape (c .before .before .before .before .before)) (not-false _ (c .before .before .before .before .if2 .left)) (a .pre .1),
   a .pre .2,
   a .pre .3,
+  a .pre .0 .light,
+  omega arith,
 )
 
 same-length : tie.Need-same-length
@@ -98,7 +100,7 @@ returns-4 c = let a = c .before .before .before .before .before .before .before 
       (not-false _ (c .before .before .before .before .before .before .before .if2 .left))
       _ (c .before .before .before .before .before .before .test-step-letters .ensures) (c .before .before .before .before .before .if3 .left))
       (c .before .before .take-step .ensures .0),
-  c .before .before .take-step .ensures .1,
+  c .before .before .take-step .ensures .1 .0,
 )
 
 pub step-at-spec : {M : Type 1} → statement M

@@ -3,10 +3,15 @@ use mathlib.Core.Path.{_≡_, refl, subst, sym}
 use mathlib.Core.Logic.{_⊎_}
 use mathlib.Core.List.{[]}
 use Prim.Native.Nat.{ℕ, _+_, _*_, _-_, _%_, _≤_, _<_}
+use native.Mathlib.Nat.{mul-le-mul-right}
 use native.Mathlib.Omega.{arith}
+use lib.IntN.{natAbs}
 use lib.ListN.{length, getD}
 use borrow.Author.Needs.{needs}
-use Rattle.terms.specs.Abstraction.{partOf}
+use Rattle.integers.proofs.Machine.{back}
+use Rattle.theory.specs.Shape.Terms.{in-limit}
+use Rattle.terms.specs.Abstraction.{partOf, termOf}
+use Rattle.terms.proofs.Exchanges.{fits-back}
 use Rattle.gathering.specs.Rows.{coefBound}
 use Rattle.gathering.proofs.RowSums.{light-more}
 use Rattle.rules.specs.Table.{ruleRows, firstRow, rowCount, partAt, TimesRow}
@@ -58,7 +63,7 @@ rule-rows-requires c κs = c .before .before .before .pre .1 .0 .rule
 
 loop-holds : tie.Need-loop-holds Inv-loop μ-loop
 loop-holds c = let w = c .before .before .before .before in
-    (omega arith, turned-none (w .args .s) (w .pre .1 .0) (six w) _ _ _ (w .pre .0 .0) (w .pre .0 .1), refl, refl)
+    (omega arith, turned-none (w .args .s) (w .pre .1 .0) (six w) _ _ _ (w .pre .0 .0), refl, refl)
 
 mul-times-row : tie.Need-mul-times-row Inv-loop μ-loop
 mul-times-row c = omega (arith, few c)
@@ -71,38 +76,49 @@ times-row-requires c κs = let w = c .before .before .before .before .before .be
     let v = row-fits (w .args .s) (w .pre .1 .0) (six w) (w .pre .1 .1) (c .before .loop .i) (here c) (factors w) in
     (v .0, subst (λ (k : ℕ). (partOf (w .args .s .m .part) ≡ []) ⊎ (partAt (w .args .s .letters) (k % 64) ≡ [])) (sym (row c)) (v .1))
 
-bring-term-requires : tie.Need-bring-term-requires Inv-loop μ-loop
-bring-term-requires c κs = let w = c .before .before .before .before .before .before .before .before .before in
-    let v = c .before .before .before .before .loop in
-    let t = v .inv .1 in (
+row-of-requires : tie.Need-row-of-requires Inv-loop μ-loop
+row-of-requires c κs = product c .counted
+
+-- M's coefficient is within
+limit : (c : tie.Start Inv-loop μ-loop) → natAbs (c .args .s .m .coef) ≤ 2147483647
+unfolding termOf
+limit c = in-limit (termOf (c .args .s .m)) (c .pre .1 .0 .m .inShape)
+
+-- the product's coefficient is read back as it was stored
+own : (c : tie.After-times-row Inv-loop μ-loop) → natAbs (c .times-row .result .coef) ≤ 2147483647
+own c = let w = c .before .before .before .before .before .before .before in product-light (w .args .s) (w .pre .1 .0) (six w) _ _ (product c)
+
+kept : (c : tie.After-times-row Inv-loop μ-loop) → back (c .times-row .result .coef) ≡ c .times-row .result .coef
+kept c = fits-back _ (omega (arith, own c))
+
+bring-requires : tie.Need-bring-requires Inv-loop μ-loop
+bring-requires c κs = let w = c .before .before .before .before .before .before .before .before .before .before .before in
+    let v = c .before .before .before .before .before .before .loop in
+    let t = v .inv .1 in
+    let i = c .before .before .before .before .before in
+    let big = natAbs (w .args .s .m .coef) in
+    let most : v .i ≤ 7 = omega (arith, few i, i .loop-test .taken) in (
       t .run,
-      light-more ((v .i + 1) * 2147483647) coefBound _ _ (omega (arith, few (c .before .before .before), c .before .before .before .loop-test .taken))
-          (t .light),
-      omega (
-        arith,
-        t .count,
-        here (c .before .before .before),
-        few (c .before .before .before),
-        c .before .before .before .loop-test .taken,
-        w .pre .0 .2,
-        v .inv .2,
-      ),
-      omega (arith, t .count, few (c .before .before .before), c .before .before .before .loop-test .taken, w .pre .0 .3, v .inv .3),
-      product-light (w .args .s) (w .pre .1 .0) (six w) _ _ (product (c .before .before)),
+      light-more (2147483647 + v .i * big) coefBound _ _
+          (omega (arith, mul-le-mul-right big most, limit w)) (t .light 2147483647 (w .pre .0 .1)),
+      omega (arith, t .count, few i, i .loop-test .taken, w .pre .0 .2, v .inv .2),
+      omega (arith, t .count, few i, i .loop-test .taken, w .pre .0 .3, v .inv .3),
+      c .before .before .before .row-of .ensures .valid,
+      rw (kept (c .before .before .before .before)) (omega (arith, own (c .before .before .before .before))),
     )
 
 add-i : tie.Need-add-i Inv-loop μ-loop
-add-i c = omega (arith, few (c .before .before .before .before .before .before))
+add-i c = omega (arith, few (c .before .before .before .before .before .before .before .before))
 
 loop-less : tie.Need-loop-less Inv-loop μ-loop
 loop-less c = omega arith
 
 loop-again : tie.Need-loop-again Inv-loop μ-loop
-loop-again c = let w = c .before .before .before .before .before .before .before .before .before .before .before .before in
-    let v = c .before .before .before .before .before .before .before .loop in (
+loop-again c = let w = c .before .before .before .before .before .before .before .before .before .before .before .before .before .before in
+    let v = c .before .before .before .before .before .before .before .before .before .loop in (
       omega arith,
-      turned-more (w .args .s) (w .pre .1 .0) (six w) _ _ _ (v .i) (v .held) _ _ _ _ _ _ (here (c .before .before .before .before .before .before))
-          (v .inv .1) (product (c .before .before .before .before .before)) (c .before .before .bring-term .ensures),
+      turned-more (w .args .s) (w .pre .1 .0) (six w) _ _ _ (v .i) (v .held) _ _ _ _ _ _ _ _ (here (c .before .before .before .before .before .before .before .before))
+          (v .inv .1) (product (c .before .before .before .before .before .before .before)) (c .before .before .before .before .before .before .row-of .ensures) (kept (c .before .before .before .before .before .before .before)) (c .before .before .bring .ensures),
       omega (arith, v .inv .2),
       omega (arith, v .inv .3),
     )
@@ -117,7 +133,7 @@ returns : tie.Need-returns Inv-loop μ-loop
 returns c = let w = c .before .before .before .before .before .before in
     let v = c .before .loop in
     let e : v .i ≡ c .before .before .before .row-count .result = omega (arith, c .loop-test .left, v .inv .0) in
-    turned-all (w .args .s) (w .pre .1 .0) (six w) _ _ _ (v .i) _ _ _ (omega (arith, e, c .before .before .before .row-count .ensures)) (v .inv .1)
+    turned-all (w .args .s) (w .pre .1 .0) (six w) _ _ _ (v .i) _ _ _ (omega (arith, e, c .before .before .before .row-count .ensures)) (omega (arith, e, rows-few _ _ (w .pre .1 .0 .rule) (c .before .before .before .row-count .ensures))) (v .inv .1)
 
 pub bring-step-spec : {M : Type 1} → statement M
 bring-step-spec =
@@ -131,7 +147,8 @@ bring-step-spec =
     mul-times-row
     array-read-times-row
     times-row-requires
-    bring-term-requires
+    row-of-requires
+    bring-requires
     add-i
     loop-less
     loop-again
