@@ -36,9 +36,9 @@ use Rattle.gathering.proofs.RowSums.{form-valid, held-is}
 use Rattle.rules.specs.declared.steps.Step.{Step}
 use Rattle.rules.specs.Steps.{stepOf, StepValid}
 use Rattle.marks.specs.Marks.{Covering, Carried}
-use Rattle.shortening.specs.declared.searching.Found.{Found}
+use Rattle.searching.specs.declared.searching.Found.{Found}
 use Rattle.shortening.specs.declared.rounds.Rounds.{Rounds}
-use Rattle.shortening.specs.Searching.{Shorter, SearchedBy}
+use Rattle.searching.specs.Searching.{Shorter, SearchedBy}
 use Rattle.logs.specs.Steps.{stepsOf}
 use Rattle.shortening.specs.Derived.{Leads, RoundsTaken, Derived}
 

@@ -1,5 +1,4 @@
 -- Lemmas that belong to no one function.
-pub mod Searches
 pub mod Derivations
 pub mod Shortened
 pub mod Calls

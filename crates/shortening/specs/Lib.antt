@@ -1,4 +1,3 @@
 -- What the contracts cite.
-pub mod Searching
 pub mod Derived
 pub mod Answers

@@ -4,7 +4,6 @@ ghost use Rattle.specification.specs.Shortening.{shorteningBytes, logLength, Sh
 ghost use Rattle.shortening.specs.Answers.{shorteningOf};
 
 pub mod rounds;
-mod searching;
 
 use crate::rounds::derive;
 use forms::read_form;

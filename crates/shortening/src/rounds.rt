@@ -5,7 +5,6 @@ ghost use lib.ListN.{length};
 ghost use Rattle.terms.specs.Valid.{FormValid};
 ghost use Rattle.gathering.specs.Rows.{FormRun};
 ghost use Rattle.shortening.specs.Derived.{RoundsTaken, Derived};
-use crate::searching::search;
 use gathering::rows::copy;
 use gathering::rows::form_of;
 use gathering::rows::hold;
@@ -13,6 +12,7 @@ use logs::steps::Steps;
 use logs::steps::no_step;
 use marks::marking::mark_rows;
 use marks::steps::mark_reached;
+use searching::searching::search;
 use terms::types::Form;
 
 // Steps from a form to the last one.

@@ -12,7 +12,7 @@ use Rattle.gathering.specs.Rows.{runOf, formBy, FormRun}
 use Rattle.gathering.proofs.RowRuns.{run-length}
 use Rattle.gathering.proofs.RowSums.{run-copied, form-copied}
 use Rattle.marks.specs.Marks.{Covering}
-use Rattle.shortening.specs.Searching.{Shorter, SearchedBy}
+use Rattle.searching.specs.Searching.{Shorter, SearchedBy}
 use Rattle.shortening.specs.Derived.{Leads}
 use Rattle.shortening.proofs.Derivations.{rounds-none, found-anywhere, shorter, round-room, round-covered, round-more, rounds-end}
 use Rattle.shortening.proofs.rounds.take_rounds.Statement.{statement}

@@ -7,7 +7,7 @@ ghost use Rattle.terms.specs.Abstraction.{Counted};
 ghost use Rattle.gathering.specs.Rows.{runOf, formBy, FormRun, RowsGive};
 ghost use Rattle.rules.specs.Steps.{stepOf};
 ghost use Rattle.marks.specs.Marks.{Covering};
-ghost use Rattle.shortening.specs.Searching.{SearchedBy};
+ghost use Rattle.searching.specs.Searching.{SearchedBy};
 use candidates::trying::next_candidate;
 use gathering::bringing::find_place;
 use gathering::rows::Worked;

@@ -1,4 +1,4 @@
--- `shortening::searching::search` meets its contract. The loop: no place passed so far, from the first on, is a step to fewer terms. Assumes nothing.
+-- `searching::searching::search` meets its contract. The loop: no place passed so far, from the first on, is a step to fewer terms. Assumes nothing.
 use mathlib.Core.Path.{_≡_, refl, ap, subst, _∙_}
 use mathlib.Core.List.{[]}
 use Prim.Native.Nat.{_*_, _+_, _-_, _/_, _%_, _<_}
@@ -13,10 +13,10 @@ use Rattle.gathering.specs.Rows.{termBy, RowValid, formBy}
 use Rattle.gathering.proofs.RowRuns.{run-length}
 use Rattle.theory.specs.Gathering.Coefficients.{termAt}
 use Rattle.candidates.specs.Trying.{NextPlace}
-use Rattle.shortening.specs.Searching.{SearchedBy}
-use Rattle.shortening.proofs.Searches.{RowPassed, Useless, row-none, row-more, row-term, row-valid, row-searched, refused-useless, long-useless, shorter, not-found}
-use Rattle.shortening.proofs.searching.search.Statement.{statement}
-use Rattle.shortening.proofs.searching.search.Tie as tie
+use Rattle.searching.specs.Searching.{SearchedBy}
+use Rattle.searching.proofs.Searches.{RowPassed, Useless, row-none, row-more, row-term, row-valid, row-searched, refused-useless, long-useless, shorter, not-found}
+use Rattle.searching.proofs.searching.search.Statement.{statement}
+use Rattle.searching.proofs.searching.search.Tie as tie
 
 abbrev Inv-loop : tie.InvT-loop
 Inv-loop table marks kind n rows coefs first to₀ tos₀ end at₀ to tos at = RowPassed table (formBy kind n rows coefs) first at × (length to ≡ length to₀)

@@ -38,7 +38,7 @@ use Rattle.rules.proofs.Taking.{few-letters}
 use Rattle.candidates.specs.declared.trying.Next.{Next}
 use Rattle.candidates.specs.Trying.{Hopeless, OnlyStep, Settled, maskOf, ruleOf, pickOf, NextPlace}
 use Rattle.marks.specs.Marks.{Covering}
-use Rattle.shortening.specs.Searching.{Shorter}
+use Rattle.searching.specs.Searching.{Shorter}
 
 -- no candidate by these indices shortens
 abbrev Nothing : (table : List ℕ) (f : S.Form) (i mask rule pick : ℕ) → Type 0

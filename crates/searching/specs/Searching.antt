@@ -12,7 +12,7 @@ use Rattle.theory.specs.Shape.Letters.{AllKnown}
 use Rattle.theory.specs.Shortening.Candidates.{NoCandidate}
 use Rattle.gathering.specs.Rows.{formBy, FormRun}
 use Rattle.rules.specs.Steps.{stepOf, StepValid}
-use Rattle.shortening.specs.declared.searching.Found.{Found}
+use Rattle.searching.specs.declared.searching.Found.{Found}
 
 -- a step to fewer terms and the form that it reaches, in rows
 pub record Shorter (table : List ℕ) (f : Form) (r : Found) (rows : List (List ℕ)) (coefs : List ℤ) : Type 0 where

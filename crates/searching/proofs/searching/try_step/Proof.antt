@@ -1,4 +1,4 @@
--- `shortening::searching::try_step` meets its contract. Assumes nothing.
+-- `searching::searching::try_step` meets its contract. Assumes nothing.
 use mathlib.Core.Path.{ap}
 use mathlib.Core.List.{List}
 use native.Mathlib.Omega.{arith}
@@ -8,8 +8,8 @@ use Rattle.specification.specs.Terms as S
 use Rattle.gathering.proofs.RowSums.{rows-as, run-copied, form-copied}
 use Rattle.rules.specs.Steps.{stepOf}
 use borrow.Author.Needs.{needs}
-use Rattle.shortening.proofs.searching.try_step.Statement.{statement}
-use Rattle.shortening.proofs.searching.try_step.Tie as tie
+use Rattle.searching.proofs.searching.try_step.Statement.{statement}
+use Rattle.searching.proofs.searching.try_step.Tie as tie
 
 copy-requires : tie.Need-copy-requires
 copy-requires c κs = let p = c .before .before .before .pre .0 .run in (
