@@ -25,7 +25,7 @@ use Rattle.polynomials.specs.declared.expansion.Block.the-variants.{Zero, One}
 use Rattle.polynomials.specs.Keys.{digitValue, keyValue, timesDigit, Ordered, tally}
 use Rattle.polynomials.specs.Summands.{Summand, weigh, total}
 use Rattle.polynomials.specs.Expansion.{digitOf, pieceSign, plus, crossPiece, pieceAt, countOf, pieces, blockOf, partBlock, timesPiece, timesPieces}
-use Rattle.decision.specs.Elimination.{vectorDigit, scalarDigit, strangeDigit, Has}
+use Rattle.elimination.specs.Elimination.{vectorDigit, scalarDigit, strangeDigit, Has}
 use Rattle.polynomials.proofs.Keys.{times-value, times-ordered, times-tally, from-tally}
 use Rattle.polynomials.proofs.Summands.{weigh-append}
 

@@ -26,8 +26,8 @@ use Rattle.polynomials.specs.Keys.{digitValue, keyValue, Ordered, tally}
 use Rattle.polynomials.specs.Summands.{Summand, weigh, total}
 use Rattle.polynomials.specs.Memory.{summand}
 use Rattle.polynomials.specs.Expansion.{digitOf, pieceSign, crossPiece, pieceAt, countOf, pieces, blockOf, partBlock, timesBlock, timesFactors, expandTerm}
-use Rattle.decision.specs.Differences.{expandTerms, difference}
-use Rattle.decision.specs.Elimination.{vectorDigit, scalarDigit, strangeDigit, Has}
+use Rattle.elimination.specs.Differences.{expandTerms, difference}
+use Rattle.elimination.specs.Elimination.{vectorDigit, scalarDigit, strangeDigit, Has}
 use Rattle.decision.specs.Values.{component, variables}
 use Rattle.polynomials.proofs.Keys.{value-zero}
 use Rattle.polynomials.proofs.Summands.{weigh-append}

@@ -15,8 +15,8 @@ use Rattle.polynomials.specs.Keys.{rest, exponent, tally, keyValue}
 use Rattle.polynomials.specs.Summands.{Summand, total, size, likeAdded, putFor, substituted, isSome, Rising}
 use Rattle.polynomials.specs.Memory.{summand}
 use Rattle.polynomials.specs.Expansion.{Modest}
-use Rattle.decision.specs.Differences.{Compared}
-use Rattle.decision.specs.Elimination.{strangeDigit, Has, weight, bound, Polynomial}
+use Rattle.elimination.specs.Differences.{Compared}
+use Rattle.elimination.specs.Elimination.{strangeDigit, Has, weight, bound, Polynomial}
 use Rattle.polynomials.proofs.Keys.{Digit, none, same, other, digit, rest-none, rest-other}
 use Rattle.polynomials.proofs.Summands.{like-weigh, like-size, like-rising, like-keys}
 use Rattle.polynomials.proofs.Orders.{reordered-weigh, reordered-size, reordered-all}

@@ -1,7 +1,4 @@
 -- What the proofs of the functions lean on.
-pub mod Survival
-pub mod Differences
-pub mod Choices
 pub mod Contents
 pub mod ExpandedValues
 pub mod Gathered

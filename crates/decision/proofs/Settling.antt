@@ -30,14 +30,14 @@ use Rattle.terms.specs.Valid.{FormValid}
 use Rattle.polynomials.specs.Summands.{Summand, weigh, total, isSome}
 use Rattle.polynomials.specs.Memory.{summands}
 use Rattle.polynomials.specs.Expansion.{LettersBelow}
-use Rattle.decision.specs.Differences.{TermBelow, difference, Comparable, Compared}
-use Rattle.decision.specs.Elimination.{limitOf, Eliminable, Eliminated}
+use Rattle.elimination.specs.Differences.{TermBelow, difference, Comparable, Compared}
+use Rattle.elimination.specs.Elimination.{limitOf, Eliminable, Eliminated}
 use Rattle.decision.specs.Values.{component, variables}
 use Rattle.decision.specs.Settling.{Decidable}
 use Rattle.polynomials.proofs.Bytes.{length-summands}
 use Rattle.decision.proofs.Contents.{AllHas}
 use Rattle.decision.proofs.ExpandedValues.{component-zero, component-plus, Sound, difference-value}
-use Rattle.decision.proofs.Differences.{in-shape, few-all, all-modest}
+use Rattle.elimination.proofs.Differences.{in-shape, few-all, all-modest}
 use Rattle.decision.proofs.Gathered.{gathered-value, gathered-polynomial}
 
 -- ════ assignments in bytes

@@ -2,13 +2,9 @@
 ghost use Rattle.specification.specs.Decision.{Decided};
 ghost use Rattle.decision.specs.Settling.{Decidable, DecidedSo};
 ghost use Rattle.decision.specs.Answers.{decisionOf};
-
-mod components;
-mod elimination;
-
-use crate::components::compare;
-use crate::elimination::clear;
-use crate::elimination::eliminate;
+use elimination::components::compare;
+use elimination::elimination::clear;
+use elimination::elimination::eliminate;
 use forms::read_whole;
 use letters::check_table;
 use letters::test_terms;

@@ -10,7 +10,7 @@ use Rattle.algebra.specs.Numbers.{below-more, below-fewer}
 use Rattle.specification.specs.Decision.{DecidedBy}
 use Rattle.terms.specs.Abstraction.{formOf}
 use Rattle.decision.specs.Answers.{decisionOf}
-use Rattle.decision.specs.Differences.{difference}
+use Rattle.elimination.specs.Differences.{difference}
 use Rattle.polynomials.specs.Summands.{total}
 use Rattle.decision.proofs.Settling.{compare-asks, eliminate-asks, differs, none-left, equal, three}
 use Rattle.decision.proofs.settle.Statement.{statement}

@@ -1,13 +1,13 @@
--- `decision::elimination::clear` meets its contract: the bytes before i are 0. Assumes nothing.
+-- `elimination::elimination::clear` meets its contract: the bytes before i are 0. Assumes nothing.
 use mathlib.Core.Path.{_≡_, refl, _∙_}
 use Prim.Native.Nat.{ℕ, _-_, _≤_, _<_}
 use native.Mathlib.Omega.{arith}
 use native.Mathlib.Nat.{not-suc-le-zero}
 use lib.Seq.{drop-set-lt}
 use lib.ListN.{length, getD, drop, length-set}
-use Rattle.decision.proofs.Choices.{cleared-more}
-use Rattle.decision.proofs.elimination.clear.Statement.{statement}
-use Rattle.decision.proofs.elimination.clear.Tie as tie
+use Rattle.elimination.proofs.Choices.{cleared-more}
+use Rattle.elimination.proofs.elimination.clear.Statement.{statement}
+use Rattle.elimination.proofs.elimination.clear.Tie as tie
 
 abbrev Inv-loop : tie.InvT-loop
 Inv-loop buffer₀ n i₀ buffer i = (length buffer ≡ length buffer₀) × (i ≤ n) × ((x : ℕ) → x < i → getD buffer x 0 ≡ 0) × (drop n buffer ≡ drop n buffer₀)

@@ -1,9 +1,9 @@
--- `decision::components::compare` meets its contract. Assumes nothing.
+-- `elimination::components::compare` meets its contract. Assumes nothing.
 use mathlib.Core.Path.{_∙_}
 use native.Mathlib.Omega.{arith}
-use Rattle.decision.proofs.Differences.{first-asks, second-asks, counts-few, sort-asks, substitute-asks, compared}
-use Rattle.decision.proofs.components.compare.Statement.{statement}
-use Rattle.decision.proofs.components.compare.Tie as tie
+use Rattle.elimination.proofs.Differences.{first-asks, second-asks, counts-few, sort-asks, substitute-asks, compared}
+use Rattle.elimination.proofs.components.compare.Statement.{statement}
+use Rattle.elimination.proofs.components.compare.Tie as tie
 
 expand-form-requires : tie.Need-expand-form-requires
 expand-form-requires c κs = first-asks _ _ _ _ (c .before .before .pre)

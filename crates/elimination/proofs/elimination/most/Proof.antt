@@ -1,9 +1,9 @@
--- `decision::elimination::most` meets its contract. Assumes nothing.
+-- `elimination::elimination::most` meets its contract. Assumes nothing.
 use mathlib.Core.Path.{sym, _∙_}
 use borrow.Author.Needs.{needs}
-use Rattle.decision.proofs.Choices.{most-vector, most-scalar}
-use Rattle.decision.proofs.elimination.most.Statement.{statement}
-use Rattle.decision.proofs.elimination.most.Tie as tie
+use Rattle.elimination.proofs.Choices.{most-vector, most-scalar}
+use Rattle.elimination.proofs.elimination.most.Statement.{statement}
+use Rattle.elimination.proofs.elimination.most.Tie as tie
 
 kind-of-requires : tie.Need-kind-of-requires
 kind-of-requires c κs = search needs

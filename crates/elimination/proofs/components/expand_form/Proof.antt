@@ -1,4 +1,4 @@
--- `decision::components::expand_form` meets its contract: the terms before k are expanded. Assumes nothing.
+-- `elimination::components::expand_form` meets its contract: the terms before k are expanded. Assumes nothing.
 use mathlib.Core.Path.{_≡_, refl, sym, _∙_}
 use Prim.Native.Nat.{_-_, _≤_}
 use native.Mathlib.Omega.{arith}
@@ -6,12 +6,12 @@ use lib.ListN.{length, length-map}
 use mir.Val.{toZ}
 use mir.Syntax.{w64}
 use Rattle.integers.proofs.Machine.{back, back-is}
-use Rattle.decision.specs.Differences.{FormExpandable}
+use Rattle.elimination.specs.Differences.{FormExpandable}
 use Rattle.polynomials.specs.Memory.{summands}
 use Rattle.polynomials.proofs.Layers.{words}
-use Rattle.decision.proofs.Differences.{Filled, fill-starts, fill-asks, sum-fits, fill-on, fill-ends, fill-as, filled-as}
-use Rattle.decision.proofs.components.expand_form.Statement.{statement}
-use Rattle.decision.proofs.components.expand_form.Tie as tie
+use Rattle.elimination.proofs.Differences.{Filled, fill-starts, fill-asks, sum-fits, fill-on, fill-ends, fill-as, filled-as}
+use Rattle.elimination.proofs.components.expand_form.Statement.{statement}
+use Rattle.elimination.proofs.components.expand_form.Tie as tie
 
 abbrev Inv-loop : tie.InvT-loop
 Inv-loop work₀ start i sign f n₀ k₀ work n k = (length work ≡ length work₀) × Filled start f i (toZ w64 sign) k n (summands work₀) (summands work)

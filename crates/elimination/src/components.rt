@@ -2,7 +2,7 @@
 ghost use Rattle.terms.specs.Abstraction.{formOf};
 ghost use Rattle.polynomials.specs.Memory.{summands};
 ghost use Rattle.polynomials.specs.Expansion.{Expanded};
-ghost use Rattle.decision.specs.Differences.{expandTerms, FormExpandable, difference, Comparable, Compared};
+ghost use Rattle.elimination.specs.Differences.{expandTerms, FormExpandable, difference, Comparable, Compared};
 use polynomials::expansion::expand_term;
 use polynomials::passes::substitute;
 use polynomials::sorting::sort;

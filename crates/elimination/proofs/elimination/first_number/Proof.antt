@@ -1,4 +1,4 @@
--- `decision::elimination::first_number` meets its contract: no number below v leaves a summand. Assumes nothing.
+-- `elimination::elimination::first_number` meets its contract: no number below v leaves a summand. Assumes nothing.
 use mathlib.Core.Path.{_≡_, sym, _∙_}
 use mathlib.Core.Bool.{false}
 use Prim.Native.Nat.{ℕ, _-_, _≤_, _<_}
@@ -7,9 +7,9 @@ use native.Mathlib.Nat.{not-suc-le-zero}
 use lib.ListN.{take}
 use Rattle.polynomials.specs.Summands.{substituted, isSome}
 use Rattle.polynomials.specs.Memory.{summands}
-use Rattle.decision.proofs.Choices.{first-asks, first-found, first-on, first-last}
-use Rattle.decision.proofs.elimination.first_number.Statement.{statement}
-use Rattle.decision.proofs.elimination.first_number.Tie as tie
+use Rattle.elimination.proofs.Choices.{first-asks, first-found, first-on, first-last}
+use Rattle.elimination.proofs.elimination.first_number.Statement.{statement}
+use Rattle.elimination.proofs.elimination.first_number.Tie as tie
 
 abbrev Inv-loop : tie.InvT-loop
 Inv-loop work n d most v₀ v = (v ≤ most) × ((u : ℕ) → u < v → isSome (substituted d u (take n (summands work))) ≡ false)

@@ -1,12 +1,12 @@
--- `decision::elimination::eliminate` meets its contract: the numbers chosen keep the value. Assumes nothing.
+-- `elimination::elimination::eliminate` meets its contract: the numbers chosen keep the value. Assumes nothing.
 use mathlib.Core.Path.{_≡_, refl, _∙_}
 use Prim.Native.Nat.{_≤_}
 use native.Mathlib.Omega.{arith}
 use lib.ListN.{length, take}
 use Rattle.polynomials.specs.Memory.{summands}
-use Rattle.decision.proofs.Choices.{Choosing, choose-starts, choose-on, choose-ends, choose-falls, fallOf, letter-there, most-six, fits, number-small, byte-there}
-use Rattle.decision.proofs.elimination.eliminate.Statement.{statement}
-use Rattle.decision.proofs.elimination.eliminate.Tie as tie
+use Rattle.elimination.proofs.Choices.{Choosing, choose-starts, choose-on, choose-ends, choose-falls, fallOf, letter-there, most-six, fits, number-small, byte-there}
+use Rattle.elimination.proofs.elimination.eliminate.Statement.{statement}
+use Rattle.elimination.proofs.elimination.eliminate.Tie as tie
 
 abbrev Inv-loop : tie.InvT-loop
 Inv-loop table work₀ n buffer₀ m₀ d₀ work buffer m d =

@@ -4,7 +4,7 @@ ghost use Prim.Native.Nat.{ℕ, _/_, _≤_, _<_};
 ghost use lib.ListN.{length, getD, take, drop};
 ghost use Rattle.polynomials.specs.Memory.{summands};
 ghost use Rattle.polynomials.specs.Passes.{Substitutable};
-ghost use Rattle.decision.specs.Elimination.{mostOf, FirstNumber, Eliminable, Eliminated};
+ghost use Rattle.elimination.specs.Elimination.{mostOf, FirstNumber, Eliminable, Eliminated};
 use letters::kind_of;
 use polynomials::passes::least;
 use polynomials::passes::leaves;

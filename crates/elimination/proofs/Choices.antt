@@ -24,10 +24,10 @@ use Rattle.theory.specs.Elements.{All, all-implies, both-all}
 use Rattle.polynomials.specs.Keys.{digitValue, keyValue, rest, exponent, lowest, Ordered, tally}
 use Rattle.polynomials.specs.Summands.{Summand, weigh, total, putFor, substituted, isSome, Rising}
 use Rattle.polynomials.specs.Passes.{Substitutable, Substituted, lesserOf, leastFrom}
-use Rattle.decision.specs.Elimination.{mostOf, limitOf, vectorDigit, scalarDigit, strangeDigit, Has, weight, Polynomial, FirstNumber, Eliminable, Eliminated}
+use Rattle.elimination.specs.Elimination.{mostOf, limitOf, vectorDigit, scalarDigit, strangeDigit, Has, weight, Polynomial, FirstNumber, Eliminable, Eliminated}
 use Rattle.polynomials.proofs.Keys.{value-zero, rest-tally, rest-ordered}
 use Rattle.polynomials.proofs.Summands.{substituted-value, like-size, reduced-size, mass-size, AllOrdered, substituted-rising, substituted-ordered, substituted-keys}
-use Rattle.decision.proofs.Survival.{survives}
+use Rattle.elimination.proofs.Survival.{survives}
 
 -- ════ the variables of a table
 

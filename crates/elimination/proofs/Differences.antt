@@ -27,7 +27,7 @@ use Rattle.polynomials.specs.Summands.{Summand, size, mass, putFor, substituted
 use Rattle.polynomials.specs.Passes.{Substitutable, Substituted}
 use Rattle.polynomials.specs.Sorting.{Rearranged, SortedTo}
 use Rattle.polynomials.specs.Expansion.{Modest, expandTerm, Expandable, Expanded}
-use Rattle.decision.specs.Differences.{expandTerms, TermBelow, FormExpandable, difference, Comparable, Compared}
+use Rattle.elimination.specs.Differences.{expandTerms, TermBelow, FormExpandable, difference, Comparable, Compared}
 use Rattle.polynomials.proofs.Expansions.{term-few, term-modest}
 use Rattle.polynomials.proofs.Orders.{reordered-all, reordered-length}
 
