@@ -42,7 +42,8 @@ use Rattle.picks.specs.declared.choosing.Picked.{Picked}
 use Rattle.candidates.specs.declared.trying.Trial.{Trial}
 use Rattle.candidates.specs.declared.trying.Next.{Next}
 use Rattle.picks.specs.Choosing.{bitDigits, Shut, Opened, OpenedBy, picks, PickedBy}
-use Rattle.marks.specs.Marks.{sizeMark, Sized, NotShorter}
+use Rattle.marking.specs.Marks.{sizeMark, Sized}
+use Rattle.marks.specs.Steps.{NotShorter}
 use Rattle.candidates.specs.Trying.{Hopeless, OnlyStep, Settled, SomeOpened, Tried, NextPick, NextOfMask, maskOf, ruleOf, pickOf, NextPlace}
 use Rattle.picks.proofs.Masks.{taken-counted, left-first}
 use Rattle.picks.proofs.Openings.{candidate-opens}

@@ -23,7 +23,7 @@ use Rattle.picks.specs.declared.choosing.Opening.{Opening}
 use Rattle.candidates.specs.declared.trying.Trial.{Trial}
 use Rattle.candidates.specs.declared.trying.Next.{Next}
 use Rattle.picks.specs.Choosing.{Opened}
-use Rattle.marks.specs.Marks.{Covering}
+use Rattle.marking.specs.Marks.{Covering}
 
 -- ════ one candidate
 

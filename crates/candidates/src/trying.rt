@@ -16,7 +16,7 @@ ghost use Rattle.candidates.specs.Trying.{SomeOpened, Tried, NextPick, R
 use integers::divide;
 use integers::neg;
 use logs::steps::no_step;
-use marks::marking::size_mark;
+use marking::marking::size_mark;
 use marks::steps::gain;
 use marks::steps::mark_step;
 use marks::steps::surely_longer;

@@ -26,8 +26,9 @@ use Rattle.rules.specs.Table.{ruleRows, rowTerm, firstRow, rowCount}
 use Rattle.rules.specs.Steps.{stepOf, StepValid}
 use Rattle.rules.proofs.Tied.{tied, row-next, row-all}
 use Rattle.rules.proofs.Taking.{rows}
-use Rattle.marks.specs.Marks.{markOf, RowGained}
-use Rattle.marks.proofs.MarkedTerms.{mark-like, mark-tidy}
+use Rattle.marking.specs.Marks.{markOf}
+use Rattle.marks.specs.Steps.{RowGained}
+use Rattle.marking.proofs.MarkedTerms.{mark-like, mark-tidy}
 
 -- the products with the first rows together
 pub record Gained (t : Term) (s : Step) (i : ℕ) (g : ℤ) : Type 0 where

@@ -18,8 +18,9 @@ use Rattle.specification.specs.Terms as S
 use Rattle.theory.specs.Elements.{All, all-implies, both-all}
 use Rattle.theory.specs.Order.{compareTerms-eq}
 use Rattle.theory.specs.Gathering.Gathered.{into-join}
-use Rattle.marks.specs.Marks.{markOf, Shows, Covering, Among}
-use Rattle.marks.proofs.MarkedTerms.{mark-like, mark-tidy, shows-some}
+use Rattle.marking.specs.Marks.{markOf, Shows, Covering}
+use Rattle.marks.specs.Steps.{Among}
+use Rattle.marking.proofs.MarkedTerms.{mark-like, mark-tidy, shows-some}
 use Rattle.marks.proofs.Units.{sign-unit}
 
 keep-long : (t : S.Term) (l : List S.Term) → length l ≤ length (keep t l)

@@ -29,10 +29,11 @@ use Rattle.rules.specs.Steps.{stepOf, StepValid, StepFits}
 use Rattle.rules.proofs.Tied.{tied, rows-inside, row-next, row-given}
 use Rattle.rules.proofs.Taking.{rows, row-fits}
 use Rattle.marks.specs.declared.steps.StepMarks.{StepMarks}
-use Rattle.marks.specs.Marks.{markOf, Shows, Covering, Carried, Sized, NotShorter, LettersMarked, StepMarked, productMark, Among, SurelyKept, Scored}
+use Rattle.marking.specs.Marks.{markOf, Shows, Covering, Sized, LettersMarked, productMark, SurelyKept, Scored}
+use Rattle.marks.specs.Steps.{Carried, NotShorter, StepMarked, Among}
 use Rattle.marks.proofs.Growth.{Ahead, ahead-none, ahead-more, ahead-kept, ahead-new, into-long, into-covered}
-use Rattle.marks.proofs.MarkedTerms.{size-same}
-use Rattle.marks.proofs.RowMarks.{row-good, sign-one, product-mark, product-stands}
+use Rattle.marking.proofs.MarkedTerms.{size-same}
+use Rattle.marking.proofs.RowMarks.{row-good, sign-one, product-mark, product-stands}
 
 -- the products with the first rows, whatever the coefficient of M, if it has the size, and the terms covered
 unfoldable pub Passed : (marks : List ℕ) (v : ℕ) (seen : List ℕ) (s : Step) (score i : ℕ) → Type 0

@@ -1,4 +1,2 @@
-// Marks of terms, by which most candidates for a shortening step are ruled out before anything is multiplied out.
-pub mod marking;
-mod rows;
+// Steps by the marks of terms, by which most candidates for a shortening step are ruled out before anything is multiplied out.
 pub mod steps;

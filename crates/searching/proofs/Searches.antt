@@ -37,7 +37,7 @@ use Rattle.rules.specs.Steps.{stepOf}
 use Rattle.rules.proofs.Taking.{few-letters}
 use Rattle.candidates.specs.declared.trying.Next.{Next}
 use Rattle.candidates.specs.Trying.{Hopeless, OnlyStep, Settled, maskOf, ruleOf, pickOf, NextPlace}
-use Rattle.marks.specs.Marks.{Covering}
+use Rattle.marking.specs.Marks.{Covering}
 use Rattle.searching.specs.Searching.{Shorter}
 
 -- no candidate by these indices shortens

@@ -6,7 +6,7 @@ ghost use Rattle.specification.specs.Rules.{stepAt};
 ghost use Rattle.terms.specs.Abstraction.{Counted};
 ghost use Rattle.gathering.specs.Rows.{runOf, formBy, FormRun, RowsGive};
 ghost use Rattle.rules.specs.Steps.{stepOf};
-ghost use Rattle.marks.specs.Marks.{Covering};
+ghost use Rattle.marking.specs.Marks.{Covering};
 ghost use Rattle.searching.specs.Searching.{SearchedBy};
 use candidates::trying::next_candidate;
 use gathering::bringing::find_place;

@@ -35,7 +35,8 @@ use Rattle.gathering.proofs.RowRuns.{run-length}
 use Rattle.gathering.proofs.RowSums.{form-valid, held-is}
 use Rattle.rules.specs.declared.steps.Step.{Step}
 use Rattle.rules.specs.Steps.{stepOf, StepValid}
-use Rattle.marks.specs.Marks.{Covering, Carried}
+use Rattle.marking.specs.Marks.{Covering}
+use Rattle.marks.specs.Steps.{Carried}
 use Rattle.searching.specs.declared.searching.Found.{Found}
 use Rattle.shortening.specs.declared.rounds.Rounds.{Rounds}
 use Rattle.searching.specs.Searching.{Shorter, SearchedBy}

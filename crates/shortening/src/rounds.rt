@@ -10,7 +10,7 @@ use gathering::rows::form_of;
 use gathering::rows::hold;
 use logs::steps::Steps;
 use logs::steps::no_step;
-use marks::marking::mark_rows;
+use marking::marking::mark_rows;
 use marks::steps::mark_reached;
 use searching::searching::search;
 use terms::types::Form;

@@ -11,7 +11,7 @@ use Rattle.integers.proofs.Machine.{back, back-is}
 use Rattle.theory.specs.Elements.{All}
 use Rattle.theory.specs.Shape.Terms.{in-limit}
 use Rattle.terms.specs.Abstraction.{termOf}
-use Rattle.marks.specs.Marks.{sizeMark}
+use Rattle.marking.specs.Marks.{sizeMark}
 use Rattle.candidates.proofs.Trials.{unit-step-valid, unit-step-fits, tried-none, tried-long, tried-sized, tried-by}
 use Rattle.candidates.proofs.trying.try_pick.Statement.{statement}
 use Rattle.candidates.proofs.trying.try_pick.Tie as tie

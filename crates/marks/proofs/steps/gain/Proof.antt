@@ -15,7 +15,7 @@ use Rattle.terms.specs.Abstraction.{partOf, termOf}
 use Rattle.rules.specs.Table.{partAt, rowTerm}
 use Rattle.rules.proofs.Tied.{rows-few}
 use Rattle.rules.proofs.Taking.{row-fits}
-use Rattle.marks.specs.Marks.{RowGained}
+use Rattle.marks.specs.Steps.{RowGained}
 use Rattle.marks.proofs.RowsPassed.{Fitting, row-here, row-is, mark-here}
 use Rattle.marks.proofs.Gains.{Gained, gained-none, gained-more, gained-apart, gained-all}
 use Rattle.marks.proofs.steps.gain.Statement.{statement}

@@ -5,7 +5,7 @@ use Prim.Native.Nat.{ℕ, _-_, _≤_}
 use native.Mathlib.Omega.{arith}
 use denote.Ref.{now}
 use lib.ListN.{take}
-use Rattle.marks.specs.Marks.{Among}
+use Rattle.marks.specs.Steps.{Among}
 use Rattle.marks.proofs.RowsPassed.{among-none, among-more}
 use Rattle.marks.proofs.steps.is_among.Statement.{statement}
 use Rattle.marks.proofs.steps.is_among.Tie as tie

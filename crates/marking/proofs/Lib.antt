@@ -1,0 +1,4 @@
+-- Lemmas that belong to no one function.
+pub mod MarkedTerms
+pub mod MarkSizes
+pub mod RowMarks
