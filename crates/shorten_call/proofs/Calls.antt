@@ -44,7 +44,7 @@ use Rattle.printer_call.specs.declared.Printing.the-variants.{Printed}
 use Rattle.printer_call.specs.Answers.{printingOf}
 use Rattle.printer_call.specs.Lines.{tableReduced}
 use Rattle.printer_call.proofs.Answers.{bad-table, bad-expression, form-reduced, none-tested, cut-tested, parts-tested}
-use Rattle.shorten_call.specs.Printed.{StepPrintable, StepsPrintable}
+use Rattle.log_lines.specs.Printed.{StepPrintable, StepsPrintable}
 
 -- ════ what can be printed
 

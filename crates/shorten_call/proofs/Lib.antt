@@ -1,4 +1,3 @@
 -- Lemmas that belong to no one function.
-pub mod Texts
 pub mod Calls
 pub mod Enough

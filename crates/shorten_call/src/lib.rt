@@ -4,11 +4,8 @@ ghost use lib.ListN.{length};
 ghost use Rattle.printer_call.specs.Lines.{tableReduced};
 ghost use Rattle.specification.specs.Printing.{inputTable, printTested, linesBytes, PrintedBy, LinesPrinted};
 ghost use Rattle.printer_call.specs.Answers.{printingOf};
-
-pub mod lines;
-
-use crate::lines::print_log;
 use letters::check_table;
+use log_lines::lines::print_log;
 use printer_call::Printing;
 use printing::print_refusal;
 use reduction::form_of;

@@ -1,4 +1,4 @@
--- `shorten_call::lines::print_log` meets its contract: the line of the form, those of the steps and that of the last form stand one behind the other. Assumes nothing.
+-- `log_lines::lines::print_log` meets its contract: the line of the form, those of the steps and that of the last form stand one behind the other. Assumes nothing.
 use mathlib.Core.Path.{_≡_, _∙_}
 use Prim.Native.Nat.{_+_, _-_, _≤_}
 use native.Mathlib.Omega.{arith}
@@ -8,9 +8,9 @@ use borrow.Author.Needs.{needs}
 use Rattle.specification.specs.Printing.{lineBytes}
 use Rattle.logs.specs.Steps.{stepsOf}
 use Rattle.logs.proofs.WrittenLogs.{taken-few}
-use Rattle.shorten_call.proofs.Texts.{line-short, steps-short, log-written}
-use Rattle.shorten_call.proofs.lines.print_log.Statement.{statement}
-use Rattle.shorten_call.proofs.lines.print_log.Tie as tie
+use Rattle.log_lines.proofs.Texts.{line-short, steps-short, log-written}
+use Rattle.log_lines.proofs.lines.print_log.Statement.{statement}
+use Rattle.log_lines.proofs.lines.print_log.Tie as tie
 
 -- the start, as seen from behind the first form
 abbrev from-first : tie.After-print-line → tie.Start

@@ -1,12 +1,12 @@
--- `shorten_call::lines::print_step` meets its contract: the rule, its letters and M stand one behind the other. Assumes nothing.
+-- `log_lines::lines::print_step` meets its contract: the rule, its letters and M stand one behind the other. Assumes nothing.
 use mathlib.Core.Path.{_≡_, ap, _∙_}
 use Prim.Native.Nat.{_+_, _≤_}
 use native.Mathlib.Omega.{arith}
 use lib.ListN.{length}
 use borrow.Author.Needs.{needs}
-use Rattle.shorten_call.proofs.Texts.{rule-is, rule-small, letters-short, step-written}
-use Rattle.shorten_call.proofs.lines.print_step.Statement.{statement}
-use Rattle.shorten_call.proofs.lines.print_step.Tie as tie
+use Rattle.log_lines.proofs.Texts.{rule-is, rule-small, letters-short, step-written}
+use Rattle.log_lines.proofs.lines.print_step.Statement.{statement}
+use Rattle.log_lines.proofs.lines.print_step.Tie as tie
 
 -- where the function starts, as seen behind the first call
 abbrev from-rule : tie.After-print-rule → tie.Start

@@ -1,4 +1,4 @@
--- `shorten_call::lines::print_multiplier` meets its contract: the mark, the term and a newline. Assumes nothing.
+-- `log_lines::lines::print_multiplier` meets its contract: the mark, the term and a newline. Assumes nothing.
 use mathlib.Core.Path.{_≡_, refl, _∙_}
 use mathlib.Core.List.{[], _∷_}
 use Prim.Native.Nat.{_+_, _<_}
@@ -10,9 +10,9 @@ use Rattle.terms.specs.Abstraction.{termOf}
 use Rattle.records.specs.Written.{Written}
 use Rattle.records.proofs.Writes.{written-stores}
 use Rattle.specification.specs.Printing.{printMultiplier}
-use Rattle.shorten_call.proofs.Texts.{multiplier-written}
-use Rattle.shorten_call.proofs.lines.print_multiplier.Statement.{statement}
-use Rattle.shorten_call.proofs.lines.print_multiplier.Tie as tie
+use Rattle.log_lines.proofs.Texts.{multiplier-written}
+use Rattle.log_lines.proofs.lines.print_multiplier.Statement.{statement}
+use Rattle.log_lines.proofs.lines.print_multiplier.Tie as tie
 
 -- where the function starts, as seen behind the call
 abbrev from-single : tie.After-print-single → tie.Start

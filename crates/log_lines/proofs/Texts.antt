@@ -25,7 +25,7 @@ use Rattle.logs.proofs.WrittenLogs.{taken-few, part-written}
 use Rattle.symbols.proofs.Decimals.{decimal-one}
 use Rattle.printing.proofs.Lengths.{text-short}
 use Rattle.printing.proofs.Texts.{single-short, text-written, written-text}
-use Rattle.shorten_call.specs.Printed.{StepPrintable}
+use Rattle.log_lines.specs.Printed.{StepPrintable}
 
 -- ════ the rule
 

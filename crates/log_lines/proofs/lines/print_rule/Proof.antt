@@ -1,4 +1,4 @@
--- `shorten_call::lines::print_rule` meets its contract: seven stores. Assumes nothing.
+-- `log_lines::lines::print_rule` meets its contract: seven stores. Assumes nothing.
 use mathlib.Core.Path.{refl}
 use Prim.Native.Nat.{_+_}
 use mathlib.Core.List.{[], _∷_}
@@ -7,9 +7,9 @@ use native.Mathlib.Numerals.{towards-suc}
 use lib.ListN.{length-set}
 use borrow.Author.Needs.{needs}
 use Rattle.records.proofs.Writes.{written-stores}
-use Rattle.shorten_call.proofs.Texts.{rule-is}
-use Rattle.shorten_call.proofs.lines.print_rule.Statement.{statement}
-use Rattle.shorten_call.proofs.lines.print_rule.Tie as tie
+use Rattle.log_lines.proofs.Texts.{rule-is}
+use Rattle.log_lines.proofs.lines.print_rule.Statement.{statement}
+use Rattle.log_lines.proofs.lines.print_rule.Tie as tie
 
 slice-write-out : tie.Need-slice-write-out
 slice-write-out c = search needs

@@ -1,4 +1,4 @@
--- `shorten_call::lines::print_letters` meets its contract: before each turn the letters from i on are left, with two bytes of room for each. Assumes nothing.
+-- `log_lines::lines::print_letters` meets its contract: before each turn the letters from i on are left, with two bytes of room for each. Assumes nothing.
 use mathlib.Core.Path.{_≡_, refl, ap, sym}
 use mathlib.Core.List.{List, [], _∷_}
 use Prim.Native.Nat.{ℕ, _+_, _-_, _*_, _≤_, _<_}
@@ -10,9 +10,9 @@ use Rattle.specification.specs.Printing.{printLetter}
 use Rattle.terms.proofs.Arrays.{all-at}
 use Rattle.records.proofs.Writes.{written-stores}
 use Rattle.symbols.proofs.Progress.{UnderWay, begins, goes-on, ended}
-use Rattle.shorten_call.proofs.Texts.{lettersFrom, letter-next, letters-end}
-use Rattle.shorten_call.proofs.lines.print_letters.Statement.{statement}
-use Rattle.shorten_call.proofs.lines.print_letters.Tie as tie
+use Rattle.log_lines.proofs.Texts.{lettersFrom, letter-next, letters-end}
+use Rattle.log_lines.proofs.lines.print_letters.Statement.{statement}
+use Rattle.log_lines.proofs.lines.print_letters.Tie as tie
 
 abbrev Inv-loop : tie.InvT-loop
 Inv-loop out₀ at n letters next₀ i₀ out next i = (next + 2 * (n - i) ≤ length out) × UnderWay out₀ out at next (lettersFrom letters n 0) (lettersFrom letters n i)

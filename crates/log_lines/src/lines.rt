@@ -9,7 +9,7 @@ ghost use Rattle.records.specs.Written.{Written};
 ghost use Rattle.rules.specs.Steps.{stepOf};
 ghost use Rattle.logs.specs.Steps.{stepsOf};
 ghost use Rattle.symbols.specs.Printable.{Printed, TermPrintable, Printable};
-ghost use Rattle.shorten_call.specs.Printed.{StepPrintable, StepsPrintable};
+ghost use Rattle.log_lines.specs.Printed.{StepPrintable, StepsPrintable};
 use logs::steps::Steps;
 use printing::print_line;
 use printing::print_single;

@@ -1,4 +1,4 @@
--- `shorten_call::lines::print_steps` meets its contract: before each turn the steps from i on are left, with 55 bytes of room for each. Assumes nothing.
+-- `log_lines::lines::print_steps` meets its contract: before each turn the steps from i on are left, with 55 bytes of room for each. Assumes nothing.
 use Prim.Native.Nat.{_+_, _-_, _*_, _≤_}
 use native.Mathlib.Omega.{arith}
 use lib.ListN.{length, getD}
@@ -6,10 +6,10 @@ use Rattle.terms.proofs.Arrays.{all-at}
 use Rattle.logs.proofs.StepRecords.{noStep}
 use Rattle.logs.specs.Steps.{stepsOf}
 use Rattle.symbols.proofs.Progress.{UnderWay, begins, goes-on, ended}
-use Rattle.shorten_call.specs.Printed.{StepPrintable}
-use Rattle.shorten_call.proofs.Texts.{stepsFrom, step-text-short, step-next, steps-end}
-use Rattle.shorten_call.proofs.lines.print_steps.Statement.{statement}
-use Rattle.shorten_call.proofs.lines.print_steps.Tie as tie
+use Rattle.log_lines.specs.Printed.{StepPrintable}
+use Rattle.log_lines.proofs.Texts.{stepsFrom, step-text-short, step-next, steps-end}
+use Rattle.log_lines.proofs.lines.print_steps.Statement.{statement}
+use Rattle.log_lines.proofs.lines.print_steps.Tie as tie
 
 abbrev Inv-loop : tie.InvT-loop
 Inv-loop out₀ at d n next₀ i₀ out next i = (next + 55 * (n - i) ≤ length out) × UnderWay out₀ out at next (stepsFrom (d .steps) n 0) (stepsFrom (d .steps) n i)

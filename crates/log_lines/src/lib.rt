@@ -1,0 +1,2 @@
+// The text of a log, in lent bytes.
+pub mod lines;
