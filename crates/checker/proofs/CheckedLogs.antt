@@ -16,9 +16,9 @@ use Rattle.letters.specs.Tested.{testOf}
 use Rattle.letters.proofs.LetterTests.{test-passed, test-refused}
 use Rattle.logs.specs.declared.steps.Steps.{Steps}
 use Rattle.logs.specs.declared.steps.Refusal.{Refusal}
-use Rattle.checker.specs.declared.replay.Replayed.{Replayed}
+use Rattle.replaying.specs.declared.Replayed.{Replayed}
 use Rattle.logs.specs.Steps.{stepsOf, foundOf, StepsTested}
-use Rattle.checker.specs.Replaying.{ReplayedAs}
+use Rattle.replaying.specs.Replaying.{ReplayedAs}
 
 -- ════ the call
 

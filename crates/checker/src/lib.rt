@@ -3,13 +3,11 @@ ghost use mathlib.Core.Path.{_≡_};
 ghost use lib.ListN.{take, drop};
 ghost use Rattle.specification.specs.Logs.{checkCall};
 ghost use Rattle.checker.specs.Answers.{checkedOf};
-use crate::replay::replay;
 use letters::check_table;
 use letters::test_terms;
 use logs::reading::read_log;
 use logs::steps::test_steps;
-
-pub mod replay;
+use replaying::replay;
 
 // The checker's answer: accepted, with where the first form ends, where the last begins and the number of steps; or refused with number and step.
 pub enum Checked {

@@ -20,7 +20,7 @@ use Rattle.terms.specs.declared.types.Form.{Form}
 use Rattle.terms.specs.Abstraction.{termOf, formOf}
 use Rattle.terms.specs.Valid.{TermValid, FormValid}
 use Rattle.terms.proofs.Arrays.{noTerm, all-at, mapped-behind}
-use Rattle.records.proofs.Factors.{joined-append}
+use Rattle.record_writing.proofs.Factors.{joined-append}
 use Rattle.forms.proofs.Forms.{term-at}
 use Rattle.polynomials.specs.Keys.{exponent}
 use Rattle.polynomials.specs.Summands.{Summand, size, mass, putFor, substituted, Weakly}

@@ -8,9 +8,8 @@ use mir.Syntax.{w64}
 use mir.Val.{SFits}
 use Rattle.specification.specs.Values.{_+v_, _•_, dot, wedge}
 use Rattle.algebra.specs.Integers.{natAbs-+ℤ, natAbs-*ℤ}
-use Rattle.integers.proofs.Machine.{back, back-is}
+use Rattle.integers.proofs.Machine.{back, back-is, fits-back}
 use Rattle.theory.specs.Values.Vectors.{by-components}
-use Rattle.terms.proofs.Exchanges.{fits-back}
 use Rattle.evaluation.specs.declared.vectors.Vector.{Vector}
 use Rattle.evaluation.specs.Vectors.{vecOf, Within}
 use Rattle.evaluation.proofs.Bounds.{product-small, wedge-small}

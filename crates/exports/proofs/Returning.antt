@@ -1,17 +1,13 @@
 -- What the calls for C return and leave, from the tests that they make. Assumes nothing.
 use mathlib.Core.Path.{_≡_, refl, ap, sym, subst, _∙_}
 use mathlib.Core.List.{List, [], _∷_}
-use Prim.Native.Nat.{ℕ, _≤_, _<_, _^_}
+use Prim.Native.Nat.{ℕ, _≤_, _<_}
 use native.Mathlib.Omega.{arith}
 use lib.Dec.{leb}
-use lib.IntN.{ℤ, pos, natAbs, negℤ}
+use lib.IntN.{ℤ, pos}
 use lib.ListN.{length, set}
 use borrow.Author.Tests.{le-leb, lt-leb}
-use mir.Syntax.{w64}
-use mir.Val.{toZ}
-use mir.ValLaws.{toZ-pos}
 use Rattle.specification.specs.Records.{formBytes}
-use Rattle.specification.specs.Shortening.{shorteningBytes}
 use Rattle.specification.specs.Results.{Result, refused, given, require}
 use Rattle.specification.specs.Letters.{testTable}
 use Rattle.specification.specs.Values.{Vec}
@@ -38,21 +34,6 @@ use Rattle.letters.proofs.LetterTests.{test-passed, test-refused}
 use Rattle.reduction.proofs.KeptValue.{reduce-keeps-value}
 use Rattle.specification.specs.Returns.{returned, handed, threeInto, answerVec, valueTested, valueReturned, reduceReturned, returnedAt, placesInto, answerLog}
 use Rattle.specification.specs.Returns.{checkReturned, decisionReturned, DecideReturned}
-
--- ════ one number
-
--- a small number, cast, can be made negative
-pub cast-small : {n : ℕ} → n < 65536 → natAbs (toZ w64 n) < 2 ^ 63
-cast-small {n} h = rw (toZ-pos w64 n (omega arith)) (omega arith)
-
--- and its negative is minus the number
-pub cast-negative : {n : ℕ} {r : ℤ} → n < 65536 → r ≡ negℤ (toZ w64 n) → r ≡ negℤ (pos n)
-cast-negative {n} h e = e ∙ rw (toZ-pos w64 n (omega arith))
-
--- a length, cast, is what is returned
-pub cast-length : {n : ℕ} → n ≤ shorteningBytes → toZ w64 n ≡ returned (given n)
-unfolding returned
-cast-length {n} h = toZ-pos w64 n (omega arith)
 
 -- ════ three numbers
 
@@ -138,14 +119,6 @@ module _ (table expr out after : List ℕ) (a : Reduced) (contract : (reducedOf 
     reduce-returned r p = answered (given n) r (rw g) p
 
 -- ════ the checker's call
-
--- three stores put the three places in front
-pub place-stores : (l : List ℕ) (a b n : ℕ) → 3 ≤ length l → set (set (set l 0 a) 1 b) 2 n ≡ placesInto a b n l
-unfolding placesInto
-place-stores [] a b n h = absurd (omega arith)
-place-stores (x ∷ []) a b n h = absurd (omega arith)
-place-stores (x ∷ y ∷ []) a b n h = absurd (omega arith)
-place-stores (x ∷ y ∷ z ∷ l) a b n h = refl
 
 module _ (table log places : List ℕ) where
   -- what is tested before the log

@@ -2,9 +2,7 @@
 ghost use mathlib.Core.Path.{_≡_};
 ghost use Prim.Native.Nat.{_≤_};
 ghost use lib.ListN.{length};
-ghost use Rattle.specification.specs.Results.{given, refused};
-ghost use Rattle.specification.specs.Shortening.{shorteningBytes};
-ghost use Rattle.specification.specs.Returns.{returned, returnedAt, threeInto, placesInto, valueReturned, reduceReturned, checkReturned, DecideReturned, ShortenReturned};
+ghost use Rattle.specification.specs.Returns.{threeInto, valueReturned, reduceReturned, checkReturned, DecideReturned, ShortenReturned};
 ghost use Rattle.evaluation.specs.Vectors.{vecOf};
 use checker::Checked;
 use checker::check;
@@ -13,19 +11,15 @@ use decision::decide;
 use evaluation::Valued;
 use evaluation::value;
 use evaluation::vectors::Vector;
-use integers::neg;
 use letters::check_table;
 use reduction::Reduced;
 use reduction::reduce;
+use returning::put_places;
+use returning::refusal;
+use returning::refusal_at;
+use returning::written;
 use shortening::Shortening;
 use shortening::shorten;
-
-// A refusal: minus its number.
-fn refusal(n: u8) -> i64
-    ensures { λ r. ⌜ r ≡ returned (refused n) ⌝ }
-{
-    neg(n as i64)
-}
 
 // Three numbers in front of the memory lent.
 fn put(values: &mut [i64], v: Vector)
@@ -67,14 +61,6 @@ pub extern "C" fn kalzunbi_value(
     }
 }
 
-// A length that is returned.
-fn written(n: usize) -> i64
-    requires { ⌜ n ≤ shorteningBytes ⌝ }
-    ensures { λ r. ⌜ r ≡ returned (given n) ⌝ }
-{
-    n as i64
-}
-
 // The form of an expression, its record written into the bytes lent: its length, or minus 1, 2, then 3, 4 or 5, then 6, 7, 8, 9 or 10.
 #[no_mangle]
 pub extern "C" fn kalzunbi_reduce(table: &[u8], expression: &[u8], out: &mut [u8]) -> i64
@@ -85,23 +71,6 @@ pub extern "C" fn kalzunbi_reduce(table: &[u8], expression: &[u8], out: &mut [u8
         Reduced::Written(n) => written(n),
         Reduced::Refused(m) => refusal(m),
     }
-}
-
-// A refusal of a log: minus the number times 256 and the step.
-fn refusal_at(n: u8, k: u8) -> i64
-    ensures { λ r. ⌜ r ≡ returnedAt n k ⌝ }
-{
-    neg((n as usize * 256 + k as usize) as i64)
-}
-
-// Three places in front of the memory lent.
-fn put_places(places: &mut [u64], a: usize, b: usize, n: usize)
-    requires { ⌜ 3 ≤ length (now places) ⌝ }
-    ensures { λ r. ⌜ now (places .exit) ≡ placesInto a b n (now (places .entry)) ⌝ }
-{
-    places[0] = a as u64;
-    places[1] = b as u64;
-    places[2] = n as u64;
 }
 
 // The answer for a log: 0 where it is accepted, with where the first form ends, where the last begins and the steps in the first three of the numbers lent; or minus (number · 256 + step).

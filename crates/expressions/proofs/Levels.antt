@@ -19,12 +19,12 @@ use Rattle.specification.specs.Reduction.{negateForm, sumForms, timesForms, dot
 use Rattle.theory.specs.Tests.{refused≢given, given-same}
 use Rattle.algebra.specs.Integers.{sfits-natAbs}
 use Rattle.integers.proofs.Machine.{back, back-is}
-use Rattle.gathering.specs.declared.rows.Worked.{Worked}
-use Rattle.gathering.specs.Rows.{Light, formBy, RowsGive}
+use Rattle.rows.specs.declared.Worked.{Worked}
+use Rattle.rows.specs.Rows.{Light, formBy, RowsGive}
 use Rattle.letters.specs.Tested.{testOf}
 use Rattle.letters.proofs.LetterTests.{test-passed, test-refused}
-use Rattle.gathering.proofs.RowSums.{rows-refused, rows-as}
-use Rattle.operators.proofs.Adding.{form-negated, negated-run}
+use Rattle.rows.proofs.RowForms.{rows-refused, rows-as}
+use Rattle.sums.proofs.Sums.{form-negated, negated-run}
 use Rattle.expressions.specs.declared.trees.Tree.{Tree}
 use Rattle.expressions.specs.Trees.{operandCount, testToken, testHead, binary, onOne, onTwo, onThree, workedOf, Sound, ReadAs, LeafAt, readLeaf, LeafSecond}
 use Rattle.expressions.proofs.Heads.{more, chain, read-is, chain-more, bytes-passed, own-byte}

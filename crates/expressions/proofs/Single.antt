@@ -21,9 +21,9 @@ use Rattle.theory.specs.Reduction.Work.{alone, letter-form, constant-form}
 use Rattle.integers.proofs.Machine.{back, back-is}
 use Rattle.terms.specs.declared.types.Term.{Term}
 use Rattle.terms.specs.Abstraction.{termOf}
-use Rattle.gathering.specs.declared.rows.Worked.{Worked}
-use Rattle.gathering.specs.Rows.{RowOf, termBy, termsBy, runOf, Light, RowsGive}
-use Rattle.gathering.proofs.RowSums.{rows-refused, rows-as}
+use Rattle.rows.specs.declared.Worked.{Worked}
+use Rattle.rows.specs.Rows.{RowOf, termBy, termsBy, runOf, Light, RowsGive}
+use Rattle.rows.proofs.RowForms.{rows-refused, rows-as}
 use Rattle.expressions.specs.Leaves.{TermAs}
 
 -- ════ at most one term

@@ -10,8 +10,8 @@ use Rattle.specification.specs.Results.{Result, Test, refused, given, _>>=_, _>
 use Rattle.specification.specs.Terms.{Form}
 use Rattle.specification.specs.Expressions.{Expr, tokenBytes, testBytes, readToken, readOperands, readTree}
 use Rattle.specification.specs.Reduction.{negateForm, sumForms, timesForms, dotForms, wedgeForms, tripleForms, work}
-use Rattle.gathering.specs.declared.rows.Worked.{Worked}
-use Rattle.gathering.specs.Rows.{formBy, FormRun, RowsGive}
+use Rattle.rows.specs.declared.Worked.{Worked}
+use Rattle.rows.specs.Rows.{formBy, FormRun, RowsGive}
 use Rattle.expressions.specs.declared.trees.Tree.{Tree}
 
 -- ════ tokens

@@ -5,23 +5,23 @@ ghost use Prim.Native.Nat.{ℕ, _≤_};
 ghost use mathlib.Core.Bool.{true};
 ghost use lib.ListN.{length, getD};
 ghost use Rattle.specification.specs.Expressions.{readTree};
-ghost use Rattle.gathering.specs.Rows.{Light, formBy, FormRun, RowsGive};
+ghost use Rattle.rows.specs.Rows.{Light, formBy, FormRun, RowsGive};
 ghost use Rattle.expressions.specs.Trees.{operandCount, binary, onOne, onTwo, onThree, workedOf, Sound, LeafAt, readLeaf, ReadAs, LeafSecond};
 use crate::leaves::constant;
 use crate::leaves::letter;
 use crate::tokens::operands;
 use crate::tokens::test_head;
-use gathering::rows::Worked;
 use integers::four_bytes_at;
 use letters::kind_of;
 use operators::products::dot;
 use operators::products::times;
 use operators::products::triple;
 use operators::products::wedge;
-use operators::results::refuse;
-use operators::sums::difference;
-use operators::sums::negate;
-use operators::sums::sum;
+use rows::Worked;
+use sums::adding::difference;
+use sums::adding::negate;
+use sums::adding::sum;
+use sums::results::refuse;
 
 // A tree: what reading refused, the position behind it, and what working gave.
 pub struct Tree {

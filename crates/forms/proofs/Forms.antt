@@ -18,10 +18,10 @@ use Rattle.terms.specs.declared.types.Form.{Form}
 use Rattle.terms.specs.Abstraction.{termOf, formOf, Counted}
 use Rattle.terms.specs.Valid.{TermValid, FormValid}
 use Rattle.forms.specs.Written.{FormWritten}
-use Rattle.records.specs.Written.{Written}
-use Rattle.records.proofs.Writes.{written-stores, written-then}
+use Rattle.record_writing.specs.Written.{Written}
+use Rattle.record_writing.proofs.Writes.{written-stores, written-then}
 use Rattle.terms.proofs.Arrays.{all-at}
-use Rattle.records.proofs.Factors.{joined-append}
+use Rattle.record_writing.proofs.Factors.{joined-append}
 
 -- ════ the terms
 

@@ -11,11 +11,11 @@ ghost use Rattle.forms.specs.Reading.{behindLast, readBehind, TermsTaken
 ghost use Rattle.forms.specs.Written.{FormWritten};
 ghost use Rattle.records.specs.Reading.{TermRead};
 use letters::test_terms;
+use record_writing::write_term;
 use records::read::TermReading;
 use records::read::read_term;
 use records::read::refuse;
 use records::read::room;
-use records::write::write_term;
 use terms::build::no_term;
 use terms::order::compare;
 use terms::order::is_less;

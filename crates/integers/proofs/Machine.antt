@@ -2,7 +2,7 @@
 -- Assumes nothing.
 use mathlib.Core.Path.{_≡_, refl, ap, sym, _∙_}
 use mathlib.Core.Bool.{Bool, true, false, true≢false}
-use Prim.Native.Nat.{ℕ, zero, suc, _^_, _<_}
+use Prim.Native.Nat.{ℕ, zero, suc, _^_, _<_, _≤_}
 use native.Mathlib.Omega.{arith}
 use lib.IntN.{ℤ, pos, negsuc, natAbs, negℤ, _-ℤ_, +ℤ-idl}
 use lib.Signed.{ltZ, leZ}
@@ -14,7 +14,7 @@ use mir.ValLaws.{toZ-ofZ}
 use Rattle.specification.specs.Terms.{isZero, coefWithin}
 use Rattle.specification.specs.Records.{isOne}
 use Rattle.specification.specs.Logs.{sameCoef}
-use Rattle.algebra.specs.Integers.{sfits-diff}
+use Rattle.algebra.specs.Integers.{sfits-natAbs, sfits-diff}
 use Rattle.integers.specs.Arithmetic.{isNegative}
 
 -- ════ reading back
@@ -26,6 +26,18 @@ back z = toZ w64 (ofZ w64 z)
 -- it is z, where z fits
 pub back-is : {z : ℤ} → SFits w64 z → back z ≡ z
 back-is {z} h = toZ-ofZ w64 z h
+
+-- a number that fits is read back
+pub fits-back : (z : ℤ) → natAbs z < 2 ^ 63 → back z ≡ z
+fits-back z h = back-is (sfits-natAbs z h)
+
+-- so is 1, 0 and −1
+pub unit-back : (z : ℤ) → natAbs z ≤ 1 → back z ≡ z
+unit-back z h = fits-back z (omega arith)
+
+-- a coefficient within is read back as it is
+pub size-asks : (z : ℤ) → natAbs z ≤ 2147483647 → natAbs (back z) < 2 ^ 63
+size-asks z h = rw (back-is (sfits-natAbs z (omega arith))) (omega arith)
 
 -- an operation on two numbers that fit, as its result does
 module _ (op : ℤ → ℤ → ℤ) {a b : ℤ} (ha : SFits w64 a) (hb : SFits w64 b) (h : SFits w64 (op a b)) where

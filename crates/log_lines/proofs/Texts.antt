@@ -16,8 +16,8 @@ use Rattle.terms.specs.declared.types.Form.{Form}
 use Rattle.terms.specs.Abstraction.{termOf, formOf}
 use Rattle.terms.specs.Valid.{TermValid, FormValid}
 use Rattle.terms.proofs.Arrays.{rest-at, nothing-left}
-use Rattle.records.specs.Written.{Written}
-use Rattle.records.proofs.Writes.{written-store, written-then}
+use Rattle.record_writing.specs.Written.{Written}
+use Rattle.record_writing.proofs.Writes.{written-store, written-then}
 use Rattle.rules.specs.declared.steps.Step.{Step}
 use Rattle.rules.specs.Steps.{stepOf}
 use Rattle.theory.specs.Records.Lengths.{letters-few}

@@ -5,7 +5,7 @@ ghost use lib.ListN.{length, take};
 ghost use Rattle.specification.specs.Results.{given};
 ghost use Rattle.specification.specs.Printing.{printResult, printLetters, printRule, printMultiplier, printStep, printSteps, linesBytes, TextWritten};
 ghost use Rattle.terms.specs.Abstraction.{termOf, formOf};
-ghost use Rattle.records.specs.Written.{Written};
+ghost use Rattle.record_writing.specs.Written.{Written};
 ghost use Rattle.rules.specs.Steps.{stepOf};
 ghost use Rattle.logs.specs.Steps.{stepsOf};
 ghost use Rattle.symbols.specs.Printable.{Printed, TermPrintable, Printable};

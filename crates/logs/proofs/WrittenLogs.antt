@@ -20,9 +20,9 @@ use Rattle.integers.proofs.Over.{over-nil}
 use Rattle.terms.specs.Abstraction.{termOf}
 use Rattle.terms.proofs.Arrays.{all-at, mapped-behind}
 use Rattle.forms.specs.Written.{FormWritten}
-use Rattle.records.specs.Written.{Written}
-use Rattle.records.proofs.Writes.{written-store, written-then, written-length}
-use Rattle.records.proofs.Factors.{joined-append}
+use Rattle.record_writing.specs.Written.{Written}
+use Rattle.record_writing.proofs.Writes.{written-store, written-then, written-length}
+use Rattle.record_writing.proofs.Factors.{joined-append}
 use Rattle.forms.proofs.Forms.{front-is}
 use Rattle.rules.specs.declared.steps.Step.{Step}
 use Rattle.rules.specs.Steps.{stepOf, StepValid}

@@ -19,9 +19,9 @@ use Rattle.terms.specs.declared.factors.Factor.{Factor}
 use Rattle.terms.specs.declared.factors.Factor.the-variants.{Scalar, Dot, Triple}
 use Rattle.terms.specs.Abstraction.{factorOf, partOf, termOf}
 use Rattle.terms.proofs.Arrays.{rest-at, nothing-left}
-use Rattle.gathering.specs.Rows.{termBy, runOf, Run}
-use Rattle.gathering.proofs.RowRuns.{run-length, run-at}
-use Rattle.rules.specs.Table.{letter}
+use Rattle.rows.specs.Rows.{termBy, runOf, Run}
+use Rattle.rows.proofs.Runs.{run-length, run-at}
+use Rattle.rule_table.specs.Table.{letter}
 use Rattle.marking.specs.Marks.{letterMark, lettersMark, factorsMark, markOf, sizeMark, Shows, Covering, Joint, LettersMarked, placesMark, rowMark, rowPartMark, productMark}
 use Rattle.marking.proofs.MarkedTerms.{mark-small, shows-some}
 use Rattle.terms.proofs.Letters.{scalar-is, dot-is, triple-is}

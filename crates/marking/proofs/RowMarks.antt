@@ -21,7 +21,7 @@ use Rattle.theory.specs.Order.{nat-laws}
 use Rattle.theory.specs.Sorting as O
 use Rattle.theory.specs.Signs.{pair-lt, pair-gt}
 use Rattle.theory.specs.Shape.Terms.{term-opens, in-shape-tidy}
-use Rattle.rules.specs.Table.{ruleRows, letter, letterAt, factorLetters, factorAt, partAt, rowSign, rowTerm}
+use Rattle.rule_table.specs.Table.{ruleRows, letter, letterAt, factorLetters, factorAt, partAt, rowSign, rowTerm}
 use Rattle.marking.specs.Marks.{letterMark, lettersMark, factorsMark, markOf, LettersMarked, placesMark, rowMark, rowPartMark, productMark, Differing, RowStands}
 use Rattle.marking.proofs.MarkedTerms.{factors-joined, mark-product}
 

@@ -10,7 +10,7 @@ use lib.ListN.{length, getD}
 use Rattle.specification.specs.Results.{if_then_else_}
 use Rattle.specification.specs.Terms as S
 use Rattle.theory.specs.Elements.{All}
-use Rattle.rules.specs.Table.{letter}
+use Rattle.rule_table.specs.Table.{letter}
 
 -- the mark of a letter; those of the 24 letters are not 0 and differ
 unfoldable pub letterMark : ℕ → ℕ

@@ -20,11 +20,11 @@ use Rattle.theory.specs.Rules.Table.{stepTerms-rule}
 use Rattle.terms.specs.declared.types.Term.{Term}
 use Rattle.terms.specs.Abstraction.{termOf}
 use Rattle.terms.proofs.Arrays.{mapped-behind}
-use Rattle.gathering.specs.Rows.{isLike}
+use Rattle.gathering.specs.Bringing.{isLike}
 use Rattle.rules.specs.declared.steps.Step.{Step}
-use Rattle.rules.specs.Table.{ruleRows, rowTerm, firstRow, rowCount}
+use Rattle.rule_table.specs.Table.{ruleRows, rowTerm, firstRow, rowCount}
 use Rattle.rules.specs.Steps.{stepOf, StepValid}
-use Rattle.rules.proofs.Tied.{tied, row-next, row-all}
+use Rattle.rule_table.proofs.Tied.{tied, row-next, row-all}
 use Rattle.rules.proofs.Taking.{rows}
 use Rattle.marking.specs.Marks.{markOf}
 use Rattle.marks.specs.Steps.{RowGained}

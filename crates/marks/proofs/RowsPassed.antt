@@ -24,9 +24,9 @@ use Rattle.theory.specs.Rules.Table.{stepTerms-rule}
 use Rattle.terms.specs.Abstraction.{termOf}
 use Rattle.terms.proofs.Arrays.{stored-behind, mapped-behind}
 use Rattle.rules.specs.declared.steps.Step.{Step}
-use Rattle.rules.specs.Table.{ruleRows, rowSign, rowTerm, rowTerms, firstRow, rowCount, RowsOf}
+use Rattle.rule_table.specs.Table.{ruleRows, rowSign, rowTerm, rowTerms, firstRow, rowCount, RowsOf}
 use Rattle.rules.specs.Steps.{stepOf, StepValid, StepFits}
-use Rattle.rules.proofs.Tied.{tied, rows-inside, row-next, row-given}
+use Rattle.rule_table.proofs.Tied.{tied, rows-inside, row-next, row-given}
 use Rattle.rules.proofs.Taking.{rows, row-fits}
 use Rattle.marks.specs.declared.steps.StepMarks.{StepMarks}
 use Rattle.marking.specs.Marks.{markOf, Shows, Covering, Sized, LettersMarked, productMark, SurelyKept, Scored}

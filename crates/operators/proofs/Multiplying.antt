@@ -30,18 +30,18 @@ use Rattle.terms.specs.Abstraction.{termOf, Counted}
 use Rattle.terms.proofs.Arrays.{mapped-behind}
 use Rattle.letters.specs.Tested.{testOf}
 use Rattle.letters.proofs.LetterTests.{test-passed, test-refused}
-use Rattle.gathering.specs.declared.rows.Worked.{Worked}
-use Rattle.gathering.specs.Rows.{termBy, termsBy, runOf, Run, Light, formBy, RowsGive}
-use Rattle.gathering.proofs.RowRuns.{run-length}
-use Rattle.gathering.proofs.RowSums.{light-more, rows-refused, rows-as}
+use Rattle.rows.specs.declared.Worked.{Worked}
+use Rattle.rows.specs.Rows.{termBy, termsBy, runOf, Run, Light, formBy, RowsGive}
+use Rattle.rows.proofs.Runs.{run-length}
+use Rattle.rows.proofs.RowForms.{light-more, rows-refused, rows-as}
 use Rattle.pairing.specs.declared.parts.Few.{Few}
 use Rattle.pairing.specs.declared.parts.Operation.{Operation}
 use Rattle.pairing.specs.declared.parts.Operation.the-variants.{Times, Dot, Wedge}
 use Rattle.pairing.specs.Parts.{partsOf, listOf, Together}
-use Rattle.operators.specs.Limits.{testPairs}
-use Rattle.operators.specs.Results.{Brought, GatheredRows}
+use Rattle.pair_limits.specs.Limits.{testPairs}
+use Rattle.sums.specs.Results.{Brought, GatheredRows}
 use Rattle.operators.specs.Products.{PairFits, Pair, PairMade, rowTerms, pairsBound, fewBound, PairsFit, Kinds, Operands}
-use Rattle.operators.proofs.Bringing.{run-taken, run-all, run-holds, brought-none, brought-both, brought-as}
+use Rattle.sums.proofs.Bringing.{run-taken, run-all, run-holds, brought-none, brought-both, brought-as}
 
 -- ════ at most two terms brought in
 

@@ -16,7 +16,7 @@ use Rattle.specification.specs.Reduction.{joinedScalars, pairTerms, pairLetters
 use Rattle.theory.specs.Tests.{and-split}
 use Rattle.terms.specs.declared.types.Term.{Term}
 use Rattle.terms.specs.Abstraction.{partOf, termOf, Counted}
-use Rattle.terms.specs.Tidy.{Joined}
+use Rattle.tidying.specs.Sorted.{Joined}
 use Rattle.terms.proofs.InShape.{factors-count}
 use Rattle.pairing.specs.declared.parts.Operation.{Operation}
 use Rattle.pairing.specs.declared.parts.Few.{Few}

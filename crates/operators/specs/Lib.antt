@@ -1,4 +1,2 @@
 -- What the contracts cite.
-pub mod Results
-pub mod Limits
 pub mod Products

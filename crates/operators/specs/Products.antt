@@ -11,7 +11,8 @@ use Rattle.specification.specs.Reduction.{pairTerms, pairLettersFit, pairCoefFi
 use Rattle.theory.specs.Elements.{All}
 use Rattle.terms.specs.declared.types.Term.{Term}
 use Rattle.terms.specs.Abstraction.{termOf, Counted}
-use Rattle.gathering.specs.Rows.{FormRun, Bringable}
+use Rattle.rows.specs.Rows.{FormRun}
+use Rattle.gathering.specs.Bringing.{Bringable}
 use Rattle.pairing.specs.declared.parts.Few.{Few}
 use Rattle.pairing.specs.declared.parts.Operation.{Operation}
 use Rattle.pairing.specs.declared.parts.Operation.the-variants.{Times, Dot, Wedge}

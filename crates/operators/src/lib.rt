@@ -1,5 +1,2 @@
-// The operators on forms in lent rows: sum, difference, negation, times, dot, wedge and triple, each with its refusals.
-pub mod limits;
+// The products of forms in lent rows: times, dot, wedge and triple, each with its refusals.
 pub mod products;
-pub mod results;
-pub mod sums;

@@ -5,22 +5,23 @@ ghost use lib.ListN.{length};
 ghost use Rattle.specification.specs.Reduction.{pairTerms, pairsOf, product, timesForms, dotForms, wedgeForms, tripleForms};
 ghost use Rattle.theory.specs.Elements.{All};
 ghost use Rattle.terms.specs.Abstraction.{termOf, Counted};
-ghost use Rattle.gathering.specs.Rows.{runOf, Run, Light, formBy, FormRun, RowsGive, Bringable};
+ghost use Rattle.rows.specs.Rows.{runOf, Run, Light, formBy, FormRun, RowsGive};
+ghost use Rattle.gathering.specs.Bringing.{Bringable};
 ghost use Rattle.pairing.specs.Parts.{partsOf, listOf};
-ghost use Rattle.operators.specs.Results.{Brought};
+ghost use Rattle.sums.specs.Results.{Brought};
 ghost use Rattle.operators.specs.Products.{Scalars, Pair, PairMade, PairFits, rowTerms, PairsFit, Operands, fewBound, pairsBound};
-use crate::limits::test_pairs;
-use crate::results::close;
-use crate::results::refuse;
 use gathering::bringing::bring_term;
-use gathering::rows::Worked;
-use gathering::rows::term_of;
+use pair_limits::test_pairs;
 use pairing::parts::Few;
 use pairing::parts::Operation;
 use pairing::parts::parts;
-use terms::tidy::join;
+use rows::Worked;
+use rows::term_of;
+use sums::results::close;
+use sums::results::refuse;
 use terms::types::Part;
 use terms::types::Term;
+use tidying::join;
 
 // A term without its vector part.
 fn scalars(t: Term) -> Term

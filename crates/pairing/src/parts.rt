@@ -11,9 +11,9 @@ ghost use Rattle.terms.specs.Abstraction.{partOf, termOf};
 ghost use Rattle.pairing.specs.Parts.{partsOf, Small, Made, FewMade, Together};
 use terms::factors::dot_number;
 use terms::factors::triple_number;
-use terms::tidy::join_parts;
 use terms::types::Part;
 use terms::types::Term;
+use tidying::join_parts;
 
 // The operation of a product.
 pub enum Operation {

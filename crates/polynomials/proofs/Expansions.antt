@@ -24,7 +24,7 @@ use Rattle.terms.specs.declared.types.Term.{Term}
 use Rattle.terms.specs.Numbers.{lettersOf}
 use Rattle.terms.specs.Abstraction.{partOf, termOf}
 use Rattle.terms.proofs.Arrays.{rest-at, nothing-left, all-at}
-use Rattle.records.proofs.Terms.{coef-size}
+use Rattle.record_writing.proofs.Terms.{coef-size}
 use Rattle.polynomials.specs.declared.expansion.Piece.{Piece}
 use Rattle.polynomials.specs.declared.expansion.Block.{Block}
 use Rattle.polynomials.specs.declared.expansion.Block.the-variants.{Zero, One}

@@ -19,8 +19,8 @@ use Rattle.terms.specs.Numbers.{lettersOf}
 use Rattle.terms.specs.Abstraction.{termOf, formOf}
 use Rattle.terms.specs.Valid.{TermValid}
 use Rattle.terms.proofs.Arrays.{all-at, rest-at, nothing-left}
-use Rattle.records.specs.Written.{Written}
-use Rattle.records.proofs.Writes.{written-store, written-then, written-length}
+use Rattle.record_writing.specs.Written.{Written}
+use Rattle.record_writing.proofs.Writes.{written-store, written-then, written-length}
 use Rattle.forms.proofs.Forms.{term-at}
 use Rattle.symbols.specs.Printable.{Printed, TermPrinted, TermPrintable, Printable}
 use Rattle.symbols.specs.Text.{printFactors, StarWritten}

@@ -5,7 +5,7 @@ ghost use lib.ListN.{length, take, drop};
 ghost use Rattle.specification.specs.Results.{refused, given};
 ghost use Rattle.specification.specs.Printing.{printTerm, printTerms, printForm, lineBytes, printResult, TextWritten};
 ghost use Rattle.terms.specs.Abstraction.{termOf, formOf};
-ghost use Rattle.records.specs.Written.{Written};
+ghost use Rattle.record_writing.specs.Written.{Written};
 ghost use Rattle.symbols.specs.Printable.{TermPrintable, Printable};
 ghost use Rattle.symbols.specs.Text.{printFactors};
 use symbols::print_decimal;

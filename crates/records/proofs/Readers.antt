@@ -21,7 +21,7 @@ use Rattle.terms.specs.declared.types.Term.{Term}
 use Rattle.terms.specs.Numbers.{lettersOf, FactorNumber}
 use Rattle.terms.specs.Abstraction.{partOf, termOf, Counted}
 use Rattle.terms.specs.Build.{behind, Appended}
-use Rattle.terms.proofs.Joins.{appended-one}
+use Rattle.terms.proofs.Appending.{appended-one}
 use Rattle.records.specs.declared.read.Fields.{Fields}
 use Rattle.records.specs.declared.read.TermReading.{TermReading}
 use Rattle.records.specs.Reading.{readOf, listed, fieldsOf, FieldsRefused, coefStep, CoefRead, factorsStep, withPart, partStep, shapeStep, restOf, readFields, Stepped, TermRead}

@@ -1,3 +1,2 @@
 -- What the contracts cite.
 pub mod Reading
-pub mod Written

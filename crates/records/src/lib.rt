@@ -1,3 +1,2 @@
-// Term records: read at a position of any bytes, and written into lent bytes.
+// Term records read at a position of any bytes.
 pub mod read;
-pub mod write;

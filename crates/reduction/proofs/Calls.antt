@@ -21,7 +21,7 @@ use Rattle.letters.proofs.LetterTests.{test-passed, test-refused}
 use Rattle.forms.specs.Written.{FormWritten}
 use Rattle.terms.specs.Valid.{Gives}
 use Rattle.terms.proofs.Outcomes.{refuses, works-as, worked-given, worked-refused}
-use Rattle.gathering.specs.Rows.{OutcomeOf}
+use Rattle.rows.specs.Rows.{OutcomeOf}
 use Rattle.expressions.specs.declared.trees.Tree.{Tree}
 use Rattle.reduction.specs.declared.Reduced.the-variants.{Written, Refused}
 use Rattle.reduction.specs.Answers.{reducedOf}

@@ -6,8 +6,8 @@ ghost use Rattle.reduction.specs.Answers.{reducedOf};
 use expressions::trees::read_tree;
 use forms::FORM_BYTES;
 use forms::write_form;
-use gathering::rows::outcome;
 use letters::check_table;
+use rows::outcome;
 use terms::build::refuse;
 use terms::types::Outcome;
 

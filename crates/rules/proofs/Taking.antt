@@ -31,14 +31,16 @@ use Rattle.terms.proofs.Arrays.{mapped-behind}
 use Rattle.terms.specs.declared.shape.Used.{Used}
 use Rattle.terms.specs.Used.{UsedBy}
 use Rattle.terms.proofs.InShape.{factors-count}
-use Rattle.gathering.specs.Rows.{termBy, RowOf, runOf, Run, Light, formBy, FormRun, BroughtIn, RunTested, RowsGive, limitedOf}
-use Rattle.gathering.proofs.RowSums.{light-more}
+use Rattle.rows.specs.Rows.{termBy, RowOf, runOf, Run, Light, formBy, FormRun, RowsGive}
+use Rattle.gathering.specs.Bringing.{BroughtIn}
+use Rattle.limits.specs.Limits.{RunTested, limitedOf}
+use Rattle.rows.proofs.RowForms.{light-more}
 use Rattle.letters.specs.Tested.{testOf}
 use Rattle.letters.proofs.LetterTests.{test-passed, test-refused}
 use Rattle.rules.specs.declared.steps.Step.{Step}
-use Rattle.rules.specs.Table.{ruleRows, partAt, rowTerm, rowTerms, firstRow, rowCount, TimesRow}
+use Rattle.rule_table.specs.Table.{ruleRows, partAt, rowTerm, rowTerms, firstRow, rowCount, TimesRow}
 use Rattle.rules.specs.Steps.{stepOf, StepValid, stepTests, StepFits, StepBrought}
-use Rattle.rules.proofs.Tied.{tied, row-next, row-all, row-at}
+use Rattle.rule_table.proofs.Tied.{tied, row-next, row-all, row-at}
 
 -- ════ the tests
 

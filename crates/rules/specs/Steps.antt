@@ -11,7 +11,7 @@ use Rattle.specification.specs.Rules.{ruleLetters, isRule, stepKindsFit, stepTe
 use Rattle.specification.specs.Rules as R
 use Rattle.terms.specs.Abstraction.{termOf}
 use Rattle.terms.specs.Valid.{TermValid}
-use Rattle.gathering.specs.Rows.{runOf, Run, Light}
+use Rattle.rows.specs.Rows.{runOf, Run, Light}
 use Rattle.rules.specs.declared.steps.Step.{Step}
 
 -- a step, with as many letters as its rule has

@@ -5,15 +5,15 @@ ghost use lib.ListN.{length, take};
 ghost use Rattle.specification.specs.Letters.{vector, testLetters};
 ghost use Rattle.specification.specs.Rules.{isRule, testStepLetters, stepAt};
 ghost use Rattle.terms.specs.Abstraction.{Counted};
-ghost use Rattle.gathering.specs.Rows.{formBy, FormRun, RowsGive};
+ghost use Rattle.rows.specs.Rows.{formBy, FormRun, RowsGive};
 ghost use Rattle.letters.specs.Tested.{testOf};
 ghost use Rattle.rules.specs.Steps.{stepOf};
 use crate::steps::Step;
 use crate::steps::rule_letters;
 use crate::steps::take_step;
-use gathering::rows::Worked;
 use letters::test_letter;
 use letters::test_term;
+use rows::Worked;
 use terms::shape::in_shape;
 
 // Whether a number is that of a rule.

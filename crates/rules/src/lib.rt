@@ -1,4 +1,3 @@
-// The five rules, and steps by them.
+// Steps by the five rules.
 pub mod admissible;
 pub mod steps;
-pub mod table;

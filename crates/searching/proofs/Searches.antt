@@ -29,9 +29,9 @@ use Rattle.terms.specs.declared.types.Term.{Term}
 use Rattle.terms.specs.Abstraction.{termOf, Counted}
 use Rattle.terms.specs.Valid.{TermValid}
 use Rattle.terms.specs.Numbers.{lettersOf}
-use Rattle.gathering.specs.declared.rows.Worked.{Worked}
-use Rattle.gathering.specs.Rows.{headOf, factorsOf, termBy, runOf, formBy, FormRun, RowsGive}
-use Rattle.gathering.proofs.RowRuns.{run-length, run-at}
+use Rattle.rows.specs.declared.Worked.{Worked}
+use Rattle.rows.specs.Rows.{headOf, factorsOf, termBy, runOf, formBy, FormRun, RowsGive}
+use Rattle.rows.proofs.Runs.{run-length, run-at}
 use Rattle.rules.specs.declared.steps.Step.{Step}
 use Rattle.rules.specs.Steps.{stepOf}
 use Rattle.rules.proofs.Taking.{few-letters}

@@ -10,7 +10,7 @@ use Rattle.specification.specs.Terms.{Form}
 use Rattle.specification.specs.Rules.{stepAt}
 use Rattle.theory.specs.Shape.Letters.{AllKnown}
 use Rattle.theory.specs.Shortening.Candidates.{NoCandidate}
-use Rattle.gathering.specs.Rows.{formBy, FormRun}
+use Rattle.rows.specs.Rows.{formBy, FormRun}
 use Rattle.rules.specs.Steps.{stepOf, StepValid}
 use Rattle.searching.specs.declared.searching.Found.{Found}
 

@@ -30,9 +30,9 @@ use Rattle.terms.specs.declared.types.Form.{Form}
 use Rattle.terms.specs.Abstraction.{formOf}
 use Rattle.terms.specs.Valid.{FormValid}
 use Rattle.terms.proofs.Arrays.{stored-behind, mapped-behind}
-use Rattle.gathering.specs.Rows.{runOf, formBy, HeldIn, FormOfRun}
-use Rattle.gathering.proofs.RowRuns.{run-length}
-use Rattle.gathering.proofs.RowSums.{form-valid, held-is}
+use Rattle.rows.specs.Rows.{runOf, formBy, HeldIn, FormOfRun}
+use Rattle.rows.proofs.Runs.{run-length}
+use Rattle.rows.proofs.RowForms.{form-valid, held-is}
 use Rattle.rules.specs.declared.steps.Step.{Step}
 use Rattle.rules.specs.Steps.{stepOf, StepValid}
 use Rattle.marking.specs.Marks.{Covering}

@@ -19,7 +19,7 @@ use Rattle.theory.specs.Shortening.Candidates.{NoCandidate}
 use Rattle.terms.specs.declared.types.Form.{Form}
 use Rattle.terms.specs.Abstraction.{formOf}
 use Rattle.terms.specs.Valid.{FormValid}
-use Rattle.gathering.specs.Rows.{runOf, formBy, FormRun}
+use Rattle.rows.specs.Rows.{runOf, formBy, FormRun}
 use Rattle.rules.specs.declared.steps.Step.{Step}
 use Rattle.rules.specs.Steps.{stepOf, StepValid}
 use Rattle.logs.specs.Steps.{stepsOf, StepsValid}

@@ -3,15 +3,15 @@
 ghost use Prim.Native.Nat.{_≤_};
 ghost use lib.ListN.{length};
 ghost use Rattle.terms.specs.Valid.{FormValid};
-ghost use Rattle.gathering.specs.Rows.{FormRun};
+ghost use Rattle.rows.specs.Rows.{FormRun};
 ghost use Rattle.shortening.specs.Derived.{RoundsTaken, Derived};
-use gathering::rows::copy;
-use gathering::rows::form_of;
-use gathering::rows::hold;
 use logs::steps::Steps;
 use logs::steps::no_step;
 use marking::marking::mark_rows;
 use marks::steps::mark_reached;
+use rows::copy;
+use rows::form_of;
+use rows::hold;
 use searching::searching::search;
 use terms::types::Form;
 

@@ -10,8 +10,8 @@ use lib.ListN.{length, set, length-append}
 use borrow.Author.Tests.{lt-ltb, le-ltb}
 use Rattle.specification.specs.Results.{if_then_else_}
 use Rattle.specification.specs.Printing.{digits, decimal}
-use Rattle.records.specs.Written.{Written}
-use Rattle.records.proofs.Writes.{written-store, written-then, written-length}
+use Rattle.record_writing.specs.Written.{Written}
+use Rattle.record_writing.proofs.Writes.{written-store, written-then, written-length}
 
 -- one digit
 pub decimal-one : (n : ℕ) → n < 10 → decimal n ≡ (48 + n) ∷ []

@@ -19,8 +19,8 @@ use Rattle.terms.specs.declared.types.Part.the-variants.{Nothing, Letter, Wedge
 use Rattle.terms.specs.declared.types.Term.{Term}
 use Rattle.terms.specs.Numbers.{lettersOf}
 use Rattle.terms.specs.Abstraction.{factorOf, partOf, termOf}
-use Rattle.records.specs.Written.{Written}
-use Rattle.records.proofs.Writes.{written-none, written-store}
+use Rattle.record_writing.specs.Written.{Written}
+use Rattle.record_writing.proofs.Writes.{written-none, written-store}
 use Rattle.terms.proofs.Letters.{scalar-is, dot-is, triple-is, nothing-is, letter-is, wedge-is}
 use Rattle.symbols.specs.Printable.{Printed}
 use Rattle.symbols.specs.Text.{printFactors, printOthers, pairText, isLeftOut, tripleText, StarWritten}

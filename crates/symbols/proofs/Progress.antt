@@ -4,8 +4,8 @@ use mathlib.Core.List.{List, [], _++_}
 use Prim.Native.Nat.{ℕ, _+_, _≤_}
 use native.Mathlib.Omega.{arith}
 use lib.ListN.{length}
-use Rattle.records.specs.Written.{Written}
-use Rattle.records.proofs.Writes.{written-none, written-then, written-length}
+use Rattle.record_writing.specs.Written.{Written}
+use Rattle.record_writing.proofs.Writes.{written-none, written-then, written-length}
 
 -- from the bytes l on, the bytes m are reached at a position k: whoever writes the rest there has written all
 pub record UnderWay (l m : List ℕ) (at k : ℕ) (all rest : List ℕ) : Type 0 where

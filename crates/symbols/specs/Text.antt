@@ -8,7 +8,7 @@ use lib.ListN.{length}
 use Rattle.specification.specs.Lists.{joined}
 use Rattle.specification.specs.Terms.{Term}
 use Rattle.specification.specs.Printing.{printLetter, printFactor, printPart, isNothing, printStar}
-use Rattle.records.specs.Written.{Written}
+use Rattle.record_writing.specs.Written.{Written}
 
 -- two letters with a mark between them
 abbrev pub pairText : (x mark y : ℕ) → List ℕ

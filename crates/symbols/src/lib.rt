@@ -6,7 +6,7 @@ ghost use Rattle.specification.specs.Printing.{printLetter, decimal, printFacto
 ghost use Rattle.terms.specs.Numbers.{lettersOf};
 ghost use Rattle.terms.specs.Abstraction.{partOf, termOf, Counted};
 ghost use Rattle.terms.specs.Valid.{TermValid};
-ghost use Rattle.records.specs.Written.{Written};
+ghost use Rattle.record_writing.specs.Written.{Written};
 ghost use Rattle.symbols.specs.Printable.{Printed};
 ghost use Rattle.symbols.specs.Text.{printOthers, isLeftOut, pairText, tripleText, StarWritten};
 use integers::is_negative;

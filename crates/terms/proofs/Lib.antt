@@ -6,8 +6,6 @@ pub mod Orders
 pub mod Shift
 pub mod Places
 pub mod InShape
-pub mod Exchanges
-pub mod Tidying
-pub mod Joins
 pub mod Forms
 pub mod Outcomes
+pub mod Appending

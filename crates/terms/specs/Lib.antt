@@ -4,4 +4,3 @@ pub mod Abstraction
 pub mod Build
 pub mod Valid
 pub mod Used
-pub mod Tidy

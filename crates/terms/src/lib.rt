@@ -1,7 +1,6 @@
-// Terms and forms as data: numbers for factors, the order of terms, and terms put in the order of forms.
+// Terms and forms as data: numbers for factors, the order of terms, their shape.
 pub mod build;
 pub mod factors;
 pub mod order;
 pub mod shape;
-pub mod tidy;
 pub mod types;

@@ -3,8 +3,7 @@ use Prim.Native.Nat.{_*_, _^_, _≤_, _<_}
 use native.Mathlib.Omega.{arith}
 use lib.IntN.{ℤ, natAbs}
 use borrow.Author.Needs.{needs}
-use Rattle.integers.proofs.Machine.{back}
-use Rattle.terms.proofs.Exchanges.{fits-back}
+use Rattle.integers.proofs.Machine.{back, fits-back}
 use Rattle.evaluation.specs.Vectors.{vecOf}
 use Rattle.case_lines.proofs.print_vector.Statement.{statement}
 use Rattle.case_lines.proofs.print_vector.Tie as tie

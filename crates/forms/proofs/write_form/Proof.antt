@@ -4,8 +4,8 @@ use mathlib.Core.Path.{_≡_, refl, sym, _∙_}
 use Prim.Native.Nat.{_+_, _-_, _*_, _≤_, _<_}
 use native.Mathlib.Omega.{arith}
 use lib.ListN.{length, take, length-map, length-set}
-use Rattle.records.specs.Written.{Written}
-use Rattle.records.proofs.Writes.{written-none}
+use Rattle.record_writing.specs.Written.{Written}
+use Rattle.record_writing.proofs.Writes.{written-none}
 use Rattle.forms.proofs.Forms.{records, records-none, term-at, record-within, record-written, form-written}
 use Rattle.forms.proofs.write_form.Statement.{statement}
 use Rattle.forms.proofs.write_form.Tie as tie

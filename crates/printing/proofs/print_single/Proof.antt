@@ -4,7 +4,7 @@ use native.Mathlib.Omega.{arith}
 use borrow.Author.Needs.{needs}
 use Rattle.specification.specs.Printing.{printFirstSign}
 use Rattle.integers.proofs.Machine.{back-is}
-use Rattle.records.specs.Written.{Written}
+use Rattle.record_writing.specs.Written.{Written}
 use Rattle.symbols.proofs.Pieces.{first-short}
 use Rattle.symbols.proofs.Progress.{written-as}
 use Rattle.printing.proofs.Texts.{single-written}

@@ -7,8 +7,8 @@ use Rattle.specification.specs.Printing.{printSign}
 use Rattle.integers.proofs.Machine.{back-is}
 use Rattle.terms.specs.declared.types.Term.{Term}
 use Rattle.terms.proofs.Arrays.{noTerm}
-use Rattle.records.specs.Written.{Written}
-use Rattle.records.proofs.Writes.{written-then}
+use Rattle.record_writing.specs.Written.{Written}
+use Rattle.record_writing.proofs.Writes.{written-then}
 use Rattle.symbols.specs.Printable.{TermPrintable}
 use Rattle.symbols.proofs.Pieces.{later-short}
 use Rattle.symbols.proofs.Progress.{UnderWay, written-as, begins, goes-on, ended}

@@ -7,7 +7,7 @@ use lib.ListN.{length, length-set}
 use borrow.Author.Needs.{needs}
 use borrow.Fn.Kinds.{In}
 use borrow.Fn.PlainCycle.{Measures, is, falls, and}
-use Rattle.records.proofs.Writes.{written-stores}
+use Rattle.record_writing.proofs.Writes.{written-stores}
 use Rattle.symbols.proofs.Decimals.{digit-is, tenth-room, last-written}
 use Rattle.symbols.proofs.digit.Reads as digit
 use Rattle.symbols.proofs.print_decimal.Reads as reads

@@ -3,7 +3,7 @@ use mathlib.Core.Path.{refl, ap}
 use mathlib.Core.List.{[], _∷_}
 use native.Mathlib.Omega.{arith}
 use lib.ListN.{length}
-use Rattle.records.proofs.Writes.{written-stores}
+use Rattle.record_writing.proofs.Writes.{written-stores}
 use Rattle.symbols.proofs.Pieces.{scalar-text, dot-text, triple-text, letter-stored}
 use Rattle.symbols.proofs.Progress.{written-as}
 use borrow.Author.Needs.{needs}

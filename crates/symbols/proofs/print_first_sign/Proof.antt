@@ -4,7 +4,7 @@ use mathlib.Core.List.{[], _∷_}
 use borrow.Author.Needs.{needs}
 use Rattle.integers.specs.Arithmetic.{isNegative}
 use Rattle.integers.proofs.Machine.{back-is}
-use Rattle.records.proofs.Writes.{written-none, written-stores}
+use Rattle.record_writing.proofs.Writes.{written-none, written-stores}
 use Rattle.symbols.proofs.Pieces.{stored-room, first-minus, first-plus}
 use Rattle.symbols.proofs.print_first_sign.Statement.{statement}
 use Rattle.symbols.proofs.print_first_sign.Tie as tie

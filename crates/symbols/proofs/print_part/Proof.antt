@@ -4,7 +4,7 @@ use mathlib.Core.List.{[], _∷_}
 use native.Mathlib.Omega.{arith}
 use lib.ListN.{length}
 use borrow.Author.Needs.{needs}
-use Rattle.records.proofs.Writes.{written-none, written-stores}
+use Rattle.record_writing.proofs.Writes.{written-none, written-stores}
 use Rattle.symbols.proofs.Pieces.{nothing-text, letter-text, wedge-text, letter-named, wedge-named, letter-stored}
 use Rattle.symbols.proofs.Progress.{written-as}
 use Rattle.symbols.proofs.print_part.Statement.{statement}

@@ -7,8 +7,8 @@ use borrow.Author.Needs.{needs}
 use mir.Syntax.{w64}
 use mir.Val.{SFits}
 use Rattle.integers.proofs.Machine.{back-is}
-use Rattle.records.proofs.Writes.{written-none}
-use Rattle.records.proofs.Terms.{coef-size}
+use Rattle.record_writing.proofs.Writes.{written-none}
+use Rattle.record_writing.proofs.Terms.{coef-size}
 use Rattle.terms.specs.Abstraction.{termOf}
 use Rattle.symbols.specs.Text.{printOthers}
 use Rattle.symbols.proofs.Pieces.{size-left-out, size-decimal}

@@ -5,7 +5,7 @@ use native.Mathlib.Omega.{arith}
 use native.Mathlib.Numerals.{towards-suc}
 use lib.ListN.{length-set}
 use borrow.Author.Needs.{needs}
-use Rattle.records.proofs.Writes.{written-stores}
+use Rattle.record_writing.proofs.Writes.{written-stores}
 use Rattle.symbols.proofs.Pieces.{triple-stored}
 use Rattle.symbols.proofs.print_triple.Statement.{statement}
 use Rattle.symbols.proofs.print_triple.Tie as tie

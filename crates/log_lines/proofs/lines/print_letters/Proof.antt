@@ -8,7 +8,7 @@ use lib.ListN.{length, length-set, getD}
 use borrow.Author.Needs.{needs}
 use Rattle.specification.specs.Printing.{printLetter}
 use Rattle.terms.proofs.Arrays.{all-at}
-use Rattle.records.proofs.Writes.{written-stores}
+use Rattle.record_writing.proofs.Writes.{written-stores}
 use Rattle.symbols.proofs.Progress.{UnderWay, begins, goes-on, ended}
 use Rattle.log_lines.proofs.Texts.{lettersFrom, letter-next, letters-end}
 use Rattle.log_lines.proofs.lines.print_letters.Statement.{statement}

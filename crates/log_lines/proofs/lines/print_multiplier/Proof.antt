@@ -7,8 +7,8 @@ use native.Mathlib.Numerals.{towards-suc}
 use lib.ListN.{length, set, length-set}
 use borrow.Author.Needs.{needs}
 use Rattle.terms.specs.Abstraction.{termOf}
-use Rattle.records.specs.Written.{Written}
-use Rattle.records.proofs.Writes.{written-stores}
+use Rattle.record_writing.specs.Written.{Written}
+use Rattle.record_writing.proofs.Writes.{written-stores}
 use Rattle.specification.specs.Printing.{printMultiplier}
 use Rattle.log_lines.proofs.Texts.{multiplier-written}
 use Rattle.log_lines.proofs.lines.print_multiplier.Statement.{statement}

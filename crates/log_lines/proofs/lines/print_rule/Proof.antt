@@ -6,7 +6,7 @@ use native.Mathlib.Omega.{arith}
 use native.Mathlib.Numerals.{towards-suc}
 use lib.ListN.{length-set}
 use borrow.Author.Needs.{needs}
-use Rattle.records.proofs.Writes.{written-stores}
+use Rattle.record_writing.proofs.Writes.{written-stores}
 use Rattle.log_lines.proofs.Texts.{rule-is}
 use Rattle.log_lines.proofs.lines.print_rule.Statement.{statement}
 use Rattle.log_lines.proofs.lines.print_rule.Tie as tie

@@ -1,4 +1,4 @@
--- `logs::letters_at` meets its contract: the first letters are those of the log. Assumes nothing.
+-- `logs::reading::letters_at` meets its contract: the first letters are those of the log. Assumes nothing.
 use mathlib.Core.Path.{_≡_, refl, subst, _∙_}
 use Prim.Native.Nat.{ℕ, _-_, _≤_}
 use native.Mathlib.Omega.{arith}

@@ -1,4 +1,4 @@
--- `logs::test_steps` meets its contract: the steps from the one reached on decide what all decide. Assumes nothing.
+-- `logs::steps::test_steps` meets its contract: the steps from the one reached on decide what all decide. Assumes nothing.
 use mathlib.Core.Path.{_≡_, refl, _∙_}
 use Prim.Native.Nat.{_+_, _-_, _≤_}
 use native.Mathlib.Omega.{arith}

@@ -4,7 +4,7 @@ use Prim.Native.Nat.{_+_, _-_, _≤_}
 use native.Mathlib.Omega.{arith}
 use lib.ListN.{length, length-set, take}
 use borrow.Author.Needs.{needs}
-use Rattle.records.specs.Written.{Written}
+use Rattle.record_writing.specs.Written.{Written}
 use Rattle.logs.proofs.WrittenLogs.{letters-none, letter-written}
 use Rattle.logs.proofs.writing.write_letters.Statement.{statement}
 use Rattle.logs.proofs.writing.write_letters.Tie as tie

@@ -3,8 +3,8 @@ use mathlib.Core.Path.{_≡_, refl, _∙_}
 use Prim.Native.Nat.{_+_, _-_, _*_, _≤_, _<_}
 use native.Mathlib.Omega.{arith}
 use lib.ListN.{length}
-use Rattle.records.specs.Written.{Written}
-use Rattle.records.proofs.Writes.{written-none}
+use Rattle.record_writing.specs.Written.{Written}
+use Rattle.record_writing.proofs.Writes.{written-none}
 use Rattle.rules.specs.Steps.{StepValid}
 use Rattle.terms.proofs.Arrays.{all-at}
 use Rattle.logs.specs.Steps.{stepsOf}

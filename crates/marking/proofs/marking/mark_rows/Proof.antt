@@ -8,7 +8,7 @@ use lib.IntN.{ℤ, pos, natAbs}
 use lib.ListN.{length, length-set, getD, take}
 use Rattle.integers.proofs.Machine.{back, back-is}
 use Rattle.terms.proofs.Arrays.{all-at}
-use Rattle.gathering.specs.Rows.{termBy, RowValid, runOf, Light}
+use Rattle.rows.specs.Rows.{termBy, RowValid, runOf, Light}
 use Rattle.marking.specs.Marks.{markOf, sizeMark, Covering, Joint}
 use Rattle.marking.proofs.MarkSizes.{covering-none, covering-more, covering-all}
 use Rattle.marking.proofs.marking.mark_rows.Statement.{statement}

@@ -12,8 +12,8 @@ use lib.ListN.{length}
 use Rattle.integers.proofs.Machine.{back-is}
 use Rattle.specification.specs.Terms.{timesTerm}
 use Rattle.terms.specs.Abstraction.{partOf, termOf}
-use Rattle.rules.specs.Table.{partAt, rowTerm}
-use Rattle.rules.proofs.Tied.{rows-few}
+use Rattle.rule_table.specs.Table.{partAt, rowTerm}
+use Rattle.rule_table.proofs.Tied.{rows-few}
 use Rattle.rules.proofs.Taking.{row-fits}
 use Rattle.marks.specs.Steps.{RowGained}
 use Rattle.marks.proofs.RowsPassed.{Fitting, row-here, row-is, mark-here}

@@ -4,7 +4,7 @@ use Prim.Native.Nat.{_-_, _≤_}
 use native.Mathlib.Omega.{arith}
 use lib.ListN.{length}
 use borrow.Author.Needs.{needs}
-use Rattle.rules.proofs.Tied.{rows-few}
+use Rattle.rule_table.proofs.Tied.{rows-few}
 use Rattle.marks.proofs.RowsPassed.{Raised, raised-none, raised-more, raised-all}
 use Rattle.marks.proofs.steps.mark_reached.Statement.{statement}
 use Rattle.marks.proofs.steps.mark_reached.Tie as tie

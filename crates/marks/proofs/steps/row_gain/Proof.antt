@@ -3,7 +3,7 @@ use native.Mathlib.Omega.{arith}
 use lib.Dec.{isEq}
 use Rattle.theory.specs.Shape.Terms.{in-limit}
 use Rattle.terms.specs.Abstraction.{termOf}
-use Rattle.gathering.specs.Rows.{isLike}
+use Rattle.gathering.specs.Bringing.{isLike}
 use borrow.Author.Needs.{needs}
 use Rattle.integers.proofs.Machine.{back-is}
 use Rattle.marks.proofs.Gains.{row-like, row-unlike}

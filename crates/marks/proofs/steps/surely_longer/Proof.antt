@@ -5,7 +5,7 @@ use native.Mathlib.Omega.{arith}
 use borrow.Author.Needs.{needs}
 use borrow.Author.Tests.{leb-true}
 use lib.ListN.{length, length-set}
-use Rattle.rules.proofs.Tied.{rows-few}
+use Rattle.rule_table.proofs.Tied.{rows-few}
 use Rattle.marks.proofs.RowsPassed.{Fitting, AllPassed, all-none, all-seen, all-more, all-enough}
 use Rattle.marks.proofs.steps.surely_longer.Statement.{statement}
 use Rattle.marks.proofs.steps.surely_longer.Tie as tie

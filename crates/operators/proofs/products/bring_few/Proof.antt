@@ -1,8 +1,8 @@
 -- `operators::products::bring_few` meets its contract: none, one or two terms brought in. Assumes nothing.
-use Rattle.gathering.specs.Rows.{coefBound}
-use Rattle.gathering.proofs.RowSums.{light-more}
+use Rattle.gathering.specs.Bringing.{coefBound}
+use Rattle.rows.proofs.RowForms.{light-more}
 use Rattle.operators.specs.Products.{fewBound}
-use Rattle.operators.proofs.Bringing.{brought-term}
+use Rattle.sums.proofs.Bringing.{brought-term}
 use Rattle.operators.proofs.Multiplying.{few-none, few-one, few-two}
 use native.Mathlib.Omega.{arith}
 use borrow.Author.Needs.{needs}

@@ -6,8 +6,8 @@ use denote.Ref.{now}
 use lib.ListN.{length, take}
 use Rattle.integers.proofs.Machine.{back-is}
 use Rattle.terms.proofs.Arrays.{all-at}
-use Rattle.gathering.specs.Rows.{RowValid, runOf}
-use Rattle.operators.specs.Results.{Brought}
+use Rattle.rows.specs.Rows.{RowValid, runOf}
+use Rattle.sums.specs.Results.{Brought}
 use Rattle.operators.proofs.Multiplying.{termsOfPairs, pairs-none, pairs-so-far, pairs-light, left-fits, pairs-more, pairs-all}
 use native.Mathlib.Omega.{arith}
 use borrow.Author.Needs.{needs}

@@ -7,8 +7,8 @@ use lib.ListN.{length, take}
 use Rattle.integers.proofs.Machine.{back-is}
 use Rattle.terms.specs.Abstraction.{termOf}
 use Rattle.terms.proofs.Arrays.{all-at}
-use Rattle.gathering.specs.Rows.{RowValid, runOf}
-use Rattle.operators.specs.Results.{Brought}
+use Rattle.rows.specs.Rows.{RowValid, runOf}
+use Rattle.sums.specs.Results.{Brought}
 use Rattle.operators.specs.Products.{rowTerms}
 use Rattle.operators.proofs.Multiplying.{row-none, pair-fits, row-more, row-light, row-all}
 use native.Mathlib.Omega.{arith}

@@ -3,7 +3,7 @@ use Prim.Native.Nat.{_+_, _≤_}
 use native.Mathlib.Omega.{arith}
 use lib.ListN.{length}
 use Rattle.terms.specs.Abstraction.{termOf}
-use Rattle.gathering.specs.Rows.{Bringable}
+use Rattle.gathering.specs.Bringing.{Bringable}
 use Rattle.operators.proofs.Pairs.{Base, pair-few, joins-counts, joins-fits, joins-part, base, piece-counts, piece-fits, piece-part, piece-is, piece-size, made-few, made-two}
 use borrow.Author.Needs.{needs}
 use Rattle.operators.proofs.products.pair_terms.Statement.{statement}

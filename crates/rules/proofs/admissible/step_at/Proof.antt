@@ -9,8 +9,8 @@ use Rattle.specification.specs.Terms.{termInShape}
 use Rattle.specification.specs.Terms as S
 use Rattle.integers.proofs.Machine.{back-is}
 use Rattle.terms.specs.Abstraction.{termOf}
-use Rattle.gathering.specs.Rows.{formBy}
-use Rattle.gathering.proofs.RowSums.{rows-refused, rows-as}
+use Rattle.rows.specs.Rows.{formBy}
+use Rattle.rows.proofs.RowForms.{rows-refused, rows-as}
 use Rattle.rules.proofs.Alone.{no-rule, no-shape, letters-refused, step-valid, step-decides}
 use borrow.Author.Needs.{needs}
 use Rattle.rules.proofs.admissible.step_at.Statement.{statement}

@@ -8,14 +8,13 @@ use native.Mathlib.Omega.{arith}
 use lib.IntN.{natAbs}
 use lib.ListN.{length, getD}
 use borrow.Author.Needs.{needs}
-use Rattle.integers.proofs.Machine.{back}
+use Rattle.integers.proofs.Machine.{back, fits-back}
 use Rattle.theory.specs.Shape.Terms.{in-limit}
 use Rattle.terms.specs.Abstraction.{partOf, termOf}
-use Rattle.terms.proofs.Exchanges.{fits-back}
-use Rattle.gathering.specs.Rows.{coefBound}
-use Rattle.gathering.proofs.RowSums.{light-more}
-use Rattle.rules.specs.Table.{ruleRows, firstRow, rowCount, partAt, TimesRow}
-use Rattle.rules.proofs.Tied.{rows-few, row-given}
+use Rattle.gathering.specs.Bringing.{coefBound}
+use Rattle.rows.proofs.RowForms.{light-more}
+use Rattle.rule_table.specs.Table.{ruleRows, firstRow, rowCount, partAt, TimesRow}
+use Rattle.rule_table.proofs.Tied.{rows-few, row-given}
 use Rattle.rules.proofs.Taking.{Turned, product-light, turned-none, turned-more, turned-all, row-fits}
 use Rattle.rules.proofs.steps.bring_step.Statement.{statement}
 use Rattle.rules.proofs.steps.bring_step.Tie as tie

@@ -1,5 +1,5 @@
 use borrow.Author.Tests.{eq-eqb, ne-eqb}
-use Rattle.rules.specs.Table.{rowCount}
+use Rattle.rule_table.specs.Table.{rowCount}
 use Rattle.rules.proofs.steps.row_count.Statement.{statement}
 use Rattle.rules.proofs.steps.row_count.Tie as tie
 

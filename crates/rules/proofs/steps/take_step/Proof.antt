@@ -4,12 +4,11 @@ use Prim.Native.Nat.{_+_, _*_, _≤_}
 use native.Mathlib.Omega.{arith}
 use lib.IntN.{natAbs}
 use denote.Ref.{now}
-use Rattle.integers.proofs.Machine.{back}
+use Rattle.integers.proofs.Machine.{back, fits-back}
 use Rattle.theory.specs.Shape.Terms.{in-limit}
 use Rattle.terms.specs.Abstraction.{termOf}
-use Rattle.terms.proofs.Exchanges.{fits-back}
-use Rattle.gathering.specs.Rows.{Light, formBy}
-use Rattle.gathering.proofs.RowSums.{light-more}
+use Rattle.rows.specs.Rows.{Light, formBy}
+use Rattle.rows.proofs.RowForms.{light-more}
 use Rattle.rules.proofs.Taking.{step-fitting, step-stays, step-moves}
 use borrow.Author.Needs.{needs}
 use Rattle.rules.proofs.steps.take_step.Statement.{statement}

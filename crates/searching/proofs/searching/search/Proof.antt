@@ -9,8 +9,8 @@ use Rattle.specification.specs.Terms as S
 use Rattle.integers.proofs.Machine.{back-is}
 use Rattle.terms.specs.Abstraction.{termOf}
 use Rattle.terms.proofs.Arrays.{all-at}
-use Rattle.gathering.specs.Rows.{termBy, RowValid, formBy}
-use Rattle.gathering.proofs.RowRuns.{run-length}
+use Rattle.rows.specs.Rows.{termBy, RowValid, formBy}
+use Rattle.rows.proofs.Runs.{run-length}
 use Rattle.theory.specs.Gathering.Coefficients.{termAt}
 use Rattle.candidates.specs.Trying.{NextPlace}
 use Rattle.searching.specs.Searching.{SearchedBy}

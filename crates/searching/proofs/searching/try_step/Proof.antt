@@ -5,7 +5,7 @@ use native.Mathlib.Omega.{arith}
 use denote.Ref.{now}
 use Rattle.specification.specs.Rules.{stepAt}
 use Rattle.specification.specs.Terms as S
-use Rattle.gathering.proofs.RowSums.{rows-as, run-copied, form-copied}
+use Rattle.rows.proofs.RowForms.{rows-as, run-copied, form-copied}
 use Rattle.rules.specs.Steps.{stepOf}
 use borrow.Author.Needs.{needs}
 use Rattle.searching.proofs.searching.try_step.Statement.{statement}

@@ -1,6 +1,6 @@
 -- `shortening::rounds::derive` meets its contract: the form is held in rows, the rounds are taken there, and what they reach is given back. Assumes nothing.
 use native.Mathlib.Omega.{arith}
-use Rattle.gathering.proofs.RowSums.{held-run}
+use Rattle.rows.proofs.RowForms.{held-run}
 use Rattle.shortening.proofs.Derivations.{rounds-derived}
 use borrow.Author.Needs.{needs}
 use Rattle.shortening.proofs.rounds.derive.Statement.{statement}

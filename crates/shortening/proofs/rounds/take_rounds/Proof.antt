@@ -8,9 +8,9 @@ use denote.Ref.{now}
 use borrow.Author.Tests.{not-false}
 use lib.ListN.{length, set}
 use Rattle.specification.specs.Terms as S
-use Rattle.gathering.specs.Rows.{runOf, formBy, FormRun}
-use Rattle.gathering.proofs.RowRuns.{run-length}
-use Rattle.gathering.proofs.RowSums.{run-copied, form-copied}
+use Rattle.rows.specs.Rows.{runOf, formBy, FormRun}
+use Rattle.rows.proofs.Runs.{run-length}
+use Rattle.rows.proofs.RowForms.{run-copied, form-copied}
 use Rattle.marking.specs.Marks.{Covering}
 use Rattle.searching.specs.Searching.{Shorter, SearchedBy}
 use Rattle.shortening.specs.Derived.{Leads}

@@ -1,0 +1,4 @@
+-- Lemmas that belong to no one function.
+pub mod RowTerms
+pub mod Runs
+pub mod RowForms

@@ -1,0 +1,3 @@
+// Sums of forms in lent rows, and what was gathered closed to a form.
+pub mod adding;
+pub mod results;

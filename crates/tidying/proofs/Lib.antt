@@ -1,0 +1,4 @@
+-- Lemmas that belong to no one function.
+pub mod Exchanges
+pub mod Tidying
+pub mod Joins
