@@ -58,7 +58,8 @@ pub light-within : (coefs : List ℤ) (n b : ℕ) → b ≤ 2147483647 → Light
 unfolding coefWithin Light
 light-within coefs n b h l =
     is-true (all coefWithin (take n coefs))
-    (T-all coefWithin (take n coefs) (all-implies (λ (z : ℤ). natAbs z ≤ b) (λ (z : ℤ). T (coefWithin z)) (λ z g. le→leb (natAbs z) 2147483647 (omega arith)) (take n coefs) l))
+    (T-all coefWithin (take n coefs) (all-implies (λ (z : ℤ). natAbs z ≤ b) (λ (z : ℤ). T (coefWithin z)) (λ z g. le→leb (natAbs z) 2147483647 (omega arith))
+    (take n coefs) l))
 
 module _ (coefs : List ℤ) (n : ℕ) (hc : n ≤ length coefs) where
   run-within : (rows : List (List ℕ)) → n ≤ length rows → all termWithin (runOf n rows coefs) ≡ all coefWithin (take n coefs)

@@ -1,3 +1,3 @@
 // Marks of letters, factors and terms, and of the rows of a rule.
 pub mod marking;
-pub mod rows;
+pub mod products;

@@ -166,7 +166,8 @@ module _ (s : Step) (v : StepValid s) (six : length (s .letters) ≡ 6) where
           (row-all (s .letters) (firstRow (s .rule)) (rowCount (s .rule)) ∙ tied (s .rule) (v .rule) (s .letters) six)
           ∙ ap (gatherInto (runOf n before coefs)) (sym (stepTerms-rule (stepOf s)));
       run = w .run;
-      light = λ d l. light-more (d + i * natAbs (s .m .coef)) (d + 7 * natAbs (s .m .coef)) m coefs' (omega (arith, mul-le-mul-right (natAbs (s .m .coef)) few)) (w .light d l);
+      light = λ d l. light-more (d + i * natAbs (s .m .coef)) (d + 7 * natAbs (s .m .coef)) m coefs'
+          (omega (arith, mul-le-mul-right (natAbs (s .m .coef)) few)) (w .light d l);
       six = six;
     }
 

@@ -5,7 +5,7 @@ ghost use lib.Dec.{isEq};
 ghost use lib.ListN.{length, take};
 ghost use Rattle.specification.specs.Lists.{order, isLess, firstDifference};
 ghost use Rattle.specification.specs.Terms.{compareTerms};
-ghost use Rattle.terms.specs.Abstraction.{termOf, orderingOf, isMore, Counted};
+ghost use Rattle.terms.specs.Abstraction.{termOf, orderingOf, Counted};
 use crate::factors::part_number;
 use crate::types::Term;
 
@@ -35,17 +35,6 @@ pub fn is_equal(o: Order) -> bool
         Order::Less => false,
         Order::Equal => true,
         Order::Greater => false,
-    }
-}
-
-// It found the first behind the second.
-pub fn is_more(o: Order) -> bool
-    ensures { λ r. ⌜ r ≡ isMore (orderingOf o) ⌝ }
-{
-    match o {
-        Order::Less => false,
-        Order::Equal => false,
-        Order::Greater => true,
     }
 }
 

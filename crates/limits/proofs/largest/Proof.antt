@@ -24,12 +24,14 @@ small : (c : tie.In-loop Inv-loop μ-loop) → natAbs (getD (now (c .before .bef
 small c = let a = c .before .before in light-at _ 2147483647 (a .args .n) (c .before .loop .i) (a .pre .0) (c .loop-test .taken) (a .pre .1)
 
 -- and its size
-sized : (c : tie.After-size Inv-loop μ-loop) → c .size .result ≡ natAbs (getD (now (c .before .before .before .before .args .coefs)) (c .before .before .before .loop .i)
+sized : (c : tie.After-size Inv-loop μ-loop) → c .size .result ≡ natAbs (getD (now (c .before .before .before .before .args .coefs))
+    (c .before .before .before .loop .i)
     (pos 0))
-sized c = c .size .ensures ∙ ap natAbs (back-is {z = getD (now (c .before .before .before .before .args .coefs)) (c .before .before .before .loop .i) (pos 0)} (record {
-  sfits =
-      c .before .size-arg .given;
-}))
+sized c = c .size .ensures ∙ ap natAbs (back-is {z = getD (now (c .before .before .before .before .args .coefs)) (c .before .before .before .loop .i) (pos 0)}
+    (record {
+      sfits =
+          c .before .size-arg .given;
+    }))
 
 -- the larger of the two
 larger : (c : tie.Joined1 Inv-loop μ-loop) → (c .before .before .before .before .loop .most ≤ c .if1 .most) × (c .before .size .result ≤ c .if1 .most)
@@ -50,7 +52,8 @@ shared-slice-copy-out-size : tie.Need-shared-slice-copy-out-size Inv-loop μ-loo
 shared-slice-copy-out-size c = omega (arith, c .before .before .pre .0)
 
 size-requires : tie.Need-size-requires Inv-loop μ-loop
-size-requires c κs = rw (back-is {z = getD (now (c .before .before .before .args .coefs)) (c .before .before .loop .i) (pos 0)} (record { sfits = c .size-arg .given }))
+size-requires c κs = rw (back-is {z = getD (now (c .before .before .before .args .coefs)) (c .before .before .loop .i) (pos 0)}
+    (record { sfits = c .size-arg .given }))
     (omega (arith, small (c .before)))
 
 add-i : tie.Need-add-i Inv-loop μ-loop

@@ -13,7 +13,8 @@ returns : tie.Need-returns
 returns c = tested-9 _ _ (c .before .before .pre .0) (sym (c .before .all-below .ensures) ∙ not-true _ (c .if1 .taken))
 
 returns-2 : tie.Need-returns-2
-returns-2 c = tested-10 _ _ (c .before .before .before .pre .0) (sym (c .before .before .all-below .ensures) ∙ not-false _ (c .before .if1 .left)) (c .if2 .taken)
+returns-2 c = tested-10 _ _ (c .before .before .before .pre .0) (sym (c .before .before .all-below .ensures) ∙ not-false _ (c .before .if1 .left))
+    (c .if2 .taken)
 
 returns-3 : tie.Need-returns-3
 returns-3 c = tested-none _ _ (c .before .before .before .pre .0) (sym (c .before .before .all-below .ensures) ∙ not-false _ (c .before .if1 .left))

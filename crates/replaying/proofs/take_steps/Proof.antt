@@ -119,7 +119,8 @@ loop-again c =
     let inside = c .before .before .before .before .before .before .before .before .before .loop-test .taken in
     let w = c .before .before .before .before .before .take-step in
     let left = c .before .before .if1 .left in
-    let e : c .raised .result ≡ v .bound + 7 * natAbs (getD (a .args .t5 .steps) (v .i) noStep .m .coef) = omega (arith, c .raised .ensures, own a (v .i) inside) in (
+    let e : c .raised .result ≡ v .bound + 7 * natAbs (getD (a .args .t5 .steps) (v .i) noStep .m .coef) =
+    omega (arith, c .raised .ensures, own a (v .i) inside) in (
       omega arith,
       v .inv .1,
       subst (λ (k : ℕ). FormRun k (w .result .count) (w .last .1 .1 .0) (w .last .1 .1 .1 .0)) (w .ensures .1 .0) (w .ensures .0 .form left),

@@ -116,8 +116,11 @@ loop-again : tie.Need-loop-again Inv-loop μ-loop
 loop-again c = let w = c .before .before .before .before .before .before .before .before .before .before .before .before .before .before in
     let v = c .before .before .before .before .before .before .before .before .before .loop in (
       omega arith,
-      turned-more (w .args .s) (w .pre .1 .0) (six w) _ _ _ (v .i) (v .held) _ _ _ _ _ _ _ _ (here (c .before .before .before .before .before .before .before .before))
-          (v .inv .1) (product (c .before .before .before .before .before .before .before)) (c .before .before .before .before .before .before .row-of .ensures) (kept (c .before .before .before .before .before .before .before)) (c .before .before .bring .ensures),
+      turned-more (w .args .s) (w .pre .1 .0) (six w) _ _ _ (v .i) (v .held) _ _ _ _ _ _ _ _
+          (here (c .before .before .before .before .before .before .before .before))
+          (v .inv .1) (product (c .before .before .before .before .before .before .before))
+          (c .before .before .before .before .before .before .row-of .ensures) (kept (c .before .before .before .before .before .before .before))
+          (c .before .before .bring .ensures),
       omega (arith, v .inv .2),
       omega (arith, v .inv .3),
     )
@@ -132,7 +135,8 @@ returns : tie.Need-returns Inv-loop μ-loop
 returns c = let w = c .before .before .before .before .before .before in
     let v = c .before .loop in
     let e : v .i ≡ c .before .before .before .row-count .result = omega (arith, c .loop-test .left, v .inv .0) in
-    turned-all (w .args .s) (w .pre .1 .0) (six w) _ _ _ (v .i) _ _ _ (omega (arith, e, c .before .before .before .row-count .ensures)) (omega (arith, e, rows-few _ _ (w .pre .1 .0 .rule) (c .before .before .before .row-count .ensures))) (v .inv .1)
+    turned-all (w .args .s) (w .pre .1 .0) (six w) _ _ _ (v .i) _ _ _ (omega (arith, e, c .before .before .before .row-count .ensures))
+    (omega (arith, e, rows-few _ _ (w .pre .1 .0 .rule) (c .before .before .before .row-count .ensures))) (v .inv .1)
 
 pub bring-step-spec : {M : Type 1} → statement M
 bring-step-spec =

@@ -42,7 +42,8 @@ own : (c : tie.Start) → natAbs (back (c .args .s .m .coef)) ≡ natAbs (c .arg
 own c = ap natAbs (fits-back (c .args .s .m .coef) (omega (arith, limit c)))
 
 -- the bound behind the step
-bounded : (c : tie.After-raised) → Light (c .raised .result) (c .before .before .before .before .bring-step .result) (c .before .before .before .before .bring-step .last .1 .0)
+bounded : (c : tie.After-raised) → Light (c .raised .result) (c .before .before .before .before .bring-step .result)
+    (c .before .before .before .before .bring-step .last .1 .0)
 bounded c = let a = c .before .before .before .before .before .before .before .before .before in
     light-more (a .args .bound + 7 * natAbs (a .args .s .m .coef)) (c .raised .result) _ _ (omega (arith, c .raised .ensures, own a))
     (c .before .before .before .before .bring-step .ensures .light (a .args .bound) (a .pre .4))
@@ -61,7 +62,8 @@ same-length-2 c = search needs
 
 returns-2 : tie.Need-returns-2
 returns-2 c = let a = c .before .before .before .before .before .before .before .before .before .before .before in (
-  step-moves _ _ _ _ _ _ (c .before .before .before .before .before .before .before .before .before .before .test-step .ensures) (c .before .before .before .before .before .before .before .before .before .if1 .left) (a .pre .0) (a .pre .1)
+  step-moves _ _ _ _ _ _ (c .before .before .before .before .before .before .before .before .before .before .test-step .ensures)
+      (c .before .before .before .before .before .before .before .before .before .if1 .left) (a .pre .0) (a .pre .1)
       _ _ _ (c .before .before .before .before .before .before .bring-step .ensures) _ (c .test-limits .ensures),
   (refl, c .before .before .before .before .before .before .bring-step .ensures .light (a .args .bound) (a .pre .4)),
 )

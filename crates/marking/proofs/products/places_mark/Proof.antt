@@ -2,8 +2,8 @@ use Prim.Native.Nat.{_/_, _%_}
 use native.Mathlib.Omega.{arith}
 use Rattle.marking.proofs.MarkSizes.{two-small, three-small, no-places, some-places}
 use borrow.Author.Needs.{needs}
-use Rattle.marking.proofs.rows.places_mark.Statement.{statement}
-use Rattle.marking.proofs.rows.places_mark.Tie as tie
+use Rattle.marking.proofs.products.places_mark.Statement.{statement}
+use Rattle.marking.proofs.products.places_mark.Tie as tie
 
 returns : tie.Need-returns
 returns c = no-places _ _ (c .if1 .taken)

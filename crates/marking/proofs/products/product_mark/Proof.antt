@@ -2,8 +2,8 @@ use native.Mathlib.Omega.{arith}
 use Prim.Native.Nat.{_/_, _%_}
 use Rattle.marking.proofs.MarkSizes.{two-small, product-small, product-is}
 use borrow.Author.Needs.{needs}
-use Rattle.marking.proofs.rows.product_mark.Statement.{statement}
-use Rattle.marking.proofs.rows.product_mark.Tie as tie
+use Rattle.marking.proofs.products.product_mark.Statement.{statement}
+use Rattle.marking.proofs.products.product_mark.Tie as tie
 
 places-mark-requires : tie.Need-places-mark-requires
 places-mark-requires c κs = search needs

@@ -2,8 +2,8 @@ use mathlib.Core.Path.{sym, subst}
 use lib.Dec.{T}
 use borrow.Author.Tests.{not-false}
 use borrow.Author.Needs.{needs}
-use Rattle.marking.proofs.rows.row_stands.Statement.{statement}
-use Rattle.marking.proofs.rows.row_stands.Tie as tie
+use Rattle.marking.proofs.products.row_stands.Statement.{statement}
+use Rattle.marking.proofs.products.row_stands.Tie as tie
 
 differ-requires : tie.Need-differ-requires
 differ-requires c κs = search needs

@@ -1,8 +1,8 @@
 use mathlib.Core.Path.{sym, subst}
 use lib.Dec.{T}
 use borrow.Author.Needs.{needs}
-use Rattle.marking.proofs.rows.differ.Statement.{statement}
-use Rattle.marking.proofs.rows.differ.Tie as tie
+use Rattle.marking.proofs.products.differ.Statement.{statement}
+use Rattle.marking.proofs.products.differ.Tie as tie
 
 returns : tie.Need-returns
 returns c = search needs

@@ -1,12 +1,12 @@
--- `marking::rows::row_score` meets its contract. Assumes nothing.
+-- `marking::products::row_score` meets its contract. Assumes nothing.
 use mathlib.Core.Path.{subst}
 use Prim.Native.Nat.{ℕ}
 use native.Mathlib.Omega.{arith}
 use Rattle.marking.specs.Marks.{Shows}
 use Rattle.marking.proofs.MarkedTerms.{shows-some, other-size}
 use borrow.Author.Needs.{needs}
-use Rattle.marking.proofs.rows.row_score.Statement.{statement}
-use Rattle.marking.proofs.rows.row_score.Tie as tie
+use Rattle.marking.proofs.products.row_score.Statement.{statement}
+use Rattle.marking.proofs.products.row_score.Tie as tie
 
 element-copy-out-w : tie.Need-element-copy-out-w
 element-copy-out-w c = search needs

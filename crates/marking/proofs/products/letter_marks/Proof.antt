@@ -1,7 +1,7 @@
 use Rattle.marking.proofs.MarkSizes.{letters-marked}
 use borrow.Author.Needs.{needs}
-use Rattle.marking.proofs.rows.letter_marks.Statement.{statement}
-use Rattle.marking.proofs.rows.letter_marks.Tie as tie
+use Rattle.marking.proofs.products.letter_marks.Statement.{statement}
+use Rattle.marking.proofs.products.letter_marks.Tie as tie
 
 array-read-letter-mark : tie.Need-array-read-letter-mark
 array-read-letter-mark c = search needs
