@@ -3,7 +3,7 @@ use mathlib.Core.Path.{_≡_, refl, ap, sym, subst, _∙_}
 use mathlib.Core.Logic.{_⊎_, inl, inr}
 use mathlib.Core.Bool.{Bool, true, false, _&&_}
 use mathlib.Core.List.{List, [], _∷_, _++_, map, flatMap, append-assoc, append-nil}
-use Prim.Native.Nat.{ℕ, _+_, _*_, _≤_, _<_}
+use Prim.Native.Nat.{ℕ, zero, suc, _+_, _*_, _≤_, _<_}
 use native.Mathlib.Nat as N
 use native.Mathlib.Numerals.{add-one}
 use native.Mathlib.Omega.{arith}
@@ -39,32 +39,36 @@ use Rattle.pairing.specs.declared.parts.Operation.{Operation}
 use Rattle.pairing.specs.declared.parts.Operation.the-variants.{Times, Dot, Wedge}
 use Rattle.pairing.specs.Parts.{partsOf, listOf, Together}
 use Rattle.pair_limits.specs.Limits.{testPairs}
+use Rattle.gathering.specs.Bringing.{TermBroughtIn}
 use Rattle.sums.specs.Results.{Brought, GatheredRows}
 use Rattle.operators.specs.Products.{PairFits, Pair, PairMade, rowTerms, pairsBound, fewBound, PairsFit, Kinds, Operands}
-use Rattle.sums.proofs.Bringing.{run-taken, run-all, run-holds, brought-none, brought-both, brought-as}
+use Rattle.sums.proofs.Bringing.{run-taken, run-all, run-holds, brought-none, brought-term, brought-both, brought-as}
 
 -- ════ at most two terms brought in
 
-module _ (n : ℕ) (rows : List (List ℕ)) (coefs : List ℤ) (few : Few) where
-  pub few-none : few .count ≡ 0 → Run n rows coefs → Brought 2 n rows coefs (listOf few) n rows coefs
+-- the first i of two terms
+abbrev pub fewTaken : Few → ℕ → List S.Term
+fewTaken few i = map termOf (take i (few .first ∷ few .second ∷ []))
+
+few-next : (few : Few) (i : ℕ) (t : Term) → i < 2 → (i ≡ 0 → t ≡ few .first) → ((i ≡ 0 → ⊥) → t ≡ few .second)
+    → fewTaken few i ++ termOf t ∷ [] ≡ fewTaken few (i + 1)
+few-next few zero t h a b = ap (λ (x : Term). termOf x ∷ []) (a refl)
+few-next few (suc zero) t h a b = ap (λ (x : Term). termOf (few .first) ∷ termOf x ∷ []) (b (λ e. absurd (omega (arith, e))))
+few-next few (suc (suc i)) t h a b = absurd (omega arith)
+
+module _ (n : ℕ) (rows : List (List ℕ)) (coefs : List ℤ) (few : Few) (i r : ℕ) (rows' : List (List ℕ)) (coefs' : List ℤ)
+    (b : Brought i n rows coefs (fewTaken few i) r rows' coefs') where
+  -- one more of them
+  pub few-more : (t : Term) (s : ℕ) (rows″ : List (List ℕ)) (coefs″ : List ℤ) → i < 2 → (i ≡ 0 → t ≡ few .first) → ((i ≡ 0 → ⊥) → t ≡ few .second)
+      → TermBroughtIn r rows' coefs' t s rows″ coefs″ → Brought (i + 1) n rows coefs (fewTaken few (i + 1)) s rows″ coefs″
+  few-more t s rows″ coefs″ h f g d =
+      brought-as n rows coefs (i + 1) (i + 1) (fewTaken few i ++ termOf t ∷ []) (fewTaken few (i + 1)) s rows″ coefs″ (omega arith) (few-next few i t h f g)
+      (brought-both n rows coefs i 1 (fewTaken few i) (termOf t ∷ []) r s rows' coefs' rows″ coefs″ b (brought-term r rows' coefs' t s rows″ coefs″ d))
+
+  -- all of them
+  pub few-all : i ≡ few .count → i ≤ 2 → Brought 2 n rows coefs (listOf few) r rows' coefs'
   unfolding listOf
-  few-none e v = let l : [] ≡ listOf few = rw e in brought-as n rows coefs 0 2 [] (listOf few) n rows coefs (omega arith) l (brought-none n rows coefs v)
-
-  module _ (r : ℕ) (rows' : List (List ℕ)) (coefs' : List ℤ) (b : Brought 1 n rows coefs (termOf (few .first) ∷ []) r rows' coefs') where
-    pub few-one : few .count ≡ 1 → Brought 2 n rows coefs (listOf few) r rows' coefs'
-    unfolding listOf
-    few-one e =
-        let l : (termOf (few .first) ∷ []) ≡ listOf few = rw e in
-        brought-as n rows coefs 1 2 (termOf (few .first) ∷ []) (listOf few) r rows' coefs' (omega arith) l b
-
-    pub few-two : (s : ℕ) (rows″ : List (List ℕ)) (coefs″ : List ℤ) → few .count ≤ 2 → (few .count ≡ 0 → ⊥) → (few .count ≡ 1 → ⊥)
-        → Brought 1 r rows' coefs' (termOf (few .second) ∷ []) s rows″ coefs″ → Brought 2 n rows coefs (listOf few) s rows″ coefs″
-    unfolding listOf
-    few-two s rows″ coefs″ h z o d =
-        let e : few .count ≡ 2 = omega arith in
-        let l : (termOf (few .first) ∷ termOf (few .second) ∷ []) ≡ listOf few = rw e in
-        brought-as n rows coefs 2 2 (termOf (few .first) ∷ termOf (few .second) ∷ []) (listOf few) s rows″ coefs″ (omega arith) l
-        (brought-both n rows coefs 1 1 (termOf (few .first) ∷ []) (termOf (few .second) ∷ []) r s rows' coefs' rows″ coefs″ b d)
+  few-all e h = brought-as n rows coefs i 2 (fewTaken few i) (listOf few) r rows' coefs' h (ap (fewTaken few) e) b
 
 -- ════ the pairs of one left term
 

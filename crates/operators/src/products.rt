@@ -68,22 +68,21 @@ fn pair_terms(op: Operation, t: Term, u: Term) -> Few
     }
 }
 
-// At most two terms brought in among n rows; how many there are then.
+// At most two terms brought in among n rows; how many there are then. One call for both, so that it costs no call.
 fn bring_few(rows: &mut [[u32; 8]], coefs: &mut [i64], n: usize, few: Few) -> usize
     requires { ⌜ Run n (now rows) (now coefs) × Light fewBound n (now coefs) × (n + 2 ≤ length (now rows)) × (n + 2 ≤ length (now coefs)) × (few .count ≤ 2)
         × Bringable (few .first) × Bringable (few .second) ⌝ }
     ensures { λ r. ⌜ Brought 2 n (now (rows .entry)) (now (coefs .entry)) (listOf few) r (now (rows .exit)) (now (coefs .exit)) ⌝ }
 {
-    if few.count == 0 {
-        return n;
+    let m = few.count;
+    let mut count = n;
+    let mut i: usize = 0;
+    while i < m {
+        let t = if i == 0 { few.first } else { few.second };
+        count = bring_term(rows, coefs, count, t);
+        i += 1;
     }
-    let x = few.first;
-    let k = bring_term(rows, coefs, n, x);
-    if few.count == 1 {
-        return k;
-    }
-    let y = few.second;
-    bring_term(rows, coefs, k, y)
+    count
 }
 
 // The terms of a left term with each of m right ones, brought in among n rows; how many there are then.
