@@ -149,6 +149,21 @@ int64_t kalzunbi_decide(const uint8_t *table, size_t table_length, const uint8_t
 int64_t kalzunbi_reduce(const uint8_t *table, size_t table_length, const uint8_t *expression, size_t expression_length, uint8_t *out,
                         size_t out_length);
 
+/* A form with a vector form for one of its vector letters.
+ *
+ * table: as above.
+ * form, inserted: the records of two forms, the second a vector form. letter: the number of a vector letter, in the form or not.
+ * out: at least 770 bytes. The record of what comes out becomes their beginning; the bytes after it stand.
+ *
+ * The form is worked as an expression in which the letter stands for the second form: its terms in order, each multiplied from the left as coefficient,
+ * factors in record order, vector part, and summed left to right. So a partial sum can be refused where the whole would not. Only the first form's
+ * letter is replaced, also where the second form has it. An empty form stays.
+ *
+ * Returns the length of the record, or -1, -2, -11, then -5 or -6 for a letter of a form, then -5 for a letter that is not in the table, -6 for a scalar
+ * one or a scalar second form, then -7, -8, -9 or -10 from working. */
+int64_t kalzunbi_insert(const uint8_t *table, size_t table_length, const uint8_t *form, size_t form_length, uint8_t letter, const uint8_t *inserted,
+                        size_t inserted_length, uint8_t *out, size_t out_length);
+
 /* bytes that a log in shape has at most */
 #define KALZUNBI_LOG_MAX 3013
 

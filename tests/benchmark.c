@@ -1,5 +1,5 @@
-/* Nanoseconds a call, through the calls for C: one line for each measure of tests/benchmark.gp, in its order, then the check of logs and
- * shortening, which it has not. The logs are in logs.h, which tests/check_cases.py --header prints, the forms to decide in forms.h, which
+/* Nanoseconds a call, through the calls for C: one line for each measure of tests/benchmark.gp, in its order, then insertion, the check of logs
+ * and shortening, which it has not. The logs are in logs.h, which tests/check_cases.py --header prints, the forms to decide in forms.h, which
  * tests/decision_cases.py --header prints, those to shorten in shortening.h, which tests/shortening_cases.py --header prints. */
 #define _POSIX_C_SOURCE 199309L
 #include "kalzunbi.h"
@@ -30,7 +30,7 @@ static void report(const char *what, int64_t returned, int64_t expected, double 
         printf("%s: %lld is returned\n", what, (long long)returned);
         exit(1);
     }
-    printf("%-60s %10.0f\n", what, (now() - since) / count);
+    printf("%-68s %10.0f\n", what, (now() - since) / count);
 }
 
 static void measure_reduction(const char *what, const uint8_t *expression, size_t length, int64_t expected, int count)
@@ -39,6 +39,16 @@ static void measure_reduction(const char *what, const uint8_t *expression, size_
     double since = now();
     for (int i = 0; i < count; i++)
         returned = kalzunbi_reduce(table, 24, expression, length, out, KALZUNBI_FORM);
+    report(what, returned, expected, since, count);
+}
+
+static void measure_insertion(const char *what, const uint8_t *old, size_t old_length, uint8_t letter, const uint8_t *inserted, size_t inserted_length,
+                              int64_t expected, int count)
+{
+    int64_t returned = 0;
+    double since = now();
+    for (int i = 0; i < count; i++)
+        returned = kalzunbi_insert(table, 24, old, old_length, letter, inserted, inserted_length, out, KALZUNBI_FORM);
     report(what, returned, expected, since, count);
 }
 
@@ -89,20 +99,24 @@ static size_t sum(uint8_t *to, int first, int count)
     return n;
 }
 
-/* 48 terms -35mn(a.i)(def)*v, i from a to f, v from c to j: each has 6 vector letters and 2 scalar letters, and 16 bytes */
-static size_t full_form(uint8_t *to)
+/* 48 terms -35mn(x.i)(def)*v, x being a or l, i from a to f, v from c to j: each has 6 vector letters and 2 scalar letters, and 16 bytes */
+static size_t full_form(uint8_t *to, int x)
 {
     size_t n = 0;
     to[n++] = 1;
     to[n++] = 48;
     for (int v = 2; v < 10; v++)
         for (int i = 0; i < 6; i++) {
-            const uint8_t term[16] = {0x1F, 255, 255, 255, 221, 2, 12, 13, 1, 0, (uint8_t)i, 1, 3, 4, 5, (uint8_t)v};
+            const uint8_t less = (uint8_t)(x < i ? x : i), more = (uint8_t)(x < i ? i : x);
+            const uint8_t term[16] = {0x1F, 255, 255, 255, 221, 2, 12, 13, 1, less, more, 1, 3, 4, 5, (uint8_t)v};
             for (int k = 0; k < 16; k++)
                 to[n++] = term[k];
         }
     return n;
 }
+
+/* 2d-3e+f as an expression */
+#define THREE_TERMS 3, 3, 6, 2, 0, 0, 0, 2, 1, 3, 6, 2, 255, 255, 255, 253, 1, 4, 1, 5
 
 int main(void)
 {
@@ -112,7 +126,7 @@ int main(void)
             assignment[3 * i + k] = i < 12 || k == 0 ? (uint8_t)((5 * i + 3 * k) % 13 - 6) : 0;
     }
 
-    size_t length = full_form(form);
+    size_t length = full_form(form, 0);
     int64_t returned = 0;
     int count = 100000;
     double since = now();
@@ -134,6 +148,18 @@ int main(void)
     measure_decision("decision of two forms of 48 terms: they differ", other_first, sizeof other_first, other_second, sizeof other_second, 1, 1000);
     measure_decision("decision of a form of 48 terms that is 0: equal", zero_first, sizeof zero_first, zero_second, sizeof zero_second, 0, 1000);
     measure_decision("decision of two vector forms of 48 terms: equal", vectors_first, sizeof vectors_first, vectors_second, sizeof vectors_second, 0, 1000);
+
+    /* -3k for l, which each term has once */
+    const uint8_t one_term[8] = {1, 1, 0x11, 255, 255, 255, 253, 10};
+    length = full_form(form, 11);
+    measure_insertion("insertion of a form of one term for a letter in a form of 48 terms", form, length, 11, one_term, sizeof one_term, 770, 1000);
+
+    /* 2d-3e+f for l in -2(a.l)(b.l)(c.l), and ((-2(a.p))(b.p))(c.p) with p = 2d-3e+f: 27 terms of 12 bytes */
+    const uint8_t three_dots[14] = {0, 1, 5, 255, 255, 255, 254, 3, 0, 11, 1, 11, 2, 11};
+    const uint8_t three_terms[16] = {1, 3, 0x11, 0, 0, 0, 2, 3, 0x11, 255, 255, 255, 253, 4, 0x10, 5};
+    const uint8_t written_out[77] = {6, 6, 6, 2, 255, 255, 255, 254, 7, 1, 0, THREE_TERMS, 7, 1, 1, THREE_TERMS, 7, 1, 2, THREE_TERMS};
+    measure_insertion("insertion of a form of three terms in three dots", three_dots, sizeof three_dots, 11, three_terms, sizeof three_terms, 326, 10000);
+    measure_reduction("reduction of the same, written out", written_out, sizeof written_out, 326, 10000);
 
     measure_check("check of a log of 8 steps, from 19 terms to 6", eight_table, sizeof eight_table, eight_log, sizeof eight_log, 10000);
     measure_check("check of the longest log, 64 steps at 44 to 48 terms", longest_table, sizeof longest_table, longest_log, sizeof longest_log, 1000);

@@ -1,5 +1,6 @@
 #!/bin/sh
-# Prints the nanoseconds a call takes through the calls for C, and beside them those of PARI/GP, which is installed if it is missing; it checks no logs and shortens nothing.
+# Prints the nanoseconds a call takes through the calls for C, and beside them those of PARI/GP, which is installed if it is missing; it inserts nothing, checks
+# no logs and shortens nothing.
 set -eu
 cd "$(dirname "$0")/.."
 mkdir -p target
@@ -15,5 +16,5 @@ if ! command -v gp >/dev/null; then
 fi
 target/benchmark >target/benchmark.here
 gp -q -f tests/benchmark.gp </dev/null >target/benchmark.gp
-printf '%-60s %10s %10s\n' 'nanoseconds a call' Kalzunbi PARI/GP
+printf '%-68s %10s %10s\n' 'nanoseconds a call' Kalzunbi PARI/GP
 paste -d ' ' target/benchmark.here target/benchmark.gp

@@ -229,6 +229,118 @@ static void reduce_calls(void)
     }
 }
 
+/* ---- insertion */
+
+struct insert_row {
+    const char *table, *form;
+    uint8_t letter;
+    const char *inserted;
+    size_t lent;
+    int64_t refused;
+    const char *record;
+};
+
+static const struct insert_row insert_rows[] = {
+    /* a letter at each place of a dot, a triple and a wedge, alone, and several times */
+    {SMALL, "000104010001", 0, "01021002110000000203", 770, 0, "0002040101020500000002010103"},
+    {SMALL, "000104010001", 1, "01021002110000000203", 770, 0, "0002040100020500000002010003"},
+    {SMALL, "000104010000", 0, "0102100111ffffffff02", 770, 0, "00030401010105fffffffe01010204010202"},
+    {SMALL, "00010801000102", 0, "01011003", 770, 0, "00010801010203"},
+    {SMALL, "00010801000102", 1, "01011003", 770, 0, "000109ffffffff01000203"},
+    {SMALL, "00010801000102", 2, "010113ffffffff010403", 770, 0, "00010bffffffff010401000103"},
+    {SMALL, "0101200001", 0, "0102100211fffffffd03", 770, 0, "010221ffffffff010221000000030103"},
+    {SMALL, "0101200001", 1, "0101200203", 770, 0, "0102140100030215ffffffff01000203"},
+    {SMALL, "01011300000005010500", 0, "0102100323fffffffe01040102", 770, 0, "0102130000000501050323fffffff60204050102"},
+    {SMALL, "01012402000100020003", 0, "010210011002", 770, 0,
+     "010824020101010201032402010102020103240201020102010324020102020201032402010101020203240201010202020324020102010202032402010202020203"},
+    /* the record's example with c and 2e*d for a; wedges for letters; the velocity b+(c^d) for a in e(a.a) */
+    {SMALL, "010125fffffffe0100010203", 0, "010210021300000002010403", 770, 0, "010225fffffffe010102020327fffffffc01040101030203"},
+    {SMALL, "00010801000102", 0, "0101200102", 770, 0, "000204020101020205ffffffff0201020102"},
+    {SMALL, "00010801000102", 1, "0101200203", 771, 0, "000205ffffffff0200020203040200030202"},
+    {SMALL, "0001060104010000", 0, "01021001200203", 1000, 0, "00040601040101010b00000002010401010203060104020202030307ffffffff01040202030203"},
+    /* the letter inside the form to insert: it is put in once */
+    {SMALL, "000104010000", 0, "010210001001", 770, 0, "000304010000050000000201000104010101"},
+    {SMALL, "01011000", 0, "010114020000000000", 770, 0, "010114020000000000"},
+    {"01", "01011000", 0, "010111fffffffe00", 770, 0, "010111fffffffe00"},
+    /* vanishing and cancelling; the rule's form with a for d */
+    {SMALL, "0101200001", 0, "01011001", 770, 0, "0100"},
+    {SMALL, "00020401000205ffffffff010102", 0, "01011001", 770, 0, "0000"},
+    {SMALL, FOUR, 3, "01011000", 770, 0, "0100"},
+    {SMALL, LARGE, 3, "010111ffffffff00", 770, 0, "010119800000010100010200"},
+    /* the letter is not in the form, or the form is empty: it stands; an empty form is inserted */
+    {SMALL, "01011000", 1, "0101240101020003", 770, 0, "01011000"},
+    {SMALL, "000100", 0, "0100", 770, 0, "000100"},
+    {WIDE, FORTY_EIGHT, 8, "01011000", 1024, 0, FORTY_EIGHT},
+    {SMALL, "0000", 0, "01011001", 770, 0, "0000"},
+    {SMALL, "0100", 0, "01011001", 770, 0, "0100"},
+    {SMALL, "0100", 0, "0100", 1000, 0, "0100"},
+    {SMALL, "00020004010001", 0, "0100", 770, 0, "000100"},
+    {SMALL, LARGE, 0, "0100", 770, 0, "0100"},
+    /* 48 terms: the last six, or the first six, with another letter; the first six cancel the next */
+    {WIDE, FORTY_EIGHT, 7, "01011008", 770, 0, "0130" SIX("00") SIX("01") SIX("02") SIX("03") SIX("04") SIX("05") SIX("06") SIX("08")},
+    {WIDE, FORTY_EIGHT, 0, "01011008", 770, 0, "0130" SIX("01") SIX("02") SIX("03") SIX("04") SIX("05") SIX("06") SIX("07") SIX("08")},
+    {WIDE, FORTY_EIGHT, 0, "010111ffffffff01", 770, 0, "0124" SIX("02") SIX("03") SIX("04") SIX("05") SIX("06") SIX("07")},
+    /* 1, before all others */
+    {"", "000104010001", 0, "01011002", 770, -1, ""},
+    {"02", "000104010001", 0, "01011002", 770, -1, ""},
+    {"00000000000000000000000000000000000000000000000000", "0000", 0, "0100", 770, -1, ""},
+    {"0102", "", 255, "", 0, -1, ""},
+    /* 2, before contents */
+    {SMALL, "000104010001", 0, "01011002", 769, -2, ""},
+    {SMALL, "0000", 0, "0100", 0, -2, ""},
+    {SMALL, "", 255, "", 769, -2, ""},
+    /* 11, before letters: the form, the form to insert, both */
+    {SMALL, "", 0, "01011002", 770, -11, ""},
+    {SMALL, "000104010001", 0, "", 770, -11, ""},
+    {SMALL, "0200", 255, "0001020107", 770, -11, ""},
+    {SMALL, "0001020107", 0, "0101100000", 770, -11, ""},
+    {SMALL, "00010100000001", 0, "0101110000000100", 770, -11, ""},
+    /* 5 and 6 of letters: the form's, then the inserted form's, then the letter, before the kind */
+    {SMALL, "0001020107", 0, "01011004", 770, -5, ""},
+    {SMALL, "0001020100", 0, "01011007", 770, -6, ""},
+    {SMALL, "000104010001", 255, "01011004", 770, -6, ""},
+    {SMALL, "000104010001", 4, "01011007", 770, -5, ""},
+    {SMALL, "000104010001", 7, "01011002", 770, -5, ""},
+    {SMALL, "0000", 255, "0001020104", 770, -5, ""},
+    {SMALL, "000104010001", 4, "01011002", 770, -6, ""},
+    {SMALL, "000102020404", 4, "01011002", 770, -6, ""},
+    {SMALL, "000104010001", 0, "0001020104", 770, -6, ""},
+    {SMALL, "0100", 0, "0000", 770, -6, ""},
+    {SMALL, "000104010001", 6, "0000", 770, -6, ""},
+    /* 7: 49 pairs in a dot, in a product */
+    {WIDE, "000104010000", 0, "01071000100110021003100410051006", 770, -7, ""},
+    {WIDE, "01011401000100", 0, "01071000100110021003100410051006", 770, -7, ""},
+    /* 8: seven vector letters, three scalar ones, also where the pair would vanish */
+    {SMALL, "000104010001", 0, "01012402010102020203", 770, -8, ""},
+    {SMALL, "01011202040500", 0, "010112010601", 770, -8, ""},
+    {SMALL, "0101200001", 0, "01012402010102020103", 770, -8, ""},
+    /* 9: a pair; a sum of two terms, though the third would bring it back, or would be 8; a coefficient before a part that vanishes; and what is within */
+    {SMALL, LARGE, 3, "0101110000000200", 770, -9, ""},
+    {SMALL, "01011000", 0, "0101117fffffff00", 770, 0, "0101117fffffff00"},
+    {SMALL, "0003057fffffff0100000401000105ffffffff010101", 1, "01011000", 770, -9, ""},
+    {SMALL, "000304010001057fffffff010101040200010002", 0, "0102100114020202030303", 770, -9, ""},
+    {SMALL, "000304010001057ffffffe010101040200010002", 0, "0102100114020202030303", 770, -8, ""},
+    {SMALL, "0101257fffffff0100010001", 0, "0101110000000201", 770, -9, ""},
+    {SMALL, "0101217fffffff0001", 0, "0101110000000201", 770, 0, "0100"},
+    /* 10: 54 terms */
+    {WIDE, FORTY_EIGHT, 0, "010210001008", 770, -10, ""},
+};
+
+static void insert_calls(void)
+{
+    for (size_t i = 0; i < sizeof insert_rows / sizeof *insert_rows; i++) {
+        const struct insert_row *row = &insert_rows[i];
+        struct bytes table = from(row->table), form = from(row->form), inserted = from(row->inserted), record = from(row->record), out = from("");
+        struct bytes table_before = table, form_before = form, inserted_before = inserted;
+        int64_t returned = kalzunbi_insert(at(&table), table.length, at(&form), form.length, row->letter, at(&inserted), inserted.length, at(&out), row->lent);
+        calls++;
+        out.length = record.length;
+        check(returned == (row->refused < 0 ? row->refused : (int64_t)record.length), "insert: what is returned, row", (int)i);
+        check(same(&out, &record), "insert: the bytes lent, row", (int)i);
+        check(same(&table, &table_before) && same(&form, &form_before) && same(&inserted, &inserted_before), "insert: memory, row", (int)i);
+    }
+}
+
 /* ---- the check call */
 
 #define REFUSED(number, step) (-(INT64_C(256) * (number) + (step)))
@@ -580,6 +692,7 @@ int main(void)
     names();
     value_calls();
     reduce_calls();
+    insert_calls();
     check_calls();
     decide_calls();
     shorten_calls();

@@ -1,12 +1,13 @@
 #!/usr/bin/env python3
-"""Cases of the calls for C and of the audit, and their answers, computed from the customer's document alone.
+"""Cases of the calls for C and of the audit, and their answers, computed from the customer's documents alone.
 
 Writes crates/call_cases/stdin (the cases) and crates/call_cases/stdout (the answers).
 A case begins with 12 bytes: the number of the call (one byte), the lengths of a table (one byte) and of two inputs (two
-bytes each), and how much is lent of three parts of memory (two bytes each); then come the table and the inputs. Its
-answer is a line: the number that the call returns, and behind it what the memory lent holds, each number lent being 170
-before. Where document 01 leaves the memory open, the program itself says what is wrong with it; then the line has
-nothing more, or the terms of the first and of the last form of the log that shortening wrote.
+bytes each), and how much is lent of three parts of memory (two bytes each); then come the table and the inputs. For
+insertion, which writes into one part of memory, the second of the three numbers is the letter. The answer of a case is a
+line: the number that the call returns, and behind it what the memory lent holds, each number lent being 170 before. Where
+document 01 leaves the memory open, the program itself says what is wrong with it; then the line has nothing more, or the
+terms of the first and of the last form of the log that shortening wrote.
 
 Nothing here is taken from the engine: the answers are those of the programs beside this one, each of which computes one
 call in its own way. Here they become numbers returned, with the tests of the table and of the memory lent before them.
@@ -19,20 +20,22 @@ import re
 
 import check_cases as logs
 import decision_cases as decisions
+import insertion_cases as insertions
 import reduction_cases as expressions
 import shortening_cases as shortenings
 import value_cases as forms
 from check_cases import NOTHING, TABLE, scalar, vector
 from decision_cases import BUFFER, WORK
+from insertion_cases import ROOM
 from reduction_cases import Refused
 from shortening_cases import LENT
 
-VALUE, REDUCE, CHECK, DECIDE, SHORTEN, AUDIT = CALLS = range(1, 7)
-ROOM = 770
+VALUE, REDUCE, CHECK, DECIDE, SHORTEN, AUDIT, INSERT = CALLS = range(1, 8)
 NUMBER = 170
 
 # The refusals that each call has to show, and that something is given.
-SHOWN = {VALUE: {0, 1, 2, 5, 6, 11, 12}, REDUCE: {0, *range(1, 11)}, CHECK: {0, 1, 2, 5, 6, 8, 9, 10, 11, 13}, DECIDE: {0, 1, 2, 5, 6, 11}, SHORTEN: {0, 1, 2, 5, 6, 11}, AUDIT: {0, 1, 2, 5, 6, 11}}
+SHOWN = {VALUE: {0, 1, 2, 5, 6, 11, 12}, REDUCE: {0, *range(1, 11)}, CHECK: {0, 1, 2, 5, 6, 8, 9, 10, 11, 13}, DECIDE: {0, 1, 2, 5, 6, 11},
+         SHORTEN: {0, 1, 2, 5, 6, 11}, AUDIT: {0, 1, 2, 5, 6, 11}, INSERT: {0, 1, 2, *range(5, 12)}}
 
 
 # ════ answers: the number of the refusal, or 0, and the line
@@ -103,7 +106,13 @@ def audit_answer(table, form, _, lent, buffer, work):
     return number_of(line), line if line[0] == "R" else f"agreed {line}"
 
 
-ANSWERS = {VALUE: value_answer, REDUCE: reduce_answer, CHECK: check_answer, DECIDE: decide_answer, SHORTEN: shorten_answer, AUDIT: audit_answer}
+def insert_answer(table, form, inserted, lent, letter, *_):
+    out = insertions.inserted_form(table, form, letter, inserted, lent)
+    return (out, f"-{out}") if isinstance(out, int) else (0, f"{len(out)} {out.hex()}")
+
+
+ANSWERS = {VALUE: value_answer, REDUCE: reduce_answer, CHECK: check_answer, DECIDE: decide_answer, SHORTEN: shorten_answer, AUDIT: audit_answer,
+           INSERT: insert_answer}
 
 
 # ════ cases: the call, the table, two inputs, what is lent
@@ -182,6 +191,13 @@ def audited():
         yield AUDIT, table, data, b"", *lent
 
 
+def inserted():
+    groups = [group for group in insertions.GROUPS if group not in (insertions.full_forms, insertions.by_chance)]
+    yield from spread([(INSERT, table, form, insert, ROOM, letter, 0) for group in groups for table, form, letter, insert, _ in group()], {0: 8})
+    for table, form, lent in itertools.product((TABLE, TABLE + b"\2"), (scalar("(a.a)"), b"\1"), (0, ROOM - 1, ROOM + 1)):
+        yield INSERT, table, form, vector("b-2c"), lent, 0, 0
+
+
 def examples():
     """The examples of docs/FORMAT.md, whose answers must be those that stand there."""
     document = (pathlib.Path(__file__).resolve().parent.parent / "docs" / "FORMAT.md").read_text()
@@ -202,7 +218,7 @@ def examples():
         yield case
 
 
-GROUPS = (values, reductions, logs_to_check, decided, shortened, audited, examples)
+GROUPS = (values, reductions, logs_to_check, decided, shortened, audited, examples, inserted)
 
 
 # ════ the program

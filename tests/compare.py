@@ -1,12 +1,13 @@
 #!/usr/bin/env python3
-"""The calls for C on random and damaged inputs, against the unrelated programs value_cases.py, reduction_cases.py, check_cases.py, decision_cases.py and
-shortening_cases.py.
+"""The calls for C on random and damaged inputs, against the unrelated programs value_cases.py, reduction_cases.py, check_cases.py, decision_cases.py,
+shortening_cases.py and insertion_cases.py.
 
 What is returned and all memory, lent or around what is lent, is compared.
 A form that is given is handed on to the value call, whose numbers must be those of the expression by components. An assignment that is handed over
 must be in its range, and tell the two forms apart by the unrelated program and by the value call. A log that shortening wrote must begin with the form
 taken, be accepted by the unrelated program with the steps reported, have at most as many steps as terms were saved, and end in a form that no step shortens;
-the check call must accept it, and the decision must say of its ends that they are equal.
+the check call must accept it, and the decision must say of its ends that they are equal. A form with a letter replaced must have the old form's value where
+the letter has the inserted form's: by the value call, or, where that is not in its range, by the unrelated program.
 """
 import argparse
 import collections
@@ -18,6 +19,7 @@ import sys
 
 import check_cases as logs
 import decision_cases as decisions
+import insertion_cases as insertions
 import reduction_cases as expressions
 import shortening_cases as shortening
 import value_cases as forms
@@ -33,7 +35,8 @@ def load():
     subprocess.run(["rt", "staticlib", "exports"], cwd=HOME, check=True, stdout=subprocess.DEVNULL, stderr=subprocess.DEVNULL)
     subprocess.run(["gcc", "-shared", "-o", shared, "-Wl,--whole-archive", made, "-Wl,--no-whole-archive"], check=True)
     library = ctypes.CDLL(str(shared))
-    for call in (library.kalzunbi_value, library.kalzunbi_reduce, library.kalzunbi_check, library.kalzunbi_decide, library.kalzunbi_shorten):
+    for call in (library.kalzunbi_value, library.kalzunbi_reduce, library.kalzunbi_check, library.kalzunbi_decide, library.kalzunbi_shorten,
+                 library.kalzunbi_insert):
         call.restype = ctypes.c_int64
     return library
 
@@ -59,11 +62,24 @@ class Lent:
         return bytes(self.memory) == self.before[:self.start] + written + self.before[self.start + len(written):]
 
 
+class Byte:
+    """A byte that is passed by value."""
+
+    def __init__(self, number):
+        self.number = number
+
+    def passed(self):
+        return (ctypes.c_uint8(self.number),)
+
+    def stands_but_for(self):
+        return True
+
+
 def call(function, sources, *targets):
-    """What is returned; the sources must stand."""
-    lent = [Lent(ctypes.c_uint8, s) for s in sources]
-    returned = function(*(x for l in (*lent, *targets) for x in l.passed()))
-    return returned if all(l.stands_but_for() for l in lent) else None
+    """What is returned; the sources, bytes to be lent or one to be passed by value, must stand."""
+    given = [s if isinstance(s, Byte) else Lent(ctypes.c_uint8, s) for s in sources]
+    returned = function(*(x for g in (*given, *targets) for x in g.passed()))
+    return returned if all(g.stands_but_for() for g in given) else None
 
 
 # ════ inputs
@@ -148,6 +164,17 @@ def shortening_inputs(chance):
         data = chance.choices((data, damaged(chance, data), any_bytes(chance, 40)), (30, 2, 1))[0]
         lent = chance.choice((2309, 2309, 2309, 2310, 3013)) if chance.randrange(20) else chance.randrange(2309)
         yield any_table(chance, table), data, lent, chance.choice((1, 1, 1, 2, 5)) if chance.randrange(20) else 0
+
+
+def insertion_inputs(chance):
+    tables = bytes([1, 1, 1, 0]), bytes([1, 1, 1, 1, 0]), insertions.TABLE, insertions.WHOLE
+    while True:
+        sizes = chance.choices(((3, 2), (3, 4), (2, 12), (12, 3), (48, 1), (40, 4), (2, 48)), (16, 8, 4, 2, 1, 2, 1))[0]
+        counts, most = [chance.randrange(n // 2, n + 1) for n in sizes], chance.choice((1, 1, 2, 3, 6))
+        table, form, letter, inserted = insertions.random_case(chance, chance.choice(tables), *counts, most)
+        form, inserted = (chance.choices((x, damaged(chance, x), any_bytes(chance, 40)), (40, 3, 1))[0] for x in (form, inserted))
+        letter = chance.choices((letter, len(table), chance.randrange(256)), (30, 1, 1))[0]
+        yield any_table(chance, table), form, letter, inserted, chance.choice((770, 770, 770, 771, 800)) if chance.randrange(20) else chance.randrange(771)
 
 
 # ════ comparing
@@ -241,6 +268,31 @@ def compare_shorten(functions, table, data, lent, numbers):
     return good and checked and holds, "shorter" if steps else "as it was"
 
 
+def small(numbers):
+    return all(abs(n) <= 6 for n in numbers)
+
+
+def value_called(function, table, data, vectors):
+    """What the value call gives, or None."""
+    target = Lent(ctypes.c_int64, [0] * 3)
+    returned = call(function, (table, data, bytes(n % 256 for v in vectors for n in v)), target)
+    return target.first(3) if returned == 0 else None
+
+
+def compare_insert(functions, chance, table, form, letter, inserted, lent):
+    target = Lent(ctypes.c_uint8, [0xC3] * lent)
+    returned = call(functions.kalzunbi_insert, (table, form, Byte(letter), inserted), target)
+    answer = insertions.inserted_form(table, form, letter, inserted, lent)
+    if isinstance(answer, int):
+        return returned == -answer and target.stands_but_for(), f"R{answer}"
+    vectors = insertions.vectors(forms.assigned(table, chance, chance.choice((range(-1, 2), range(-6, 7)))))
+    value = forms.evaluate(forms.read(inserted)[1], vectors)
+    replaced = vectors[:letter] + [value] + vectors[letter + 1:]
+    old = value_called(functions.kalzunbi_value, table, form, replaced) if small(value) else forms.evaluate(forms.read(form)[1], replaced)
+    same = old is not None and value_called(functions.kalzunbi_value, table, answer, vectors) == old
+    return same and returned == len(answer) and target.stands_but_for(answer), "given" if small(value) else "given, by the program"
+
+
 def main():
     arguments = argparse.ArgumentParser(description=__doc__, formatter_class=argparse.RawDescriptionHelpFormatter)
     arguments.add_argument("count", metavar="COUNT", nargs="?", type=int, default=10000, help="inputs for each call (10000)")
@@ -252,7 +304,8 @@ def main():
             ("reduce", expression_inputs(chance), lambda *x: compare_reduce(library, chance, *x)),
             ("check", log_inputs(chance), lambda *x: compare_check(library.kalzunbi_check, *x)),
             ("decide", pair_inputs(chance), lambda *x: compare_decide(library, *x)),
-            ("shorten", shortening_inputs(chance), lambda *x: compare_shorten(library, *x))):
+            ("shorten", shortening_inputs(chance), lambda *x: compare_shorten(library, *x)),
+            ("insert", insertion_inputs(chance), lambda *x: compare_insert(library, chance, *x))):
         answers = collections.Counter()
         for _ in range(count):
             case = next(inputs)
@@ -262,7 +315,7 @@ def main():
                 differences += 1
                 print(name, *(x.hex() if isinstance(x, bytes) else x for x in case), "expected", answer)
         print(f"{name}: {count} cases, " + ", ".join(f"{n} {a}" for a, n in sorted(answers.items(), key=lambda x: (len(x[0]), x[0]))))
-    print(f"{5 * count} cases, {differences} differences")
+    print(f"{6 * count} cases, {differences} differences")
     sys.exit(differences > 0)
 
 

@@ -1,6 +1,6 @@
 // Runs cases of the calls for C and of the audit from standard input. A case begins with 12 bytes: the number of the call (one byte), the lengths of a
 // table (one byte) and of two inputs (two bytes each), and how much is lent of three parts of memory (two bytes each); then come the table and the inputs.
-// What a call does not take is empty, or 0. For each case it writes a line: the number returned, and behind it what the memory lent holds; or, where
+// What a call does not take is empty, or 0; the letter of an insertion stands in place of the second part of memory. For each case it writes a line: the number returned, and behind it what the memory lent holds; or, where
 // document 01 leaves that open, what is wrong with it.
 ghost use Prim.Native.Nat.{_<_, _≤_};
 ghost use lib.ListN.{length};
@@ -18,6 +18,7 @@ use case_lines::print_standing;
 use case_lines::two_bytes_at;
 use exports::kalzunbi_check;
 use exports::kalzunbi_decide;
+use exports::kalzunbi_insert;
 use exports::kalzunbi_reduce;
 use exports::kalzunbi_shorten;
 use exports::kalzunbi_value;
@@ -109,9 +110,8 @@ fn run_value(table: &[u8], form: &[u8], assignment: &[u8], p: usize) {
     }
 }
 
-// The reduction call: the number returned, and the bytes written.
-fn print_reduced(table: &[u8], expression: &[u8], out: &mut [u8]) {
-    let r = kalzunbi_reduce(table, expression, out);
+// The number that a call which gives a form returned, and the bytes written.
+fn print_record(r: i64, out: &[u8]) {
     print_signed(r);
     let n = written(r);
     if n > 0 {
@@ -121,10 +121,28 @@ fn print_reduced(table: &[u8], expression: &[u8], out: &mut [u8]) {
     print_standing(behind(out, n));
 }
 
+// The reduction call.
+fn print_reduced(table: &[u8], expression: &[u8], out: &mut [u8]) {
+    let r = kalzunbi_reduce(table, expression, out);
+    print_record(r, out);
+}
+
 // The same with so many bytes lent.
 fn run_reduced(table: &[u8], expression: &[u8], p: usize) {
     let mut out = [FILLING; 4096];
     print_reduced(table, expression, lend(&mut out, p));
+}
+
+// The insertion call.
+fn print_inserted(table: &[u8], form: &[u8], letter: u8, inserted: &[u8], out: &mut [u8]) {
+    let r = kalzunbi_insert(table, form, letter, inserted, out);
+    print_record(r, out);
+}
+
+// The same with so many bytes lent, the letter's number in place of the second length.
+fn run_inserted(table: &[u8], form: &[u8], inserted: &[u8], p: usize, q: usize) {
+    let mut out = [FILLING; 4096];
+    print_inserted(table, form, (q % 256) as u8, inserted, lend(&mut out, p));
 }
 
 // The checker's call: the number returned, and the numbers lent.
@@ -294,6 +312,7 @@ fn print_call(call: u8, table: &[u8], first: &[u8], second: &[u8], p: usize, q: 
         3 => run_checked(table, first, p),
         4 => run_decided(table, first, second, q, r),
         5 => run_shortened(table, first, p, q),
+        7 => run_inserted(table, first, second, p, q),
         _ => run_audited(table, first, p, q, r),
     }
     print_character(b'\n');

@@ -198,3 +198,20 @@ pub fn print_values(table: &[u8], form: &[u8], assignment: &[u8]) {
         Valued::Refused(n) => print_refusal(n),
     }
 }
+
+// A record and its values.
+pub fn print_form(table: &[u8], form: &[u8], assignment: &[u8]) {
+    print_bytes(form);
+    print_character(b' ');
+    print_values(table, form, assignment);
+}
+
+// How many bytes the assignment of a case has.
+pub fn assignment_length(letters: usize) -> usize
+    ensures { λ r. ⌜ r ≤ 72 ⌝ }
+{
+    if letters > 24 {
+        return 0;
+    }
+    3 * letters
+}

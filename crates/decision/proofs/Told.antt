@@ -13,13 +13,14 @@ use Rattle.specification.specs.Lists.{each}
 use Rattle.specification.specs.Letters.{testTable}
 use Rattle.specification.specs.Values.{Vec}
 use Rattle.specification.specs.Terms.{Form}
-use Rattle.specification.specs.Records.{readForm, testTerms, takeForm}
+use Rattle.specification.specs.Records.{takeBoth}
 use Rattle.specification.specs.Evaluation.{value, assignment, valueCall}
 use Rattle.specification.specs.Decision.{takeTwoForms, decideTested, letterInRange, DecidedBy, Decided, bufferBytes, workBytes}
 use Rattle.specification.specs.Decision as D
 use Rattle.specification.specs.Promises.{ValuesDiffer, DecisionPromise}
 use Rattle.theory.specs.Tests.{and-split, given-same, required, tested, past, into}
 use Rattle.theory.specs.Shape.Letters.{table-good, good-short}
+use Rattle.theory.specs.Records.Taken.{FormTaken, both-taken}
 use Rattle.theory.specs.Values.Assignments.{value-given}
 
 -- equal forms are said to hold
@@ -54,33 +55,27 @@ module _ (table s t buffer work : List ℕ) (answer : D.Decision) (buffer′ wor
 -- ════ at the calls
 
 -- the decision took the table, the buffer and the two forms
-record BothTaken (table s t buffer : List ℕ) (forms : Form × Form) : Type 0 where
+record BothTold (table s t buffer : List ℕ) (forms : Form × Form) : Type 0 where
   tableTested : testTable table ≡ given tt
   room : bufferBytes ≤ length buffer
-  firstTaken : takeForm table s ≡ given (forms .0)
-  secondTaken : takeForm table t ≡ given (forms .1)
-  firstLetters : testTerms table (forms .0 .terms) ≡ given tt
-  secondLetters : testTerms table (forms .1 .terms) ≡ given tt
+  first : FormTaken table s (forms .0)
+  second : FormTaken table t (forms .1)
 
-both-taken : (table s t buffer work : List ℕ) (forms : Form × Form) → decideTested table s t buffer work ≡ given forms → BothTaken table s t buffer forms
-unfolding decideTested takeTwoForms takeForm
-both-taken table s t buffer work forms e =
+both-told : (table s t buffer work : List ℕ) (forms : Form × Form) → decideTested table s t buffer work ≡ given forms → BothTold table s t buffer forms
+unfolding decideTested takeTwoForms
+both-told table s t buffer work forms e =
     let first = tested (testTable table) _ forms e in
     past (leb bufferBytes (length buffer) && leb workBytes (length work)) 2 _ forms (first .1) (λ rooms e₁.
-    into (readForm s) _ forms e₁ (λ f f-read e₂.
-    into (readForm t) _ forms e₂ (λ g g-read e₃.
-    let f-tested = tested (testTerms table (f .terms)) _ forms e₃ in
-    let g-tested = tested (testTerms table (g .terms)) _ forms (f-tested .1) in
-    let kinds = required (eqb (f .kind) (g .kind)) 6 (given (f, g)) forms (g-tested .1) in
-    subst (BothTaken table s t buffer) (given-same (kinds .1))
+    into (takeBoth table s t) _ forms e₁ (λ p both e₂.
+    let kinds = required (eqb (p .0 .kind) (p .1 .kind)) 6 (given p) forms e₂ in
+    let taken = both-taken table s t p both in
+    subst (BothTold table s t buffer) (given-same (kinds .1))
     (record {
       tableTested = first .0;
       room = leb→le bufferBytes (length buffer) (and-split (leb bufferBytes (length buffer)) (leb workBytes (length work)) rooms .0);
-      firstTaken = rw (f-read, f-tested .0);
-      secondTaken = rw (g-read, g-tested .0);
-      firstLetters = f-tested .0;
-      secondLetters = g-tested .0;
-    }))))
+      first = taken .0;
+      second = taken .1;
+    })))
 
 -- where the decision says that two forms differ, the value call on the bytes handed over gives different numbers
 pub differs-values : (table s t buffer work : List ℕ) (answer : D.Decision) (buffer′ work′ : List ℕ) → Decided table s t buffer work answer buffer′ work′
@@ -92,13 +87,13 @@ differs-values table s t buffer work answer buffer′ work′ contract e =
     go : (r : Result (Form × Form)) → decideTested table s t buffer work ≡ r → DecidedBy r table buffer work D.differs buffer′ work′ → ValuesDiffer table s t (take (3 * length table) buffer′)
     go (refused n) q w = absurd w
     go (given forms) q w =
-        let k = both-taken table s t buffer work forms q in
+        let k = both-told table s t buffer work forms q in
         let long : 3 * length table ≤ length buffer′ = omega (arith, w .sameLength, k .room, good-short table (table-good table (k .tableTested))) in
         record {
           first = value (assignment buffer′) (forms .0);
           second = value (assignment buffer′) (forms .1);
-          firstGiven = value-given table buffer′ long (w .inRange) s (forms .0) (k .tableTested) (k .firstTaken) (k .firstLetters);
-          secondGiven = value-given table buffer′ long (w .inRange) t (forms .1) (k .tableTested) (k .secondTaken) (k .secondLetters);
+          firstGiven = value-given table buffer′ long (w .inRange) s (forms .0) (k .tableTested) (k .first .isTaken) (k .first .lettersTested);
+          secondGiven = value-given table buffer′ long (w .inRange) t (forms .1) (k .tableTested) (k .second .isTaken) (k .second .lettersTested);
           different = w .unequal;
         }
 

@@ -5,9 +5,8 @@ ghost use Rattle.decision.specs.Answers.{decisionOf};
 use elimination::components::compare;
 use elimination::elimination::clear;
 use elimination::elimination::eliminate;
-use forms::read_whole;
+use forms::read_both;
 use letters::check_table;
-use letters::test_terms;
 use terms::types::Form;
 
 // Bytes of the buffer that the decision takes at least.
@@ -66,26 +65,13 @@ pub fn decide(
     if work.len() < WORK_BYTES {
         return Decision::Refused(2);
     }
-    let a = read_whole(first);
-    let p = a.refusal;
+    let b = read_both(table, first, second);
+    let p = b.refusal;
     if p != 0 {
         return Decision::Refused(p);
     }
-    let b = read_whole(second);
-    let q = b.refusal;
-    if q != 0 {
-        return Decision::Refused(q);
-    }
-    let f = a.form;
-    let g = b.form;
-    let c = test_terms(table, f);
-    if c != 0 {
-        return Decision::Refused(c);
-    }
-    let d = test_terms(table, g);
-    if d != 0 {
-        return Decision::Refused(d);
-    }
+    let f = b.first;
+    let g = b.second;
     if f.kind != g.kind {
         return Decision::Refused(6);
     }

@@ -12,6 +12,7 @@ use Rattle.specification.specs.Results.{Result, refused, given, require}
 use Rattle.specification.specs.Letters.{testTable}
 use Rattle.specification.specs.Values.{Vec}
 use Rattle.specification.specs.Reduction.{reduceCall}
+use Rattle.specification.specs.Insertion.{insertCall}
 use Rattle.specification.specs.Evaluation.{valueCall}
 use Rattle.specification.specs.Logs.{Checked, refusedAt, atStep, checkCall}
 use Rattle.checker.specs.declared.Checked as checked
@@ -25,14 +26,19 @@ use Rattle.evaluation.specs.declared.Valued.the-variants as valued
 use Rattle.evaluation.specs.Vectors.{vecOf}
 use Rattle.evaluation.specs.Answers.{valuedOf}
 use Rattle.reduction.specs.declared.Reduced.{Reduced}
-use Rattle.reduction.specs.declared.Reduced.the-variants.{Written, Refused}
+use Rattle.reduction.specs.declared.Reduced.the-variants as R
 use Rattle.reduction.specs.Answers.{reducedOf}
+use Rattle.insertion.specs.declared.Inserted.{Inserted}
+use Rattle.insertion.specs.declared.Inserted.the-variants as I
+use Rattle.insertion.specs.Answers.{insertedOf}
 use Rattle.decision.specs.declared.Decision.{Decision}
 use Rattle.decision.specs.declared.Decision.the-variants as decided
 use Rattle.decision.specs.Answers.{decisionOf}
 use Rattle.letters.proofs.LetterTests.{test-passed, test-refused}
 use Rattle.reduction.proofs.KeptValue.{reduce-keeps-value}
-use Rattle.specification.specs.Returns.{returned, handed, threeInto, answerVec, valueTested, valueReturned, reduceReturned, returnedAt, placesInto, answerLog}
+use Rattle.insertion.proofs.KeptValue.{insert-short}
+use Rattle.theory.specs.Records.Positions.{Bytes}
+use Rattle.specification.specs.Returns.{returned, handed, threeInto, answerVec, valueTested, valueReturned, reduceReturned, insertReturned, returnedAt, placesInto, answerLog}
 use Rattle.specification.specs.Returns.{checkReturned, decisionReturned, DecideReturned}
 
 -- ════ three numbers
@@ -94,20 +100,21 @@ module _ (table form s : List ℕ) (values : List ℤ) where
         unfolding valuedOf
         value-returned v g after p = given-returned (vecOf v) after p (called ∙ rw g)
 
--- ════ the reduction call
+-- ════ calls that give a form
+
+-- a call's answer is returned with the bytes as the call left them
+answered : (call : Result ℕ × List ℕ) (x b : Result ℕ) (after : List ℕ) (r : ℤ) → _≡_ {A = Result ℕ × List ℕ} (x, after) call → x ≡ b → r ≡ returned b
+    → _≡_ {A = ℤ × List ℕ} (r, after) (handed call)
+unfolding handed
+answered call x b after r contract p q = rw (← contract, p, q)
 
 module _ (table expr out after : List ℕ) (a : Reduced) (contract : (reducedOf a, after) ≡ reduceCall table expr out) where
-  -- the answer is returned with the bytes as the call left them
-  answered : (b : Result ℕ) (r : ℤ) → reducedOf a ≡ b → r ≡ returned b → (r, after) ≡ reduceReturned table expr out
-  unfolding reduceReturned handed
-  answered b r p q = rw (← contract, p, q)
+  -- the reduction call: a refusal
+  pub reduce-refused : (m : ℕ) → a ≡ R.Refused m → (r : ℤ) → r ≡ returned (refused m) → (r, after) ≡ reduceReturned table expr out
+  unfolding reducedOf reduceReturned
+  reduce-refused m g r p = answered _ _ (refused m) after r contract (rw g) p
 
-  -- a refusal
-  pub reduce-refused : (m : ℕ) → a ≡ Refused m → (r : ℤ) → r ≡ returned (refused m) → (r, after) ≡ reduceReturned table expr out
-  unfolding reducedOf
-  reduce-refused m g r p = answered (refused m) r (rw g) p
-
-  module _ (n : ℕ) (g : a ≡ Written n) where
+  module _ (n : ℕ) (g : a ≡ R.Written n) where
     -- a length fits
     pub reduce-short : n ≤ formBytes
     unfolding reducedOf
@@ -115,8 +122,26 @@ module _ (table expr out after : List ℕ) (a : Reduced) (contract : (reducedOf 
 
     -- and is returned
     pub reduce-returned : (r : ℤ) → r ≡ returned (given n) → (r, after) ≡ reduceReturned table expr out
-    unfolding reducedOf
-    reduce-returned r p = answered (given n) r (rw g) p
+    unfolding reducedOf reduceReturned
+    reduce-returned r p = answered _ _ (given n) after r contract (rw g) p
+
+module _ (table form : List ℕ) (letter : ℕ) (inserted out after : List ℕ) (a : Inserted)
+    (contract : (insertedOf a, after) ≡ insertCall table form letter inserted out) where
+  -- the insertion call: a refusal
+  pub insert-refused : (m : ℕ) → a ≡ I.Refused m → (r : ℤ) → r ≡ returned (refused m) → (r, after) ≡ insertReturned table form letter inserted out
+  unfolding insertedOf insertReturned
+  insert-refused m g r p = answered _ _ (refused m) after r contract (rw g) p
+
+  module _ (n : ℕ) (g : a ≡ I.Written n) where
+    -- a length fits
+    pub insert-fits : Bytes form → Bytes inserted → n ≤ formBytes
+    unfolding insertedOf
+    insert-fits bf bi = insert-short table form letter inserted out after a bf bi contract n (rw g)
+
+    -- and is returned
+    pub insert-returned : (r : ℤ) → r ≡ returned (given n) → (r, after) ≡ insertReturned table form letter inserted out
+    unfolding insertedOf insertReturned
+    insert-returned r p = answered _ _ (given n) after r contract (rw g) p
 
 -- ════ the checker's call
 

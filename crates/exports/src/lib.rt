@@ -2,7 +2,7 @@
 ghost use mathlib.Core.Path.{_≡_};
 ghost use Prim.Native.Nat.{_≤_};
 ghost use lib.ListN.{length};
-ghost use Rattle.specification.specs.Returns.{threeInto, valueReturned, reduceReturned, checkReturned, DecideReturned, ShortenReturned};
+ghost use Rattle.specification.specs.Returns.{threeInto, valueReturned, reduceReturned, insertReturned, checkReturned, DecideReturned, ShortenReturned};
 ghost use Rattle.evaluation.specs.Vectors.{vecOf};
 use checker::Checked;
 use checker::check;
@@ -11,6 +11,8 @@ use decision::decide;
 use evaluation::Valued;
 use evaluation::value;
 use evaluation::vectors::Vector;
+use insertion::Inserted;
+use insertion::insert;
 use letters::check_table;
 use reduction::Reduced;
 use reduction::reduce;
@@ -70,6 +72,24 @@ pub extern "C" fn kalzunbi_reduce(table: &[u8], expression: &[u8], out: &mut [u8
     match r {
         Reduced::Written(n) => written(n),
         Reduced::Refused(m) => refusal(m),
+    }
+}
+
+// A form with a vector form for one of its vector letters, the record written into the bytes lent: its length, or minus 1, 2, 11, then 5 or 6, then 7, 8, 9 or 10.
+#[no_mangle]
+pub extern "C" fn kalzunbi_insert(
+    table: &[u8],
+    form: &[u8],
+    letter: u8,
+    inserted: &[u8],
+    out: &mut [u8],
+) -> i64
+    ensures { λ r. ⌜ (r, now (out .exit)) ≡ insertReturned (now (table .entry)) (now (form .entry)) letter (now (inserted .entry)) (now (out .entry)) ⌝ }
+{
+    let r = insert(table, form, letter, inserted, out);
+    match r {
+        Inserted::Written(n) => written(n),
+        Inserted::Refused(m) => refusal(m),
     }
 }
 

@@ -15,7 +15,7 @@ use Rattle.specification.specs.Letters.{kindOf}
 use Rattle.specification.specs.Records.{fourBytesAt}
 use Rattle.specification.specs.Terms as S
 use Rattle.specification.specs.Expressions.{Expr, Letter, Constant, Token, leaf, one, two, three, tokenBytes, testBytes, readLetter, readToken, readOperands, readTree}
-use Rattle.specification.specs.Reduction.{negateForm, sumForms, timesForms, dotForms, wedgeForms, tripleForms, letterForm, constantForm, work}
+use Rattle.specification.specs.Reduction.{negateForm, sumForms, timesForms, dotForms, wedgeForms, tripleForms, letterForm, constantForm, workWith, work}
 use Rattle.theory.specs.Tests.{refused≢given, given-same}
 use Rattle.algebra.specs.Integers.{sfits-natAbs}
 use Rattle.integers.proofs.Machine.{back, back-is}
@@ -163,7 +163,7 @@ letter-leafy table n token e = go (ltb n (length table)) e
 
 chain-shape : (n : ℕ) (letter : Result Token) (constant : Expr) → ((token : Token) → letter ≡ given token → Shape 1 token) → (token : Token)
     → chain n letter constant ≡ given token → Shape n token
-unfolding chain operandCount binary onOne onTwo onThree work
+unfolding chain operandCount binary onOne onTwo onThree workWith
 chain-shape zero letter constant l token e = absurd (refused≢given e)
 chain-shape (suc zero) letter constant l token e = l token e
 chain-shape (suc (suc zero)) letter constant l token e = subst (Shape 2) (given-same e) refl
@@ -263,7 +263,7 @@ module _ (table s : List ℕ) (at : ℕ) (h : LeafAt table s at) where
   pub leaf-letter : (r : Tree) (w : Worked) (rows : List (List ℕ)) (coefs : List ℤ) (kind : ℕ) → getD s at 0 ≡ 1 → kind ≡ kindOf table (getD s (at + 1) 0)
       → RowsGive (given (letterForm (getD s (at + 1) 0) kind)) w rows coefs → (r .unread ≡ 0) × (r .next ≡ at + 2) × (r .work ≡ w)
       → ReadAs (readLeaf table s at) r rows coefs
-  unfolding work tokenBytes
+  unfolding workWith tokenBytes
   leaf-letter r w rows coefs kind e q k p =
       leaf-read r w rows coefs (Letter (getD s (at + 1) 0) (kindOf table (getD s (at + 1) 0))) 1 e (letter-read e)
       (subst (λ (x : ℕ). RowsGive (given (letterForm (getD s (at + 1) 0) x)) w rows coefs) q k) p
@@ -272,7 +272,7 @@ module _ (table s : List ℕ) (at : ℕ) (h : LeafAt table s at) where
   pub leaf-constant : (r : Tree) (w : Worked) (rows : List (List ℕ)) (coefs : List ℤ) → (getD s at 0 ≡ 1 → ⊥)
       → RowsGive (constantForm (fourBytesAt s (at + 1))) w rows coefs
       → (r .unread ≡ 0) × (r .next ≡ at + 5) × (r .work ≡ w) → ReadAs (readLeaf table s at) r rows coefs
-  unfolding work tokenBytes
+  unfolding workWith tokenBytes
   leaf-constant r w rows coefs n k p = leaf-read r w rows coefs (Constant (fourBytesAt s (at + 1))) 2 (constant-token n) (constant-read (constant-token n)) k p
 
 -- a constant as its bytes spell it

@@ -1,4 +1,3 @@
 -- Lemmas that belong to no one function.
 pub mod Heads
 pub mod Levels
-pub mod Single

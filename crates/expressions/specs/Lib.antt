@@ -1,3 +1,2 @@
 -- What the contracts cite.
-pub mod Leaves
 pub mod Trees

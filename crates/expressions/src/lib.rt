@@ -1,4 +1,3 @@
 // Expressions: read as trees, operands left to right, and worked into forms on the way.
-pub mod leaves;
 pub mod tokens;
 pub mod trees;

@@ -14,6 +14,7 @@ use Rattle.terms.specs.Abstraction.{formOf, termsOf, outcomeOf}
 use Rattle.terms.specs.Build.{behind}
 use Rattle.terms.specs.Valid.{FormValid, Readable}
 use Rattle.forms.specs.declared.FormReading.{FormReading}
+use Rattle.forms.specs.declared.Both.{Both}
 use Rattle.terms.specs.declared.types.Outcome.{Outcome}
 
 -- the terms read so far
@@ -51,3 +52,13 @@ pub record WholeRead (read : Result S.Form) (r : Outcome) : Type 0 where
   pub is : outcomeOf r ≡ read
   pub readable : Readable 48 (r .form)
   pub valid : r .refusal ≡ 0 → FormValid (r .form)
+
+-- both forms, or the refusal where its number is not 0
+unfoldable pub bothOf : Both → Result (S.Form × S.Form)
+bothOf r = if eqb (r .refusal) 0 then given (formOf (r .first), formOf (r .second)) else refused (r .refusal)
+
+-- two forms taken together; where they are, valid ones
+pub record BothRead (read : Result (S.Form × S.Form)) (r : Both) : Type 0 where
+  pub is : bothOf r ≡ read
+  pub first : r .refusal ≡ 0 → FormValid (r .first)
+  pub second : r .refusal ≡ 0 → FormValid (r .second)

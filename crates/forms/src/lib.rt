@@ -4,12 +4,13 @@ ghost use mathlib.Core.Bool.{false};
 ghost use mathlib.Core.List.{[]};
 ghost use Prim.Native.Nat.{_+_, _*_, _≤_};
 ghost use lib.ListN.{length};
-ghost use Rattle.specification.specs.Records.{partFits, readTerms, readFormAt, readForm, takeForm};
+ghost use Rattle.specification.specs.Records.{partFits, readTerms, readFormAt, readForm, takeForm, takeBoth};
 ghost use Rattle.terms.specs.Abstraction.{termOf, formOf, Counted, termsOf};
 ghost use Rattle.terms.specs.Valid.{FormValid, Gives, Readable};
-ghost use Rattle.forms.specs.Reading.{behindLast, readBehind, TermsTaken, FormRead, WholeRead};
+ghost use Rattle.forms.specs.Reading.{behindLast, readBehind, TermsTaken, FormRead, WholeRead, BothRead};
 ghost use Rattle.forms.specs.Written.{FormWritten};
 ghost use Rattle.records.specs.Reading.{TermRead};
+use letters::first_of;
 use letters::test_terms;
 use record_writing::write_term;
 use records::read::TermReading;
@@ -32,6 +33,13 @@ pub struct FormReading {
     pub ok: bool,
     pub next: usize,
     pub form: Form,
+}
+
+// Two forms taken together, or the number of the refusal where it is not 0.
+pub struct Both {
+    pub refusal: u8,
+    pub first: Form,
+    pub second: Form,
 }
 
 // A form of a kind without terms.
@@ -181,6 +189,24 @@ pub fn read_form(table: &[u8], s: &[u8]) -> Outcome
     Outcome {
         refusal: c,
         form: f,
+    }
+}
+
+// The forms whose records the bytes are, both with letters of the table: 11 for either, then 5 or 6, in byte order.
+pub fn read_both(table: &[u8], s: &[u8], t: &[u8]) -> Both
+    ensures { λ r. ⌜ BothRead (takeBoth (now (table .entry)) (now (s .entry)) (now (t .entry))) r ⌝ }
+{
+    let a = read_whole(s);
+    let b = read_whole(t);
+    let f = a.form;
+    let g = b.form;
+    let shapes = first_of(a.refusal, b.refusal);
+    let letters = first_of(test_terms(table, f), test_terms(table, g));
+    let n = first_of(shapes, letters);
+    Both {
+        refusal: n,
+        first: f,
+        second: g,
     }
 }
 

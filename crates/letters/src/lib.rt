@@ -10,7 +10,7 @@ ghost use Rattle.specification.specs.Records.{testTerm, testTerms};
 ghost use Rattle.terms.specs.Numbers.{lettersOf};
 ghost use Rattle.terms.specs.Abstraction.{partOf, termOf, Counted, termsOf};
 ghost use Rattle.terms.specs.Valid.{Readable};
-ghost use Rattle.letters.specs.Tested.{testOf};
+ghost use Rattle.letters.specs.Tested.{testOf, inTurn};
 use terms::factors::Factor;
 use terms::factors::letters_of;
 use terms::types::Form;
@@ -58,6 +58,16 @@ pub fn test_letter(table: &[u8], kind: u8, x: u8) -> u8
         return 6;
     }
     0
+}
+
+// Of two tests the first that refuses, else 0.
+pub fn first_of(a: u8, b: u8) -> u8
+    ensures { λ r. ⌜ testOf r ≡ inTurn (testOf a) (testOf b) ⌝ }
+{
+    if a != 0 {
+        return a;
+    }
+    b
 }
 
 // Two vector letters.

@@ -2,12 +2,12 @@
 use mathlib.Core.Path.{_≡_, ap, sym, _∙_}
 use mathlib.Core.List.{List}
 use Prim.Native.Nat.{ℕ, _≤_, _<_}
-use borrow.Author.Tests.{le-leb, lt-leb}
+use borrow.Author.Tests.{lt-leb}
 use lib.ListN.{length}
 use Rattle.specification.specs.Results.{Result, refused, given}
 use Rattle.specification.specs.Letters.{testTable}
 use Rattle.specification.specs.Terms as S
-use Rattle.specification.specs.Records.{formBytes, writeForm, writeInto, takeForm}
+use Rattle.specification.specs.Records.{formBytes, writeForm, writeInto, formTested, takeForm}
 use Rattle.specification.specs.Promises.{rewriteTested, rewriteAnswer, rewriteCall}
 use Rattle.theory.specs.Records.Positions.{Bytes}
 use Rattle.terms.specs.declared.types.Outcome.{Outcome}
@@ -17,6 +17,7 @@ use Rattle.letters.specs.Tested.{testOf}
 use Rattle.letters.proofs.LetterTests.{test-passed, test-refused}
 use Rattle.forms.specs.Written.{FormWritten}
 use Rattle.forms.proofs.RoundTrip.{taken-written}
+use Rattle.forms.proofs.FormCalls.{content-decides}
 use Rattle.terms.proofs.Outcomes.{worked-given, worked-refused}
 
 module _ (table form out : List ℕ) (bad : ℕ) (tb : testOf bad ≡ testTable table) where
@@ -26,7 +27,7 @@ module _ (table form out : List ℕ) (bad : ℕ) (tb : testOf bad ≡ testTable 
 
   -- 1
   pub table-refused : (bad ≡ 0 → ⊥) → _≡_ {A = Result ℕ × List ℕ} (refused bad, out) (rewriteCall table form out)
-  unfolding rewriteTested rewriteAnswer
+  unfolding rewriteTested rewriteAnswer formTested
   table-refused h = by-tests (refused bad) (rw (← tb, test-refused bad h))
 
   module _ (z : bad ≡ 0) where
@@ -35,13 +36,13 @@ module _ (table form out : List ℕ) (bad : ℕ) (tb : testOf bad ≡ testTable 
 
     -- 2
     pub out-refused : length out < formBytes → _≡_ {A = Result ℕ × List ℕ} (refused 2, out) (rewriteCall table form out)
-    unfolding rewriteTested rewriteAnswer
+    unfolding rewriteTested rewriteAnswer formTested
     out-refused h = by-tests (refused 2) (rw (good, lt-leb formBytes (length out) h))
 
     module _ (enough : formBytes ≤ length out) (a : Outcome) (wa : Gives (takeForm table form) a) where
       tests-are : rewriteTested table form out ≡ takeForm table form
       unfolding rewriteTested
-      tests-are = rw (good, le-leb formBytes (length out) enough)
+      tests-are = content-decides table out (takeForm table form) bad tb z enough
 
       -- 11, 5, 6
       pub form-refused : (a .refusal ≡ 0 → ⊥) → _≡_ {A = Result ℕ × List ℕ} (refused (a .refusal), out) (rewriteCall table form out)

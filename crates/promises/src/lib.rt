@@ -1,11 +1,12 @@
-// The promises at the calls (P2, P3, P6, P7): each function makes a call and promises of what came back what the definitions alone do not say.
+// The promises at the calls (P2, P3, P6, P7 and K1): each function makes a call and promises of what came back what the definitions alone do not say.
 // A call that kept its own contract only in words would be refused here.
 ghost use mathlib.Core.Path.{_≡_};
 ghost use Prim.Native.Nat.{ℕ};
 ghost use lib.ListN.{take};
 ghost use Rattle.specification.specs.Results.{given};
-ghost use Rattle.specification.specs.Promises.{KeepsValue, rewriteCall, LogPromise, DecisionPromise};
+ghost use Rattle.specification.specs.Promises.{KeepsValue, Inserts, rewriteCall, LogPromise, DecisionPromise};
 ghost use Rattle.reduction.specs.Answers.{reducedOf};
+ghost use Rattle.insertion.specs.Answers.{insertedOf};
 ghost use Rattle.checker.specs.Answers.{checkedOf};
 ghost use Rattle.decision.specs.Answers.{decisionOf};
 use checker::Checked;
@@ -15,6 +16,8 @@ use decision::decide;
 use forms::FORM_BYTES;
 use forms::read_form;
 use forms::write_form;
+use insertion::Inserted;
+use insertion::insert;
 use letters::check_table;
 use reduction::Reduced;
 use reduction::reduce;
@@ -24,6 +27,19 @@ pub fn reduce_kept(table: &[u8], expression: &[u8], out: &mut [u8]) -> Reduced
     ensures { λ r. ⌜ ((n : ℕ) → reducedOf r ≡ given n → KeepsValue (now (table .entry)) (now (expression .entry)) (take n (now (out .exit)))) ⌝ }
 {
     reduce(table, expression, out)
+}
+
+// K1: the bytes that insertion wrote are the record of a form with the old form's value where the letter has the inserted form's, under every assignment.
+pub fn insert_replaces(
+    table: &[u8],
+    form: &[u8],
+    letter: u8,
+    inserted: &[u8],
+    out: &mut [u8],
+) -> Inserted
+    ensures { λ r. ⌜ ((n : ℕ) → insertedOf r ≡ given n → Inserts (now (table .entry)) (now (form .entry)) letter (now (inserted .entry)) (take n (now (out .exit)))) ⌝ }
+{
+    insert(table, form, letter, inserted, out)
 }
 
 // P3: a form that is read is written as the bytes that were read.

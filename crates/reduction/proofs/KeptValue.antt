@@ -1,20 +1,16 @@
 -- The theorem at the call: what `reduce` writes is, read back, a form with the value of the expression. Assumes nothing.
-use mathlib.Core.Path.{_≡_, refl, ap, sym, subst, _∙_}
+use mathlib.Core.Path.{_≡_, sym, subst, _∙_}
 use mathlib.Core.List.{List}
 use Prim.Native.Nat.{ℕ, _≤_}
-use lib.Dec.{T, leb}
-use lib.ListN.{length, take, drop}
-use lib.Seq.{take-at}
-use Rattle.specification.specs.Results.{Result, refused, given, _>>_, require}
-use Rattle.specification.specs.Letters.{goodTable, testTable}
+use lib.ListN.{take}
+use Rattle.specification.specs.Results.{Result, given}
 use Rattle.specification.specs.Terms.{Form}
-use Rattle.specification.specs.Records.{formBytes, writeForm, writeInto, answerForm, takeForm}
-use Rattle.specification.specs.Reduction.{reduced, reduceTested, reduceCall}
+use Rattle.specification.specs.Records.{formBytes, takeForm}
+use Rattle.specification.specs.Reduction.{reduced, reduceCall}
 use Rattle.specification.specs.Promises.{KeepsValue}
-use Rattle.theory.specs.Tests.{refused≢given, given-same, required}
 use Rattle.theory.specs.Records.Lengths.{form-short}
-use Rattle.theory.specs.Records.Forms.{form-read-back}
 use Rattle.theory.specs.Reduction.Work.{ReducedTo, reduction-keeps-value}
+use Rattle.forms.proofs.FormCalls.{FormAnswered, form-answered, reads-back}
 use Rattle.reduction.specs.declared.Reduced.{Reduced}
 use Rattle.reduction.specs.Answers.{reducedOf}
 
@@ -25,38 +21,19 @@ pub record WrittenForm (table expr after : List ℕ) (n : ℕ) : Type 0 where
   pub readBack : takeForm table (take n after) ≡ given form
   pub reducedTo : ReducedTo table expr form
 
-tests-passed : (table expr out : List ℕ) (f : Form) → reduceTested table expr out ≡ given f → T (goodTable table) × (reduced table expr ≡ given f)
-unfolding reduceTested testTable
-tests-passed table expr out f e =
-    let a = required (goodTable table) 1 (require (leb formBytes (length out)) 2 >> reduced table expr) f e in
-    let b = required (leb formBytes (length out)) 2 (reduced table expr) f (a .1) in
-    (a .0, b .1)
-
-read-back : (table expr out : List ℕ) (f : Form) → ReducedTo table expr f → takeForm table (take (length (writeForm f)) (writeInto (writeForm f) out)) ≡ given f
-unfolding takeForm writeInto
-read-back table expr out f r =
-    rw (take-at (writeForm f) (drop (length (writeForm f)) out) (length (writeForm f)) refl, form-read-back f (r .inShape), r .lettersTested)
-
-written : (table expr out after : List ℕ) (n : ℕ) (x : Result Form) → reduceTested table expr out ≡ x → _≡_ {A = Result ℕ × List ℕ} (given n, after) (answerForm x out) → WrittenForm table expr after n
-unfolding answerForm
-written table expr out after n (refused m) e h = absurd (refused≢given (sym (ap (λ (p : Result ℕ × List ℕ). p .0) h)))
-written table expr out after n (given f) e h =
-    let p = tests-passed table expr out f e in
-    let r : ReducedTo table expr f = reduction-keeps-value table expr f (p .0) (p .1) in
-    let m : n ≡ length (writeForm f) = given-same (ap (λ (p : Result ℕ × List ℕ). p .0) h) in
-    let b : after ≡ writeInto (writeForm f) out = ap (λ (p : Result ℕ × List ℕ). p .1) h in
-    record {
-      form = f;
-      short = subst (λ (k : ℕ). k ≤ formBytes) (sym m) (form-short f (r .inShape));
-      readBack = (λ i. takeForm table (take (m i) (b i))) ∙ read-back table expr out f r;
-      reducedTo = r;
-    }
-
 -- P2 at the call: where `reduce` answers with a length, so many bytes are the record of a form with the expression's value under every assignment of integers
 pub reduce-keeps-value : (table expr out after : List ℕ) (r : Reduced) (n : ℕ) → _≡_ {A = Result ℕ × List ℕ} (reducedOf r, after) (reduceCall table expr out) → reducedOf r ≡ given n
     → WrittenForm table expr after n
 unfolding reduceCall
-reduce-keeps-value table expr out after r n h e = written table expr out after n (reduceTested table expr out) refl ((λ i. (sym e i, after)) ∙ h)
+reduce-keeps-value table expr out after r n h e =
+    let a : FormAnswered table out (reduced table expr) n after = form-answered table out (reduced table expr) n after ((λ i. (sym e i, after)) ∙ h) in
+    let k : ReducedTo table expr (a .form) = reduction-keeps-value table expr (a .form) (a .good) (a .is) in
+    record {
+      form = a .form;
+      short = subst (λ (m : ℕ). m ≤ formBytes) (sym (a .size)) (form-short (a .form) (k .inShape));
+      readBack = reads-back table out (a .form) n after (a .size) (a .bytes) (k .inShape) (k .lettersTested);
+      reducedTo = k;
+    }
 
 -- what is promised of the bytes written
 pub keeps-value : (table expr out after : List ℕ) (r : Reduced) → _≡_ {A = Result ℕ × List ℕ} (reducedOf r, after) (reduceCall table expr out)

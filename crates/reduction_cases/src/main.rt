@@ -1,23 +1,16 @@
 // Runs cases of the reduction call from standard input. A case is the length of a table (one byte), the table, the length of an expression (two bytes), the expression,
 // and, where the table's length is 1 to 24, an assignment of three bytes a letter.
 // For each it writes a line: R and the number of the refusal; or the record of the form, and its three values under the assignment.
-ghost use Prim.Native.Nat.{_≤_, _<_};
+ghost use Prim.Native.Nat.{_<_};
 ghost use lib.ListN.{length};
+use case_lines::assignment_length;
 use case_lines::byte_at;
-use case_lines::print_bytes;
 use case_lines::print_character;
+use case_lines::print_form;
 use case_lines::print_refusal;
-use case_lines::print_values;
 use forms::FORM_BYTES;
 use reduction::Reduced;
 use reduction::reduce;
-
-// A record and its values.
-fn print_form(table: &[u8], form: &[u8], assignment: &[u8]) {
-    print_bytes(form);
-    print_character(b' ');
-    print_values(table, form, assignment);
-}
 
 // The line of a case.
 fn print_case(table: &[u8], expression: &[u8], assignment: &[u8]) {
@@ -28,16 +21,6 @@ fn print_case(table: &[u8], expression: &[u8], assignment: &[u8]) {
         Reduced::Refused(n) => print_refusal(n),
     }
     print_character(b'\n');
-}
-
-// How many bytes the assignment of a case has.
-fn assignment_length(letters: usize) -> usize
-    ensures { λ r. ⌜ r ≤ 72 ⌝ }
-{
-    if letters > 24 {
-        return 0;
-    }
-    3 * letters
 }
 
 // The case at a position, and the position behind it; the end where a case is cut off.

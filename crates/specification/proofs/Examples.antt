@@ -1,4 +1,4 @@
--- Worked examples of document 01 that are not starred, as rows of one table with one computed test: a wrong definition is refused in this crate, before any theorem stands on it.
+-- Worked examples of document 01 that are not starred, and of document 02, as rows of one table with one computed test: a wrong definition is refused in this crate, before any theorem stands on it.
 -- Assumes nothing.
 use mathlib.Core.Bool.{Bool, true, false, _&&_}
 use mathlib.Core.List.{List, [], _∷_}
@@ -11,6 +11,7 @@ use Rattle.specification.specs.Values.{Vec, wedge}
 use Rattle.specification.specs.Letters.{vector}
 use Rattle.specification.specs.Terms.{Form, dotOf, wedgeOf, plus}
 use Rattle.specification.specs.Records.{writeForm, readForm}
+use Rattle.specification.specs.Insertion.{withInserted}
 use Rattle.specification.specs.Rules.{sides}
 use Rattle.specification.specs.Evaluation.{termsValue}
 use Rattle.specification.specs.Logs.{sameCoef, sameForm}
@@ -24,6 +25,10 @@ data Example : Type 0 where
   prints : (input text : List ℕ) → Example
   -- a form and its record
   isRecord : (f : Form) (bytes : List ℕ) → Example
+  -- a form of six vectors a to f, a letter, a form inserted for it, and the record that comes out
+  inserts : (form : List ℕ) (letter : ℕ) (inserted bytes : List ℕ) → Example
+  -- or the number that they are refused with
+  insertRefused : (form : List ℕ) (letter : ℕ) (inserted : List ℕ) (number : ℕ) → Example
   -- two vectors and their wedge
   wedges : (a b c : Vec) → Example
   -- a rule whose sides have the same value at the numbers below
@@ -60,6 +65,15 @@ examples =
     (0x01 ∷ 0x01 ∷ 0x25 ∷ 0xff ∷ 0xff ∷ 0xff ∷ 0xfe ∷ 0x01 ∷ 0x00 ∷ 0x01 ∷ 0x02 ∷ 0x03 ∷ [])
     -- "coefficient, four bytes signed, left out exactly when it is 1": a alone is 01 01 10 00
     ∷ isRecord (record { kind = vector; terms = plus [] (0 ∷ []) ∷ [] }) (0x01 ∷ 0x01 ∷ 0x10 ∷ 0x00 ∷ [])
+    -- K1, "that letter has the inserted form's value": 2a for a in a is 2a, and not 4a
+    ∷ inserts (0x01 ∷ 0x01 ∷ 0x10 ∷ 0x00 ∷ []) 0 (0x01 ∷ 0x01 ∷ 0x11 ∷ 0x00 ∷ 0x00 ∷ 0x00 ∷ 0x02 ∷ 0x00 ∷ []) (0x01 ∷ 0x01 ∷ 0x11 ∷ 0x00 ∷ 0x00 ∷ 0x00 ∷ 0x02 ∷ 0x00 ∷ [])
+    -- a∧b for a in (a·c)b is (abc)b
+    ∷ inserts (0x01 ∷ 0x01 ∷ 0x14 ∷ 0x01 ∷ 0x00 ∷ 0x02 ∷ 0x01 ∷ []) 0 (0x01 ∷ 0x01 ∷ 0x20 ∷ 0x00 ∷ 0x01 ∷ []) (0x01 ∷ 0x01 ∷ 0x18 ∷ 0x01 ∷ 0x00 ∷ 0x01 ∷ 0x02 ∷ 0x01 ∷ [])
+    -- "multiplied from the left": in 2147483647(a·b)(abc), 2(d·d)(e·e)f for a is 9 at the first product; the triple alone would be 8
+    ∷ insertRefused (0x00 ∷ 0x01 ∷ 0x0d ∷ 0x7f ∷ 0xff ∷ 0xff ∷ 0xff ∷ 0x01 ∷ 0x00 ∷ 0x01 ∷ 0x01 ∷ 0x00 ∷ 0x01 ∷ 0x02 ∷ []) 0
+    (0x01 ∷ 0x01 ∷ 0x15 ∷ 0x00 ∷ 0x00 ∷ 0x00 ∷ 0x02 ∷ 0x02 ∷ 0x03 ∷ 0x03 ∷ 0x04 ∷ 0x04 ∷ 0x05 ∷ []) 9
+    -- "5 for a missing letter", also where the form inserted is the empty scalar form
+    ∷ insertRefused (0x01 ∷ 0x00 ∷ []) 6 (0x00 ∷ 0x00 ∷ []) 5
     -- "a∧b is (a2b3−a3b2, a3b1−a1b3, a1b2−a2b1)"
     ∷ wedges (vec (pos 1) (pos 2) (pos 3)) (vec (pos 4) (pos 5) (pos 7)) (vec (negsuc 0) (pos 5) (negsuc 2))
     -- "The five rules"
@@ -85,14 +99,27 @@ isForm : Result Form → Form → Bool
 isForm (refused n) f = false
 isForm (given g) f = sameForm g f
 
+isNumber : Result Form → ℕ → Bool
+isNumber (refused n) m = eqb n m
+isNumber (given f) m = false
+
+sixVectors : List ℕ
+sixVectors = 1 ∷ 1 ∷ 1 ∷ 1 ∷ 1 ∷ 1 ∷ []
+
+hasRecord : Result Form → List ℕ → Bool
+hasRecord (refused n) bytes = false
+hasRecord (given f) bytes = same (writeForm f) bytes
+
 -- the example holds
 exampleHolds : Example → Bool
 exampleHolds (prints input text) = same (printCall input) text
 exampleHolds (isRecord f bytes) = same (writeForm f) bytes && isForm (readForm bytes) f
+exampleHolds (inserts form letter inserted bytes) = hasRecord (withInserted sixVectors form letter inserted) bytes
+exampleHolds (insertRefused form letter inserted n) = isNumber (withInserted sixVectors form letter inserted) n
 exampleHolds (wedges a b c) = sameVec (wedge a b) c
 exampleHolds (balances rule) =
     let s = sides rule (0 ∷ 1 ∷ 2 ∷ 3 ∷ 4 ∷ 5 ∷ []) in sameVec (termsValue numbers (s .left)) (termsValue numbers (s .right))
 
 examples-hold : T (all exampleHolds examples)
-unfolding examples exampleHolds same sameVec isForm computing
+unfolding examples exampleHolds same sameVec isForm isNumber sixVectors hasRecord computing
 examples-hold = tt

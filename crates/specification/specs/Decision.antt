@@ -10,7 +10,7 @@ use Rattle.specification.specs.Results.{Result, refused, given, _>>=_, _
 use Rattle.specification.specs.Values.{Vec}
 use Rattle.specification.specs.Letters.{scalar, kindOf, testTable}
 use Rattle.specification.specs.Terms.{Form}
-use Rattle.specification.specs.Records.{readForm, testTerms}
+use Rattle.specification.specs.Records.{takeBoth}
 use Rattle.specification.specs.Evaluation.{value, assignment}
 
 -- "It says that the identity holds, or that it differs", or it is refused with its number
@@ -27,13 +27,10 @@ bufferBytes = 72
 abbrev pub workBytes : ℕ
 workBytes = 55296
 
--- "every shape is tested first", "Then letters in byte order", "two forms of unlike kind decided: 6"
+-- two forms taken, then "two forms of unlike kind decided: 6"
 unfoldable pub takeTwoForms : (table s t : List ℕ) → Result (Form × Form)
 takeTwoForms table s t = do
-  f ← readForm s
-  g ← readForm t
-  testTerms table (f .terms)
-  testTerms table (g .terms)
+  (f, g) ← takeBoth table s t
   require (eqb (f .kind) (g .kind)) 6
   given (f, g)
 

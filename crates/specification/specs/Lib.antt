@@ -1,4 +1,4 @@
--- Document 01 as definitions, one module a heading, in the order in which they build on each other.
+-- Document 01 as definitions, one module a heading, and document 02 as it lands, one module a request, in the order in which they build on each other.
 -- Lists and Results are the words that the others are written in.
 pub mod Results
 pub mod Lists
@@ -8,6 +8,7 @@ pub mod Terms
 pub mod Records
 pub mod Expressions
 pub mod Reduction
+pub mod Insertion
 pub mod Evaluation
 pub mod Rules
 pub mod Logs

@@ -1,15 +1,15 @@
--- What is promised of the calls beyond their definitions: P2, P3, P6 and P7 (demands 2 and 3), of what a call gave or wrote. Assumes nothing.
+-- What is promised of the calls beyond their definitions: P2, P3, P6 and P7 (demands 2 and 3) and the value of K1, of what a call gave or wrote. Assumes nothing.
 use mathlib.Core.Path.{_≡_}
 use mathlib.Core.List.{List}
 use Prim.Native.Nat.{ℕ, _+_, _*_}
-use lib.Dec.{T, leb}
+use lib.Dec.{T}
 use lib.ListN.{length, take, drop}
-use Rattle.specification.specs.Results.{Result, refused, given, _>>_, require, if_then_else_}
-use Rattle.specification.specs.Letters.{testTable}
+use Rattle.specification.specs.Results.{Result, refused, given, if_then_else_}
 use Rattle.specification.specs.Values.{Vec}
 use Rattle.specification.specs.Terms.{Form}
-use Rattle.specification.specs.Records.{formBytes, writeInto, readForm, takeForm}
+use Rattle.specification.specs.Records.{writeInto, formTested, readForm, takeForm}
 use Rattle.specification.specs.Expressions.{Expr, readExpr}
+use Rattle.specification.specs.Insertion.{replaced}
 use Rattle.specification.specs.Evaluation.{value, exprValue, valueCall}
 use Rattle.specification.specs.Logs.{Log, Checked, accepted, refusedAt, readLog, sameForm, takeSteps, withinLimits}
 use Rattle.specification.specs.Decision.{Decision, holds, differs, decideTested}
@@ -22,14 +22,22 @@ pub record KeepsValue (table expr written : List ℕ) : Type 0 where
   pub isForm : takeForm table written ≡ given form
   pub sameValue : (σ : ℕ → Vec) → value σ form ≡ exprValue σ tree
 
+-- K1: of the bytes that insertion wrote: they are the record of a form whose value, under every assignment of integers, is the old form's where the letter
+-- has the inserted form's value
+pub record Inserts (table form : List ℕ) (letter : ℕ) (inserted written : List ℕ) : Type 0 where
+  pub old : Form
+  pub put : Form
+  pub new : Form
+  pub isOld : takeForm table form ≡ given old
+  pub isPut : takeForm table inserted ≡ given put
+  pub isNew : takeForm table written ≡ given new
+  pub sameValue : (σ : ℕ → Vec) → value σ new ≡ value (replaced σ letter (value σ put)) old
+
 -- ════ P3: records
 
 -- a form taken from its sender and written again: the very bytes that were read, and as many; 1, then 2, then contents
 unfoldable pub rewriteTested : (table form out : List ℕ) → Result Form
-rewriteTested table form out = do
-  testTable table
-  require (leb formBytes (length out)) 2
-  takeForm table form
+rewriteTested table form out = formTested table out (takeForm table form)
 
 -- the length and the bytes of the form itself in front of the memory lent, or the number, and all memory stands
 unfoldable pub rewriteAnswer : Result Form → (form out : List ℕ) → Result ℕ × List ℕ

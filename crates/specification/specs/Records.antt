@@ -9,7 +9,7 @@ use lib.ListN.{length, getD, take, drop}
 use lib.Dec.{ltb, leb, eqb}
 use Rattle.specification.specs.Lists.{select, joined, follows}
 use Rattle.specification.specs.Results.{Result, Test, refused, given, _>>=_, _>>_, require, if_then_else_}
-use Rattle.specification.specs.Letters.{scalar, vector, testLetters}
+use Rattle.specification.specs.Letters.{scalar, vector, testTable, testLetters}
 use Rattle.specification.specs.Terms.{Term, Form, termKind, termBefore, termInShape}
 
 -- "A call that gives a form writes its record into at least 770 bytes"
@@ -89,6 +89,13 @@ writeInto bytes memory = bytes ++ drop (length bytes) memory
 unfoldable pub answerForm : Result Form → (memory : List ℕ) → Result ℕ × List ℕ
 answerForm (refused n) memory = (refused n, memory)
 answerForm (given f) memory = (given (length (writeForm f)), writeInto (writeForm f) memory)
+
+-- the tests of a call that gives a form, in their order: 1, 2, then contents
+unfoldable pub formTested : (table out : List ℕ) (content : Result Form) → Result Form
+formTested table out content = do
+  testTable table
+  require (leb formBytes (length out)) 2
+  content
 
 -- ════ reading a term
 
@@ -207,3 +214,12 @@ takeForm table s = do
   form ← readForm s
   testTerms table (form .terms)
   given form
+
+-- two forms taken: "every shape is tested first", "Then letters in byte order"
+unfoldable pub takeBoth : (table s t : List ℕ) → Result (Form × Form)
+takeBoth table s t = do
+  f ← readForm s
+  g ← readForm t
+  testTerms table (f .terms)
+  testTerms table (g .terms)
+  given (f, g)

@@ -7,9 +7,9 @@ use lib.ListN.{length}
 use lib.Dec.{leb, eqb}
 use Rattle.specification.specs.Lists.{all}
 use Rattle.specification.specs.Results.{Result, given, _>>=_, _>>_, require, if_then_else_}
-use Rattle.specification.specs.Letters.{scalar, vector, testTable}
+use Rattle.specification.specs.Letters.{scalar, vector}
 use Rattle.specification.specs.Terms.{Term, Form, dotOf, tripleOf, wedgeOf, plus, minus, timesTerm, negated, keep, gather, within, coefWithin, vectorLetters, scalarLetters}
-use Rattle.specification.specs.Records.{formBytes, answerForm}
+use Rattle.specification.specs.Records.{answerForm, formTested}
 use Rattle.specification.specs.Expressions.{Expr, Letter, Constant, Sum, Difference, Negation, Times, Dot, Wedge, Triple, readExpr}
 
 -- ════ one pair of terms: what its two vector parts make
@@ -118,38 +118,42 @@ constantForm k = do
   require (coefWithin k) 9
   given (record { kind = scalar; terms = keep (record { coef = k; factors = []; part = [] }) [] })
 
--- "Operands left to right, then the operator"
-unfoldable pub work : Expr → Result Form
-work (Letter n kind) = given (letterForm n kind)
-work (Constant k) = constantForm k
-work (Sum e f) = do
-  x ← work e
-  y ← work f
+-- "Operands left to right, then the operator"; `leaf` gives the form of a letter by its number and kind
+unfoldable pub workWith : (leaf : (n kind : ℕ) → Form) → Expr → Result Form
+workWith leaf (Letter n kind) = given (leaf n kind)
+workWith leaf (Constant k) = constantForm k
+workWith leaf (Sum e f) = do
+  x ← workWith leaf e
+  y ← workWith leaf f
   sumForms x y
-work (Difference e f) = do
-  x ← work e
-  y ← work f
+workWith leaf (Difference e f) = do
+  x ← workWith leaf e
+  y ← workWith leaf f
   sumForms x (negateForm y)
-work (Negation e) = do
-  x ← work e
+workWith leaf (Negation e) = do
+  x ← workWith leaf e
   given (negateForm x)
-work (Times e f) = do
-  x ← work e
-  y ← work f
+workWith leaf (Times e f) = do
+  x ← workWith leaf e
+  y ← workWith leaf f
   timesForms x y
-work (Dot e f) = do
-  x ← work e
-  y ← work f
+workWith leaf (Dot e f) = do
+  x ← workWith leaf e
+  y ← workWith leaf f
   dotForms x y
-work (Wedge e f) = do
-  x ← work e
-  y ← work f
+workWith leaf (Wedge e f) = do
+  x ← workWith leaf e
+  y ← workWith leaf f
   wedgeForms x y
-work (Triple e f g) = do
-  x ← work e
-  y ← work f
-  z ← work g
+workWith leaf (Triple e f g) = do
+  x ← workWith leaf e
+  y ← workWith leaf f
+  z ← workWith leaf g
   tripleForms x y z
+
+-- reduction: each letter stands for itself
+abbrev pub work : Expr → Result Form
+work = workWith letterForm
 
 -- ════ the call
 
@@ -159,13 +163,6 @@ reduced table expr = do
   tree ← readExpr table expr
   work tree
 
--- the tests of the call in their order: 1, 2, then contents
-unfoldable pub reduceTested : (table expr out : List ℕ) → Result Form
-reduceTested table expr out = do
-  testTable table
-  require (leb formBytes (length out)) 2
-  reduced table expr
-
 -- the length written, or the number; and the memory lent, afterwards
 unfoldable pub reduceCall : (table expr out : List ℕ) → Result ℕ × List ℕ
-reduceCall table expr out = answerForm (reduceTested table expr out) out
+reduceCall table expr out = answerForm (formTested table out (reduced table expr)) out

@@ -9,6 +9,7 @@ use Rattle.specification.specs.Results.{Result, refused, given, _>>_, re
 use Rattle.specification.specs.Letters.{testTable}
 use Rattle.specification.specs.Values.{Vec}
 use Rattle.specification.specs.Reduction.{reduceCall}
+use Rattle.specification.specs.Insertion.{insertCall}
 use Rattle.specification.specs.Evaluation.{valueCall}
 use Rattle.specification.specs.Logs.{Checked, refusedAt, accepted, atStep, checkCall}
 use Rattle.specification.specs.Terms.{Form}
@@ -47,6 +48,10 @@ valueReturned table form s values = handed (answerVec (valueTested table form s 
 -- the reduction call
 unfoldable pub reduceReturned : (table expr out : List ℕ) → ℤ × List ℕ
 reduceReturned table expr out = handed (reduceCall table expr out)
+
+-- the insertion call
+unfoldable pub insertReturned : (table form : List ℕ) (letter : ℕ) (inserted out : List ℕ) → ℤ × List ℕ
+insertReturned table form letter inserted out = handed (insertCall table form letter inserted out)
 
 -- ════ the checker
 

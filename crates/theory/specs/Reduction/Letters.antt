@@ -1,4 +1,4 @@
--- The letters of an expression that is read are in the table, with their kinds. Assumes nothing.
+-- What holds of every letter of a tree; and the letters of an expression that is read are in the table, with their kinds. Assumes nothing.
 use mathlib.Core.Path.{_≡_, refl, _∙_, subst}
 use mathlib.Core.Bool.{Bool, true, false}
 use mathlib.Core.List.{List}
@@ -11,17 +11,37 @@ use Rattle.specification.specs.Expressions.{Expr, Letter, Constant, Sum, Differ
 use Rattle.theory.specs.Tests.{eqb-T, given-same, refused≢given, required, passes, tested, bound, into}
 use Rattle.theory.specs.Shape.Letters.{Known, good-kind}
 
--- every letter is in the table, with its kind, which is scalar or vector
+-- what holds of every letter of a tree, by its number and kind
+abbrev pub Leaves : (P : (n kind : ℕ) → Type 0) → Expr → Type 0
+Leaves P (Letter n kind) = P n kind
+Leaves P (Constant k) = Unit {0}
+Leaves P (Sum e f) = Leaves P e × Leaves P f
+Leaves P (Difference e f) = Leaves P e × Leaves P f
+Leaves P (Negation e) = Leaves P e
+Leaves P (Times e f) = Leaves P e × Leaves P f
+Leaves P (Dot e f) = Leaves P e × Leaves P f
+Leaves P (Wedge e f) = Leaves P e × Leaves P f
+Leaves P (Triple e f g) = Leaves P e × Leaves P f × Leaves P g
+
+-- a weaker property
+pub leaves-imply : (P Q : (n kind : ℕ) → Type 0) → ((n kind : ℕ) → P n kind → Q n kind) → (e : Expr) → Leaves P e → Leaves Q e
+leaves-imply P Q h (Letter n kind) l = h n kind l
+leaves-imply P Q h (Constant k) l = tt
+leaves-imply P Q h (Sum e f) l = (leaves-imply P Q h e (l .0), leaves-imply P Q h f (l .1))
+leaves-imply P Q h (Difference e f) l = (leaves-imply P Q h e (l .0), leaves-imply P Q h f (l .1))
+leaves-imply P Q h (Negation e) l = leaves-imply P Q h e l
+leaves-imply P Q h (Times e f) l = (leaves-imply P Q h e (l .0), leaves-imply P Q h f (l .1))
+leaves-imply P Q h (Dot e f) l = (leaves-imply P Q h e (l .0), leaves-imply P Q h f (l .1))
+leaves-imply P Q h (Wedge e f) l = (leaves-imply P Q h e (l .0), leaves-imply P Q h f (l .1))
+leaves-imply P Q h (Triple e f g) l = (leaves-imply P Q h e (l .0), leaves-imply P Q h f (l .1), leaves-imply P Q h g (l .2))
+
+-- the letter is in the table, with its kind, which is scalar or vector
+abbrev pub LetterIn : (table : List ℕ) → (n kind : ℕ) → Type 0
+LetterIn table n kind = Known table kind n × (kind ≤ 1)
+
+-- every letter is
 abbrev pub LettersIn : (table : List ℕ) → Expr → Type 0
-LettersIn table (Letter n kind) = Known table kind n × (kind ≤ 1)
-LettersIn table (Constant k) = Unit {0}
-LettersIn table (Sum e f) = LettersIn table e × LettersIn table f
-LettersIn table (Difference e f) = LettersIn table e × LettersIn table f
-LettersIn table (Negation e) = LettersIn table e
-LettersIn table (Times e f) = LettersIn table e × LettersIn table f
-LettersIn table (Dot e f) = LettersIn table e × LettersIn table f
-LettersIn table (Wedge e f) = LettersIn table e × LettersIn table f
-LettersIn table (Triple e f g) = LettersIn table e × LettersIn table f × LettersIn table g
+LettersIn table = Leaves (LetterIn table)
 
 module _ (table : List ℕ) (good : T (goodTable table)) where
   -- ════ tokens

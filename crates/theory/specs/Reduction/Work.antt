@@ -16,7 +16,7 @@ use Rattle.specification.specs.Letters.{scalar, vector, goodTable}
 use Rattle.specification.specs.Terms.{Term, Form, plus, termKind, isZero, keep, insert, coefWithin, vectorLettersOf, scalarLettersOf, vectorLetters, scalarLetters, factorInShape, partInShape, termInShape}
 use Rattle.specification.specs.Records.{partFits, testTerms}
 use Rattle.specification.specs.Expressions.{Expr, Letter, Constant, Sum, Difference, Negation, Times, Dot, Wedge, Triple, readExpr}
-use Rattle.specification.specs.Reduction.{letterForm, constantForm, work, reduced}
+use Rattle.specification.specs.Reduction.{letterForm, constantForm, workWith, work, reduced}
 use Rattle.specification.specs.Evaluation.{factorsValue, partValue, termValue, termsValue, value, exprKind, exprValue}
 use Rattle.theory.specs.Tests.{given-same, required, bound}
 use Rattle.theory.specs.Elements.{T-all}
@@ -27,7 +27,7 @@ use Rattle.theory.specs.Shape.Letters.{Known, AllKnown, known-terms}
 use Rattle.theory.specs.Values.Vectors.{by-components, -v-is}
 use Rattle.theory.specs.Values.Expressions.{scalarE, A, letters, termsE, same-vectors, expanding}
 use Rattle.theory.specs.Values.Terms.{insert-value}
-use Rattle.theory.specs.Reduction.Letters.{LettersIn, letters-in}
+use Rattle.theory.specs.Reduction.Letters.{Leaves, leaves-imply, LetterIn, LettersIn, letters-in}
 use Rattle.theory.specs.Reduction.Products.{Denotes}
 use Rattle.theory.specs.Reduction.Operators.{denotes-as, sum-denotes, negate-denotes, times-denotes, dot-denotes, wedge-denotes, triple-denotes}
 
@@ -42,7 +42,8 @@ letter-form n kind = go (eqb kind scalar)
     go true = record { kind = omega arith; count = omega arith; terms = tt; parts = tt; ascending = tt }
     go false = record { kind = omega arith; count = omega arith; terms = tt; parts = tt; ascending = tt }
 
-letter-denotes : (table : List ℕ) (n kind : ℕ) → Known table kind n → kind ≤ 1 → Denotes table (letterForm n kind) kind (λ σ. exprValue σ (Letter n kind))
+-- a letter of the table denotes its value
+pub letter-denotes : (table : List ℕ) (n kind : ℕ) → Known table kind n → kind ≤ 1 → Denotes table (letterForm n kind) kind (λ σ. exprValue σ (Letter n kind))
 unfolding letterForm exprValue value expanding
 letter-denotes table n zero known h = record {
   kindIs = refl;
@@ -115,41 +116,54 @@ constant-denotes table k f e =
 
 -- ════ trees
 
+-- `leaf` gives the form of a letter, and ρ the assignment under which a letter's value is that form's
+module _ (table : List ℕ) (leaf : (n kind : ℕ) → Form) (ρ : (ℕ → Vec) → ℕ → Vec) where
+  -- the form of a letter denotes the letter's value
+  abbrev pub LeafDenotes : (n kind : ℕ) → Type 0
+  LeafDenotes n kind = Denotes table (leaf n kind) kind (λ σ. exprValue (ρ σ) (Letter n kind))
+
+  -- where the forms of its letters denote their values, a worked expression denotes its value
+  pub work-with-denotes : (e : Expr) → Leaves LeafDenotes e → (f : Form) → workWith leaf e ≡ given f → Denotes table f (exprKind e) (λ σ. exprValue (ρ σ) e)
+  unfolding workWith exprKind exprValue
+  work-with-denotes (Letter n kind) l f h =
+      subst (λ (x : Form). Denotes table x kind (λ σ. exprValue (ρ σ) (Letter n kind))) (given-same h) l
+  work-with-denotes (Constant k) l f h = constant-denotes table k f h
+  work-with-denotes (Sum e g) l f h =
+      let x = bound (workWith leaf e) _ f h in
+      let y = bound (workWith leaf g) _ f (x .2) in
+      sum-denotes (work-with-denotes e (l .0) (x .0) (x .1)) (work-with-denotes g (l .1) (y .0) (y .1)) f (y .2)
+  work-with-denotes (Difference e g) l f h =
+      let x = bound (workWith leaf e) _ f h in
+      let y = bound (workWith leaf g) _ f (x .2) in
+      denotes-as (sum-denotes (work-with-denotes e (l .0) (x .0) (x .1)) (negate-denotes (work-with-denotes g (l .1) (y .0) (y .1))) f (y .2))
+      (λ σ. sym (-v-is (exprValue (ρ σ) e) (exprValue (ρ σ) g)))
+  work-with-denotes (Negation e) l f h =
+      let x = bound (workWith leaf e) _ f h in
+      subst (λ (r : Form). Denotes table r (exprKind e) (λ σ. negsuc 0 • exprValue (ρ σ) e)) (given-same (x .2))
+      (negate-denotes (work-with-denotes e l (x .0) (x .1)))
+  work-with-denotes (Times e g) l f h =
+      let x = bound (workWith leaf e) _ f h in
+      let y = bound (workWith leaf g) _ f (x .2) in
+      times-denotes (work-with-denotes e (l .0) (x .0) (x .1)) (work-with-denotes g (l .1) (y .0) (y .1)) f (y .2)
+  work-with-denotes (Dot e g) l f h =
+      let x = bound (workWith leaf e) _ f h in
+      let y = bound (workWith leaf g) _ f (x .2) in
+      dot-denotes (work-with-denotes e (l .0) (x .0) (x .1)) (work-with-denotes g (l .1) (y .0) (y .1)) f (y .2)
+  work-with-denotes (Wedge e g) l f h =
+      let x = bound (workWith leaf e) _ f h in
+      let y = bound (workWith leaf g) _ f (x .2) in
+      wedge-denotes (work-with-denotes e (l .0) (x .0) (x .1)) (work-with-denotes g (l .1) (y .0) (y .1)) f (y .2)
+  work-with-denotes (Triple e g k) l f h =
+      let x = bound (workWith leaf e) _ f h in
+      let y = bound (workWith leaf g) _ f (x .2) in
+      let z = bound (workWith leaf k) _ f (y .2) in
+      triple-denotes (work-with-denotes e (l .0) (x .0) (x .1)) (work-with-denotes g (l .1) (y .0) (y .1)) (work-with-denotes k (l .2) (z .0) (z .1)) f (z .2)
+
 -- a worked expression denotes its value
 pub work-denotes : (table : List ℕ) (e : Expr) → LettersIn table e → (f : Form) → work e ≡ given f → Denotes table f (exprKind e) (λ σ. exprValue σ e)
-unfolding work exprKind exprValue
-work-denotes table (Letter n kind) l f h =
-    subst (λ (x : Form). Denotes table x kind (λ σ. exprValue σ (Letter n kind))) (given-same h) (letter-denotes table n kind (l .0) (l .1))
-work-denotes table (Constant k) l f h = constant-denotes table k f h
-work-denotes table (Sum e g) l f h =
-    let x = bound (work e) _ f h in
-    let y = bound (work g) _ f (x .2) in
-    sum-denotes (work-denotes table e (l .0) (x .0) (x .1)) (work-denotes table g (l .1) (y .0) (y .1)) f (y .2)
-work-denotes table (Difference e g) l f h =
-    let x = bound (work e) _ f h in
-    let y = bound (work g) _ f (x .2) in
-    denotes-as (sum-denotes (work-denotes table e (l .0) (x .0) (x .1)) (negate-denotes (work-denotes table g (l .1) (y .0) (y .1))) f (y .2))
-    (λ σ. sym (-v-is (exprValue σ e) (exprValue σ g)))
-work-denotes table (Negation e) l f h =
-    let x = bound (work e) _ f h in
-    subst (λ (r : Form). Denotes table r (exprKind e) (λ σ. negsuc 0 • exprValue σ e)) (given-same (x .2)) (negate-denotes (work-denotes table e l (x .0) (x .1)))
-work-denotes table (Times e g) l f h =
-    let x = bound (work e) _ f h in
-    let y = bound (work g) _ f (x .2) in
-    times-denotes (work-denotes table e (l .0) (x .0) (x .1)) (work-denotes table g (l .1) (y .0) (y .1)) f (y .2)
-work-denotes table (Dot e g) l f h =
-    let x = bound (work e) _ f h in
-    let y = bound (work g) _ f (x .2) in
-    dot-denotes (work-denotes table e (l .0) (x .0) (x .1)) (work-denotes table g (l .1) (y .0) (y .1)) f (y .2)
-work-denotes table (Wedge e g) l f h =
-    let x = bound (work e) _ f h in
-    let y = bound (work g) _ f (x .2) in
-    wedge-denotes (work-denotes table e (l .0) (x .0) (x .1)) (work-denotes table g (l .1) (y .0) (y .1)) f (y .2)
-work-denotes table (Triple e g k) l f h =
-    let x = bound (work e) _ f h in
-    let y = bound (work g) _ f (x .2) in
-    let z = bound (work k) _ f (y .2) in
-    triple-denotes (work-denotes table e (l .0) (x .0) (x .1)) (work-denotes table g (l .1) (y .0) (y .1)) (work-denotes table k (l .2) (z .0) (z .1)) f (z .2)
+work-denotes table e l =
+    work-with-denotes table letterForm (λ σ. σ) e
+    (leaves-imply (LetterIn table) (LeafDenotes table letterForm (λ σ. σ)) (λ n kind h. letter-denotes table n kind (h .0) (h .1)) e l)
 
 -- ════ the theorem
 

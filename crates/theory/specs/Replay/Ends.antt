@@ -10,7 +10,7 @@ use borrow.Author.Tests.{eq-eqb, le-leb}
 use Rattle.specification.specs.Results.{Result, given}
 use Rattle.specification.specs.Letters.{testTable, goodTable}
 use Rattle.specification.specs.Terms.{Form}
-use Rattle.specification.specs.Records.{writeForm, readForm, testTerms}
+use Rattle.specification.specs.Records.{writeForm, readForm, testTerms, takeBoth}
 use Rattle.specification.specs.Rules.{Step, takeStep, testStepLetters}
 use Rattle.specification.specs.Evaluation.{value, assignment}
 use Rattle.specification.specs.Logs.{accepted, checkCall, writeSteps, writeLog, takeSteps}
@@ -73,7 +73,7 @@ accepted-ends table s a b n bs e =
 
 two-taken : (table s t : List ℕ) (f g : Form) → readForm s ≡ given f → readForm t ≡ given g
     → testTerms table (f .terms) ≡ given tt → testTerms table (g .terms) ≡ given tt → f .kind ≡ g .kind → takeTwoForms table s t ≡ given (f, g)
-unfolding takeTwoForms
+unfolding takeTwoForms takeBoth
 two-taken table s t f g hs ht hf hg k = simp (hs, ht, hf, hg, eq-eqb (f .kind) (g .kind) k)
 
 decide-tested : (table s t buffer work : List ℕ) (p : Form × Form) → goodTable table ≡ true → bufferBytes ≤ length buffer → workBytes ≤ length work

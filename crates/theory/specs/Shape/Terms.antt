@@ -184,6 +184,16 @@ term-opens t h =
       };
     }
 
+-- so each factor passes the test of its shape
+pub factors-in-shape : (t : Term) → TermShape t → All (λ (f : List ℕ). T (factorInShape f)) (t .factors)
+factors-in-shape t s =
+    all-implies (λ (f : List ℕ). FactorInOrder f × OneToThree f) (λ (f : List ℕ). T (factorInShape f)) (λ f w. factor-closes f (w .0) (w .1)) (t .factors)
+    (both-all FactorInOrder OneToThree (t .factors) (s .inOrder .each) (s .fits .lengths))
+
+-- and so does the part
+pub part-in-shape : (t : Term) → TermShape t → T (partInShape (t .part))
+part-in-shape t s = part-closes (t .part) (s .inOrder .part) (s .fits .part)
+
 -- what makes the test hold
 pub term-closes : (t : Term) → TermShape t → T (termInShape t)
 unfolding termInShape vectorLetters scalarLetters
@@ -191,11 +201,9 @@ term-closes t s =
     seven-both (not (isZero (t .coef))) (coefWithin (t .coef)) (all factorInShape (t .factors)) (ascend factorNotAfter (t .factors)) (partInShape (t .part)) (leb (vectorLetters t) 6) (leb (scalarLetters t) 2)
     (coef-nonzero (t .coef) (s .nonzero))
     (s .within)
-    (T-all factorInShape (t .factors)
-    (all-implies (λ (f : List ℕ). FactorInOrder f × OneToThree f) (λ (f : List ℕ). T (factorInShape f)) (λ f w. factor-closes f (w .0) (w .1)) (t .factors)
-    (both-all FactorInOrder OneToThree (t .factors) (s .inOrder .each) (s .fits .lengths))))
+    (T-all factorInShape (t .factors) (factors-in-shape t s))
     (factors-ascend (t .factors) (s .inOrder .order))
-    (part-closes (t .part) (s .inOrder .part) (s .fits .part))
+    (part-in-shape t s)
     (le→leb (vectorLetters t) 6 (s .fits .vectors))
     (le→leb (scalarLetters t) 2 (s .fits .scalars))
 
