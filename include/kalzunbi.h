@@ -11,7 +11,8 @@
  * - Bytes need no alignment; an int64_t has its own, 8.
  * - Memory is lent for the time of the call. Nothing is kept: there is no state, no heap and no file, so threads may call at the same time as long as
  *   none writes what another reads.
- * - The calling thread has 32 kB of its stack left for a value or a decision, 64 kB for a check or a shortening, 128 kB for a reduction.
+ * - The calling thread has 32 kB of its stack left for a value or a decision, 64 kB for a check, an insertion or a shortening, 128 kB for a
+ *   reduction.
  *
  * An example, a program as it stands. tests/c_calls.sh compiles and runs it.
  *

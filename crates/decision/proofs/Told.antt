@@ -14,7 +14,7 @@ use Rattle.specification.specs.Letters.{testTable}
 use Rattle.specification.specs.Values.{Vec}
 use Rattle.specification.specs.Terms.{Form}
 use Rattle.specification.specs.Records.{takeBoth}
-use Rattle.specification.specs.Evaluation.{value, assignment, valueCall}
+use Rattle.specification.specs.Evaluation.{value, assignment}
 use Rattle.specification.specs.Decision.{takeTwoForms, decideTested, letterInRange, DecidedBy, Decided, bufferBytes, workBytes}
 use Rattle.specification.specs.Decision as D
 use Rattle.specification.specs.Promises.{ValuesDiffer, DecisionPromise}

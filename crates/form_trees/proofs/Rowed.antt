@@ -1,5 +1,5 @@
 -- The terms of a form in rows, one after the other. Assumes nothing.
-use mathlib.Core.Path.{_≡_, refl, ap, sym, subst, _∙_}
+use mathlib.Core.Path.{_≡_, ap, sym, subst, _∙_}
 use mathlib.Core.List.{List, [], _∷_}
 use Prim.Native.Nat.{ℕ, _+_, _≤_, _<_}
 use native.Mathlib.Omega.{arith}
@@ -13,7 +13,7 @@ use Rattle.terms.specs.declared.types.Term.{Term}
 use Rattle.terms.specs.Abstraction.{termOf, Counted}
 use Rattle.terms.specs.Valid.{TermValid}
 use Rattle.terms.proofs.Arrays.{all-at}
-use Rattle.rows.specs.Rows.{RowValid, termBy, runOf, formBy, SomeForm}
+use Rattle.rows.specs.Rows.{RowValid, termBy, runOf, SomeForm}
 use Rattle.rows.proofs.Runs.{run-length, run-at}
 use Rattle.sums.proofs.Bringing.{run-holds}
 

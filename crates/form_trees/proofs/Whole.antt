@@ -1,10 +1,9 @@
 -- A form whole: the empty one stands, another is its first term and the others added; and forms by value. Assumes nothing.
-use mathlib.Core.Path.{_≡_, refl, ap, sym, subst, _∙_}
+use mathlib.Core.Path.{_≡_, ap, sym, subst, _∙_}
 use mathlib.Core.List.{List, [], _∷_}
-use Prim.Native.Nat.{ℕ, zero}
+use Prim.Native.Nat.{ℕ}
 use lib.IntN.{ℤ}
-use lib.ListN.{drop}
-use Rattle.specification.specs.Results.{given, _>>=_}
+use Rattle.specification.specs.Results.{_>>=_}
 use Rattle.specification.specs.Terms as S
 use Rattle.specification.specs.Reduction.{workWith}
 use Rattle.specification.specs.Insertion.{termTree, leafWith, insertTerms, insertForm}
@@ -18,7 +17,7 @@ use Rattle.rows.specs.declared.Worked.{Worked}
 use Rattle.rows.specs.Rows.{termsBy, runOf, formBy, FormRun, HeldIn, RowsGive, OutcomeOf}
 use Rattle.rows.proofs.RowForms.{rows-as, held-is, held-run}
 use Rattle.leaves.proofs.Single.{none-gives}
-use Rattle.replacing.specs.Replacing.{leafBy, Replaces}
+use Rattle.replacing.specs.Replacing.{leafBy}
 use Rattle.replacing.proofs.Multiplied.{refused-on, given-on}
 
 module _ (leaf : (n kind : ℕ) → S.Form) (kind : ℕ) where

@@ -44,7 +44,7 @@ fn add_term(
     sum(x.kind, x.count, rows, coefs, y.kind, y.count, more, beside)
 }
 
-// The first of n terms in rows of their own, worked, and the others added, one after the other.
+// What stands in the rows plus the terms of n other rows behind the first, one after the other.
 fn add_terms(
     x: Worked,
     n: usize,

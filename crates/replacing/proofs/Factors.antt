@@ -18,13 +18,13 @@ use Rattle.theory.specs.Tests.{refused≢given, given-same}
 use Rattle.theory.specs.Shape.Forms.{FormInShape}
 use Rattle.theory.specs.Reduction.Standing.{factorHas, partWith, oneTerm, one-factor-in-shape, factor-stands}
 use Rattle.terms.specs.declared.factors.Factor.{Factor}
-use Rattle.terms.specs.declared.factors.Factor.the-variants.{Scalar, Dot, Triple}
+use Rattle.terms.specs.declared.factors.Factor.the-variants.{Dot, Triple}
 use Rattle.terms.specs.declared.types.Part.{Part}
 use Rattle.terms.specs.declared.types.Part.the-variants.{Nothing, Letter, Wedge}
 use Rattle.terms.specs.declared.types.Term.{Term}
 use Rattle.terms.specs.Numbers.{lettersOf}
 use Rattle.terms.specs.Abstraction.{factorOf, partOf, termOf}
-use Rattle.terms.proofs.Letters.{scalar-is, dot-is, triple-is, nothing-is, letter-is, wedge-is}
+use Rattle.terms.proofs.Letters.{dot-is, triple-is, nothing-is, letter-is, wedge-is}
 use Rattle.rows.specs.declared.Worked.{Worked}
 use Rattle.rows.specs.Rows.{formBy, Copied, FormRun, RowsGive}
 use Rattle.rows.proofs.RowForms.{rows-as, run-copied, form-copied}

@@ -1,13 +1,13 @@
 -- A form in rows taken on by an operator whose second operand was worked in others, and products factor by factor. Assumes nothing.
-use mathlib.Core.Path.{_≡_, refl, ap, sym, subst, _∙_}
-use mathlib.Core.List.{List, [], _∷_, map}
-use Prim.Native.Nat.{ℕ, _+_, _-_, _≤_, _<_}
+use mathlib.Core.Path.{_≡_, refl, ap, sym}
+use mathlib.Core.List.{List, [], _∷_}
+use Prim.Native.Nat.{ℕ}
 use native.Mathlib.Omega.{arith}
 use lib.IntN.{ℤ}
-use lib.ListN.{length, take, drop}
-use Rattle.specification.specs.Results.{Result, refused, given, _>>=_}
+use lib.ListN.{length}
+use Rattle.specification.specs.Results.{Result, given, _>>=_}
 use Rattle.specification.specs.Terms as S
-use Rattle.theory.specs.Reduction.Standing.{timesEach, partWith, timesPartWith}
+use Rattle.theory.specs.Reduction.Standing.{partWith, timesPartWith}
 use Rattle.rows.specs.declared.Worked.{Worked}
 use Rattle.rows.specs.Rows.{formBy, FormRun, RowsGive}
 use Rattle.rows.proofs.RowForms.{rows-refused, rows-as}

@@ -5,10 +5,9 @@ use Prim.Native.Nat.{ℕ, _+_, _-_, _≤_, _<_}
 use native.Mathlib.Omega.{arith}
 use lib.Dec.{T}
 use lib.IntN.{ℤ}
-use lib.ListN.{length, getD, take, drop, length-map}
-use lib.Seq.{length-take-le}
+use lib.ListN.{length, getD, take, drop}
 use Rattle.specification.specs.Results.{Result, refused, given, _>>=_}
-use Rattle.specification.specs.Terms.{factorInShape, termInShape}
+use Rattle.specification.specs.Terms.{factorInShape}
 use Rattle.specification.specs.Terms as S
 use Rattle.specification.specs.Reduction.{timesForms, sumForms, workWith}
 use Rattle.specification.specs.Insertion.{factorTree, termTree}
@@ -24,7 +23,7 @@ use Rattle.rows.specs.declared.Worked.{Worked}
 use Rattle.rows.specs.Rows.{formBy, FormRun, RowsGive}
 use Rattle.rows.proofs.RowForms.{rows-as}
 use Rattle.replacing.specs.Replacing.{timesFactor, plusTerm}
-use Rattle.replacing.proofs.Multiplied.{stands-so, refused-on, given-on}
+use Rattle.replacing.proofs.Multiplied.{stands-so, refused-on}
 
 -- ════ a chain
 

@@ -23,7 +23,6 @@ use Rattle.terms.specs.declared.types.Part.the-variants.{Nothing}
 use Rattle.terms.specs.declared.types.Term.{Term}
 use Rattle.terms.specs.Numbers.{lettersOf}
 use Rattle.terms.specs.Abstraction.{partOf, termOf, Counted}
-use Rattle.terms.specs.Valid.{TermValid}
 use Rattle.leaves.specs.Leaves.{TermAs}
 use Rattle.rows.specs.declared.Worked.{Worked}
 use Rattle.rows.specs.Rows.{formBy, RowsGive}

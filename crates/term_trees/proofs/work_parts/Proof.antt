@@ -4,7 +4,7 @@ use Prim.Native.Nat.{_≤_}
 use native.Mathlib.Omega.{arith}
 use lib.ListN.{length}
 use borrow.Author.Needs.{needs}
-use Rattle.terms.specs.Abstraction.{termOf, partOf}
+use Rattle.terms.specs.Abstraction.{termOf}
 use Rattle.replacing.proofs.Factors.{given-stands}
 use Rattle.term_trees.proofs.Splitting.{leading-within, front-form, front-is, parts-refused, parts-given}
 use borrow.Author.Needs.{needs}

@@ -224,11 +224,6 @@ one-part (a ∷ []) h = tt
 one-part (a ∷ b ∷ []) h = rw (is-true (ltb a b) h) tt
 one-part (a ∷ b ∷ c ∷ p) h = absurd h
 
--- so it is a form in shape
-pub one-part-in-shape : (p : List ℕ) → T (partInShape p) → FormInShape (oneTerm (kindOfPart p) (plus [] p))
-unfolding termKind
-one-part-in-shape p h = term-in-shape (plus [] p) (one-part p h)
-
 dot-stands : (a b : ℕ) → T (leb a b)
     → dotForms (letterForm a vector) (letterForm b vector) ≡ given (oneTerm scalar (plus ((a ∷ b ∷ []) ∷ []) []))
 unfolding letterForm dotForms dotParts pairTerms timesTerm joinedScalars shapes factorInShape
