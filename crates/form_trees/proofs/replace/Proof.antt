@@ -59,7 +59,8 @@ refuse-requires c κs = search needs
 returns : tie.Need-returns
 returns c =
     let s = c .before .before .before .before .before .before .before .before .before .before .before .before .before .before .before .before .before .before .before .before .before in
-    by-value _ _ (s .pre .0) (s .pre .1) (s .pre .2) _ _ (c .before .before .before .before .before .before .before .before .before .before .before .before .before .before .before .before .before .before .hold .ensures) _ _ (c .before .before .before .before .before .before .before .before .before .before .before .before .before .hold2 .ensures) _ _ _ _ _ (c .before .before .before .before .work-terms .ensures)
+    by-value _ _ (s .pre .0) (s .pre .1) (s .pre .2) _ _
+    (c .before .before .before .before .before .before .before .before .before .before .before .before .before .before .before .before .before .before .hold .ensures) _ _ (c .before .before .before .before .before .before .before .before .before .before .before .before .before .hold2 .ensures) _ _ _ _ _ (c .before .before .before .before .work-terms .ensures)
     (outcome-refused _ _ _ _ (c .before .if1 .taken) (c .refuse .ensures))
 
 slice-aggregate-form-of : tie.Need-slice-aggregate-form-of
@@ -74,7 +75,8 @@ form-of-requires c κs = let w = c .before .before .before .before .before .work
 returns-2 : tie.Need-returns-2
 returns-2 c =
     let s = c .before .before .before .before .before .before .before .before .before .before .before .before .before .before .before .before .before .before .before .before .before .before .before in
-    by-value _ _ (s .pre .0) (s .pre .1) (s .pre .2) _ _ (c .before .before .before .before .before .before .before .before .before .before .before .before .before .before .before .before .before .before .before .before .hold .ensures) _ _ (c .before .before .before .before .before .before .before .before .before .before .before .before .before .before .before .hold2 .ensures) _ _ _ _ _ (c .before .before .before .before .before .before .work-terms .ensures)
+    by-value _ _ (s .pre .0) (s .pre .1) (s .pre .2) _ _
+    (c .before .before .before .before .before .before .before .before .before .before .before .before .before .before .before .before .before .before .before .before .hold .ensures) _ _ (c .before .before .before .before .before .before .before .before .before .before .before .before .before .before .before .hold2 .ensures) _ _ _ _ _ (c .before .before .before .before .before .before .work-terms .ensures)
     (outcome-given _ _ _ _ (c .before .before .before .if1 .left) (c .form-of .ensures))
 
 pub replace-spec : {M : Type 1} → statement M

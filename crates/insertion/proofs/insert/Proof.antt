@@ -23,7 +23,8 @@ with-inserted-requires c κs = search needs
 returns-3 : tie.Need-returns-3
 unfolding insertCall insertedOf
 returns-3 c =
-    content-refused _ _ _ _ (c .before .before .before .before .check-table .ensures) (c .before .before .before .if1 .left) (c .before .before .if2 .left) _ (c .before .with-inserted .ensures) (c .if3 .taken)
+    content-refused _ _ _ _ (c .before .before .before .before .check-table .ensures) (c .before .before .before .if1 .left) (c .before .before .if2 .left) _
+    (c .before .with-inserted .ensures) (c .if3 .taken)
 
 write-form-requires : tie.Need-write-form-requires
 write-form-requires c κs =
@@ -35,7 +36,9 @@ same-length c = search needs
 returns-4 : tie.Need-returns-4
 unfolding insertCall insertedOf
 returns-4 c =
-    form-written _ _ _ _ (c .before .before .before .before .before .before .before .before .check-table .ensures) (c .before .before .before .before .before .before .before .if1 .left) (c .before .before .before .before .before .before .if2 .left) _ (c .before .before .before .before .before .with-inserted .ensures) _ _ (c .before .before .before .before .if3 .left)
+    form-written _ _ _ _ (c .before .before .before .before .before .before .before .before .check-table .ensures)
+    (c .before .before .before .before .before .before .before .if1 .left) (c .before .before .before .before .before .before .if2 .left) _
+    (c .before .before .before .before .before .with-inserted .ensures) _ _ (c .before .before .before .before .if3 .left)
     (c .before .before .write-form .ensures)
 
 pub insert-spec : {M : Type 1} → statement M

@@ -21,7 +21,8 @@ refuse-requires-2 c κs = search needs
 
 returns-2 : tie.Need-returns-2
 returns-2 c =
-    replaced-refused _ _ _ _ _ (c .before .before .before .before .before .before .before .read-both .ensures) (c .before .before .before .before .before .if1 .left) _ (c .before .before .test-replaced .ensures) _ (c .before .if2 .taken) (c .refuse2 .ensures)
+    replaced-refused _ _ _ _ _ (c .before .before .before .before .before .before .before .read-both .ensures)
+    (c .before .before .before .before .before .if1 .left) _ (c .before .before .test-replaced .ensures) _ (c .before .if2 .taken) (c .refuse2 .ensures)
 
 replace-requires : tie.Need-replace-requires
 replace-requires c κs =
@@ -31,7 +32,8 @@ replace-requires c κs =
 
 returns-3 : tie.Need-returns-3
 returns-3 c =
-    working-decides _ _ _ _ _ (c .before .before .before .before .before .before .before .read-both .ensures) (c .before .before .before .before .before .if1 .left) _ (c .before .before .test-replaced .ensures) (c .before .if2 .left) _ (c .replace .ensures)
+    working-decides _ _ _ _ _ (c .before .before .before .before .before .before .before .read-both .ensures)
+    (c .before .before .before .before .before .if1 .left) _ (c .before .before .test-replaced .ensures) (c .before .if2 .left) _ (c .replace .ensures)
 
 pub with-inserted-spec : {M : Type 1} → statement M
 with-inserted-spec =

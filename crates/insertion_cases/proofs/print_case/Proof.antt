@@ -36,7 +36,9 @@ enum-known-r c = search needs
 -- what was written is a record
 short : (c : tie.After-known-told) → c .before .r .given .0 .0 ≤ formBytes
 short c =
-    fits _ (now (c .before .before .before .before .before .before .before .before .before .before .args .form)) _ (now (c .before .before .before .before .before .before .before .before .before .before .args .inserted)) _ _ _ _ (λ (k : ℕ). c .before .before .before .before .before .before .before .before .shared-slice-known2 .given k .fits)
+    fits _ (now (c .before .before .before .before .before .before .before .before .before .before .args .form)) _
+    (now (c .before .before .before .before .before .before .before .before .before .before .args .inserted)) _ _ _ _
+    (λ (k : ℕ). c .before .before .before .before .before .before .before .before .shared-slice-known2 .given k .fits)
     (λ (k : ℕ). c .before .before .before .before .before .before .before .shared-slice-known3 .given k .fits) (c .before .before .before .before .insert .ensures) (c .before .r .given .1)
 
 array-share-prefix-out : tie.Need-array-share-prefix-out

@@ -42,7 +42,8 @@ same-length-2 c = search needs
 returns : tie.Need-returns
 returns c =
     let p = c .before .before .before .before .before .before .before .before .before .before .before .before .before .pre in
-    parts-refused _ _ _ _ (p .0 .inShape) (p .1) _ (front-is (c .before .before .before .before .before .before .before .before .before .before .before .before .before .args .t) _ _ (c .before .before .before .before .before .before .before .before .before .before .before .before .front-of .ensures) _ _ _ (c .before .before .before .before .before .before .before .before .before .alone .ensures)) _ _ _
+    parts-refused _ _ _ _ (p .0 .inShape) (p .1) _
+    (front-is (c .before .before .before .before .before .before .before .before .before .before .before .before .before .args .t) _ _ (c .before .before .before .before .before .before .before .before .before .before .before .before .front-of .ensures) _ _ _ (c .before .before .before .before .before .before .before .before .before .alone .ensures)) _ _ _
     (c .before .before .before .before .times-factors .ensures) (c .if1 .taken)
 
 times-part-requires : tie.Need-times-part-requires
@@ -61,7 +62,8 @@ returns-2 : tie.Need-returns-2
 unfolding termOf
 returns-2 c =
     let p = c .before .before .before .before .before .before .before .before .before .before .before .before .before .before .before .before .before .before .pre in
-    parts-given _ _ _ _ (p .0 .inShape) (p .1) _ (front-is (c .before .before .before .before .before .before .before .before .before .before .before .before .before .before .before .before .before .before .args .t) _ _ (c .before .before .before .before .before .before .before .before .before .before .before .before .before .before .before .before .before .front-of .ensures) _ _ _ (c .before .before .before .before .before .before .before .before .before .before .before .before .before .before .alone .ensures)) _ _ _
+    parts-given _ _ _ _ (p .0 .inShape) (p .1) _
+    (front-is (c .before .before .before .before .before .before .before .before .before .before .before .before .before .before .before .before .before .before .args .t) _ _ (c .before .before .before .before .before .before .before .before .before .before .before .before .before .before .before .before .before .front-of .ensures) _ _ _ (c .before .before .before .before .before .before .before .before .before .before .before .before .before .before .alone .ensures)) _ _ _
     (c .before .before .before .before .before .before .before .before .before .times-factors .ensures) _ _ _ (c .before .before .before .before .before .if1 .left) (c .before .before .times-part .ensures)
 
 pub work-parts-spec : {M : Type 1} → statement M

@@ -40,7 +40,8 @@ unfolding termOf
 returns c =
     let s = c .before .before .before .before .before .before .before .before .before .before .before in
     let w = c .before .before .before .before .before .before .before .is-without .ensures (c .before .before .before .before .before .before .if1 .taken) in
-    term-as-is _ _ (c .before .before .before .before .before .kind-of-part .ensures) (s .pre .0 .inShape) _ _ _ _ _ _ (room s) (c .before .before .before .before .before .before .before .before .leading .ensures) (w .0) (w .1)
+    term-as-is _ _ (c .before .before .before .before .before .kind-of-part .ensures) (s .pre .0 .inShape) _ _ _ _ _ _ (room s)
+    (c .before .before .before .before .before .before .before .before .leading .ensures) (w .0) (w .1)
     (c .before .before .alone .ensures)
 
 work-parts-requires : tie.Need-work-parts-requires

@@ -26,7 +26,8 @@ same-length-2 c = search needs
 returns : tie.Need-returns
 unfolding partOf
 returns c =
-    leaf-other _ _ _ _ _ _ (c .before .before .before .before .before .before .if1 .taken) (letter-vector _ _ (c .before .before .before .before .before .bare .ensures) 1 _ _ _ (λ z. omega arith) (c .before .before .alone .ensures))
+    leaf-other _ _ _ _ _ _ (c .before .before .before .before .before .before .if1 .taken)
+    (letter-vector _ _ (c .before .before .before .before .before .bare .ensures) 1 _ _ _ (λ z. omega arith) (c .before .before .alone .ensures))
 
 copy-requires : tie.Need-copy-requires
 copy-requires c κs = search needs

@@ -67,7 +67,8 @@ same-length-4 c = search needs
 
 returns-2 : tie.Need-returns-2
 returns-2 c =
-    factor-without _ (c .before .before .before .before .before .before .before .before .before .before .before .pre .1) _ (c .before .before .before .before .before .only-factor2 .ensures) _ _ _ _ _
+    factor-without _ (c .before .before .before .before .before .before .before .before .before .before .before .pre .1) _
+    (c .before .before .before .before .before .only-factor2 .ensures) _ _ _ _ _
     (sym (scalar-has _ _ _ (c .before .before .before .before .before .before .before .before .letters-of .ensures) _ (c .before .before .before .before .before .before .enum-told .given .1))) (c .before .before .alone2 .ensures)
 
 same-length-5 : tie.Need-same-length-5
