@@ -132,8 +132,10 @@ int64_t kalzunbi_value(const uint8_t *table, size_t table_length, const uint8_t 
 /* Whether two forms are equal under every assignment of integers.
  *
  * table: as above. first, second: the records of two forms of one kind.
- * buffer: at least 72 bytes. Where the forms differ, the first 3 times (letters) become an assignment under which they do, each number 0 to 6, a scalar
- *   letter's first 0 to 2 and its others 0; it can go to the value call. Further bytes stand, and all of them where the forms are equal.
+ * buffer: at least 72 bytes. Where the forms differ, the first 3 times (letters) become the first assignment under which they do, letter by letter and
+ *   component by component, of those in whole numbers from 0 up: under every one before it the forms are equal. So the bytes depend on the table and the
+ *   forms alone. Each number is 0 to 6, a scalar letter's first 0 to 2 and its others 0; a letter that does not occur has 0. The bytes can go to the value
+ *   call. Further bytes stand, and all of them where the forms are equal.
  * work: at least 55,296 bytes; what is in them afterwards is of no use, unless the call is refused: then they stand.
  *
  * Returns 0 where they are equal, 1 where they differ, or -1, -2, -11, then -5 or -6. */

@@ -148,6 +148,9 @@ int main(void)
     measure_decision("decision of two forms of 48 terms: they differ", other_first, sizeof other_first, other_second, sizeof other_second, 1, 1000);
     measure_decision("decision of a form of 48 terms that is 0: equal", zero_first, sizeof zero_first, zero_second, sizeof zero_second, 0, 1000);
     measure_decision("decision of two vector forms of 48 terms: equal", vectors_first, sizeof vectors_first, vectors_second, sizeof vectors_second, 0, 1000);
+    measure_decision("decision of two vector forms of 48 terms: they differ in one term", apart_first, sizeof apart_first, apart_second, sizeof apart_second, 1, 1000);
+    measure_decision("decision of a vector form of 48 terms and 0: they differ", far_first, sizeof far_first, far_second, sizeof far_second, 1, 1000);
+    measure_decision("decision of a^b and a^c: they differ", wedges_first, sizeof wedges_first, wedges_second, sizeof wedges_second, 1, 100000);
 
     /* -3k for l, which each term has once */
     const uint8_t one_term[8] = {1, 1, 0x11, 255, 255, 255, 253, 10};

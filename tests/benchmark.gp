@@ -24,3 +24,6 @@ measure(equal, 10);
 measure(other, 10);
 measure(zero, 10);
 measure(vectors, 10);
+measure(apart, 10);
+measure(far, 10);
+measure(wedges, 10000);

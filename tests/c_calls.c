@@ -451,64 +451,70 @@ struct decide_row {
     const char *table, *first, *second;
     size_t buffer, work;
     int64_t returned;
+    const char *assignment; /* the first under which the forms differ */
 };
 
 static const struct decide_row decide_rows[] = {
     /* holds: empty forms, the same form, the sides of rules 5 and 1, rule 2's form and 0, its negation */
-    {SMALL, "0000", "0000", 72, 55296, 0},
-    {SMALL, "0100", "0100", 72, 55296, 0},
-    {WIDE, FORTY_EIGHT, FORTY_EIGHT, 72, 55296, 0},
-    {SIX_VECTORS, TRIPLES, DOTS, 72, 55296, 0},
-    {SIX_VECTORS, DOTS, TRIPLES, 1000, 55312, 0},
-    {SMALL, TRIPLE, WEDGES, 72, 55296, 0},
-    {SMALL, FOUR, "0100", 72, 55296, 0},
-    {SMALL, FOUR, NEGATED, 73, 55297, 0},
+    {SMALL, "0000", "0000", 72, 55296, 0, ""},
+    {SMALL, "0100", "0100", 72, 55296, 0, ""},
+    {WIDE, FORTY_EIGHT, FORTY_EIGHT, 72, 55296, 0, ""},
+    {SIX_VECTORS, TRIPLES, DOTS, 72, 55296, 0, ""},
+    {SIX_VECTORS, DOTS, TRIPLES, 1000, 55312, 0, ""},
+    {SMALL, TRIPLE, WEDGES, 72, 55296, 0, ""},
+    {SMALL, FOUR, "0100", 72, 55296, 0, ""},
+    {SMALL, FOUR, NEGATED, 73, 55297, 0, ""},
     /* differs: a sign turned, 0 and not 0, a coefficient */
-    {SMALL, TRIPLE, TURNED, 72, 55296, 1},
-    {SMALL, TURNED, TRIPLE, 1000, 55312, 1},
-    {SIX_VECTORS, TRIPLES, "0000", 72, 55296, 1},
-    {"01", "01011000", "0100", 72, 55296, 1},
-    {"00", "0000", "000100", 72, 55296, 1},
-    {SMALL, LARGE, "0101117fffffff00", 73, 55297, 1},
-    {WIDE, FORTY_EIGHT, "0100", 72, 55296, 1},
+    {SMALL, TRIPLE, TURNED, 72, 55296, 1, "000001000001000100000001000000000000000000"},
+    {SMALL, TURNED, TRIPLE, 1000, 55312, 1, "000001000001000100000001000000000000000000"},
+    {SIX_VECTORS, TRIPLES, "0000", 72, 55296, 1, "000001000100010000000001000100010000"},
+    {"01", "01011000", "0100", 72, 55296, 1, "000001"},
+    {"00", "0000", "000100", 72, 55296, 1, "000000"},
+    {SMALL, LARGE, "0101117fffffff00", 73, 55297, 1, "000001000000000000000000000000000000000000"},
+    {WIDE, FORTY_EIGHT, "0100", 72, 55296, 1, Z8 Z8 "0000000000000001" Z8 Z8 Z8 "0000000100000000" Z8 Z8},
     /* differs: ee and e, which are equal at 0 and 1; s(s-1)(s-4), s = (a.a); z(z-1)(z-2)(z-3)(z-4) at a = (0, 0, 1), b = (0, 0, z) */
-    {SMALL, "000102020404", "0001020104", 72, 55296, 1},
-    {SMALL, "000205000000040100000403000000000000", "000105000000050200000000", 72, 55296, 1},
-    {SMALL, "00030500000018010001050000002302000101010403000101010101", "000205000000320200000101050000000a03000001010101", 72, 55296, 1},
+    {SMALL, "000102020404", "0001020104", 72, 55296, 1, "000000000000000000000000020000000000000000"},
+    {SMALL, "000205000000040100000403000000000000", "000105000000050200000000", 72, 55296, 1, "000003000000000000000000000000000000000000"},
+    {SMALL, "00030500000018010001050000002302000101010403000101010101", "000205000000320200000101050000000a03000001010101", 72, 55296, 1,
+     "000001000005000000000000000000000000000000"},
+    /* a^b, (abc)*b and (abc)*a differ from 0 first in the first component, the second, the third */
+    {SMALL, "0101200001", "0100", 72, 55296, 1, "000001000100000000000000000000000000000000"},
+    {SMALL, "0101180100010201", "0100", 72, 55296, 1, "000001000100010000000000000000000000000000"},
+    {SMALL, "0101180100010200", "0100", 72, 55296, 1, "000001000100010000000000000000000000000000"},
     /* differs in the last of 24 letters: all 72 bytes are the assignment */
-    {WIDE, "0001020117", "0001020116", 72, 55296, 1},
-    {"010101010101010101010101010101010101010101010101", "01011017", "01011000", 80, 55296, 1},
+    {WIDE, "0001020117", "0001020116", 72, 55296, 1, Z64 "0000000000010000"},
+    {"010101010101010101010101010101010101010101010101", "01011017", "01011000", 80, 55296, 1, Z64 "0000000000000001"},
     /* 1, before all others */
-    {"", "0000", "0000", 72, 55296, -1},
-    {"02", "0000", "0000", 72, 55296, -1},
-    {"00000000000000000000000000000000000000000000000000", "0000", "0000", 72, 55296, -1},
-    {"0102", "", "0001020107", 0, 0, -1},
+    {"", "0000", "0000", 72, 55296, -1, ""},
+    {"02", "0000", "0000", 72, 55296, -1, ""},
+    {"00000000000000000000000000000000000000000000000000", "0000", "0000", 72, 55296, -1, ""},
+    {"0102", "", "0001020107", 0, 0, -1, ""},
     /* 2, before contents: the buffer, the work memory, both */
-    {SMALL, "0000", "0000", 71, 55296, -2},
-    {SMALL, "0000", "0000", 72, 55295, -2},
-    {SMALL, TRIPLE, TURNED, 71, 55296, -2},
-    {SMALL, TRIPLE, TURNED, 72, 55295, -2},
-    {"01", "01011000", "0100", 3, 16, -2},
-    {SMALL, "", "", 0, 0, -2},
+    {SMALL, "0000", "0000", 71, 55296, -2, ""},
+    {SMALL, "0000", "0000", 72, 55295, -2, ""},
+    {SMALL, TRIPLE, TURNED, 71, 55296, -2, ""},
+    {SMALL, TRIPLE, TURNED, 72, 55295, -2, ""},
+    {"01", "01011000", "0100", 3, 16, -2, ""},
+    {SMALL, "", "", 0, 0, -2, ""},
     /* 11, before letters: the first form, the second, both */
-    {SMALL, "", "0000", 72, 55296, -11},
-    {SMALL, "0000", "", 72, 55296, -11},
-    {SMALL, "0200", "0001020107", 72, 55296, -11},
-    {SMALL, "0001020107", "000000", 72, 55296, -11},
-    {SMALL, "0001020100", "00010100000001", 72, 55296, -11},
-    {SMALL, FOUR "00", FOUR, 72, 55296, -11},
+    {SMALL, "", "0000", 72, 55296, -11, ""},
+    {SMALL, "0000", "", 72, 55296, -11, ""},
+    {SMALL, "0200", "0001020107", 72, 55296, -11, ""},
+    {SMALL, "0001020107", "000000", 72, 55296, -11, ""},
+    {SMALL, "0001020100", "00010100000001", 72, 55296, -11, ""},
+    {SMALL, FOUR "00", FOUR, 72, 55296, -11, ""},
     /* 5 and 6 of letters: the first form's, then the second's */
-    {SMALL, "0001020107", "0000", 72, 55296, -5},
-    {SMALL, "0000", "0001020107", 72, 55296, -5},
-    {SMALL, "0001020107", "0001020100", 72, 55296, -5},
-    {SMALL, "0001020100", "0001020107", 72, 55296, -6},
-    {SMALL, "01011004", "0000", 72, 55296, -6},
-    {SMALL, "0000", "01011007", 72, 55296, -5},
-    {"01010101", TRIPLE, TRIPLES, 72, 55296, -5},
+    {SMALL, "0001020107", "0000", 72, 55296, -5, ""},
+    {SMALL, "0000", "0001020107", 72, 55296, -5, ""},
+    {SMALL, "0001020107", "0001020100", 72, 55296, -5, ""},
+    {SMALL, "0001020100", "0001020107", 72, 55296, -6, ""},
+    {SMALL, "01011004", "0000", 72, 55296, -6, ""},
+    {SMALL, "0000", "01011007", 72, 55296, -5, ""},
+    {"01010101", TRIPLE, TRIPLES, 72, 55296, -5, ""},
     /* 6: unlike kinds, also of empty forms */
-    {SMALL, "0000", "0100", 72, 55296, -6},
-    {SMALL, "0100", "0000", 72, 55296, -6},
-    {SIX_VECTORS, TRIPLE, TRIPLES, 72, 55296, -6},
+    {SMALL, "0000", "0100", 72, 55296, -6, ""},
+    {SMALL, "0100", "0000", 72, 55296, -6, ""},
+    {SIX_VECTORS, TRIPLE, TRIPLES, 72, 55296, -6, ""},
 };
 
 /* whether the bytes from the first to the end are all so */
@@ -518,29 +524,6 @@ static int all(const uint8_t *memory, size_t first, size_t end, uint8_t byte)
         if (memory[i] != byte)
             return 0;
     return 1;
-}
-
-/* whether the numbers of every letter are in range: 0 to 6, for a scalar letter 0 to 2 and two zeros */
-static int in_range(const struct bytes *table, const uint8_t *assignment)
-{
-    for (size_t n = 0; n < table->length; n++) {
-        const uint8_t *three = assignment + 3 * n;
-        int most = table->memory[MARGIN + n] == 1 ? 6 : 2, rest = table->memory[MARGIN + n] == 1 ? 6 : 0;
-        if (three[0] > most || three[1] > rest || three[2] > rest)
-            return 0;
-    }
-    return 1;
-}
-
-/* whether the value call gives other numbers for the one form than for the other */
-static int apart(struct bytes *table, struct bytes *first, struct bytes *second, const uint8_t *assignment)
-{
-    int64_t one[3], other[3];
-    if (kalzunbi_value(at(table), table->length, at(first), first->length, assignment, 3 * table->length, one, 3) != 0)
-        return 0;
-    if (kalzunbi_value(at(table), table->length, at(second), second->length, assignment, 3 * table->length, other, 3) != 0)
-        return 0;
-    return memcmp(one, other, sizeof one) != 0;
 }
 
 static uint8_t work_memory[MARGIN + KALZUNBI_WORK + MARGIN + MARGIN];
@@ -556,14 +539,12 @@ static void decide_calls(void)
                                            work_memory + MARGIN, row->work);
         calls++;
         check(returned == row->returned, "decide: what is returned, row", (int)i);
-        size_t written = returned == 1 ? 3 * table.length : 0, used = returned < 0 ? 0 : row->work;
+        struct bytes assignment = from(row->assignment);
+        size_t written = assignment.length, used = returned < 0 ? 0 : row->work;
+        check(memcmp(at(&buffer), at(&assignment), written) == 0, "decide: the first assignment, row", (int)i);
         check(all(buffer.memory, 0, MARGIN, 0xA5) && all(buffer.memory, MARGIN + written, sizeof buffer.memory, 0xA5), "decide: the bytes lent, row", (int)i);
         check(all(work_memory, 0, MARGIN, 0x5A) && all(work_memory, MARGIN + used, sizeof work_memory, 0x5A), "decide: the work memory, row", (int)i);
         check(same(&table, &table_before) && same(&first, &first_before) && same(&second, &second_before), "decide: memory, row", (int)i);
-        if (returned == 1) {
-            check(in_range(&table, at(&buffer)), "decide: the assignment's range, row", (int)i);
-            check(apart(&table, &first, &second, at(&buffer)), "decide: the values under the assignment, row", (int)i);
-        }
     }
 }
 

@@ -5,9 +5,9 @@ Writes crates/call_cases/stdin (the cases) and crates/call_cases/stdout (the ans
 A case begins with 12 bytes: the number of the call (one byte), the lengths of a table (one byte) and of two inputs (two
 bytes each), and how much is lent of three parts of memory (two bytes each); then come the table and the inputs. For
 insertion, which writes into one part of memory, the second of the three numbers is the letter. The answer of a case is a
-line: the number that the call returns, and behind it what the memory lent holds, each number lent being 170 before. Where
-document 01 leaves the memory open, the program itself says what is wrong with it; then the line has nothing more, or the
-terms of the first and of the last form of the log that shortening wrote.
+line: the number that the call returns, and behind it what the memory lent holds, each number lent being 170 before, or the
+assignment that the decision handed over. Where document 01 leaves the memory open, the program itself says what is wrong
+with it; then the line has nothing more, or the terms of the first and of the last form of the log that shortening wrote.
 
 Nothing here is taken from the engine: the answers are those of the programs beside this one, each of which computes one
 call in its own way. Here they become numbers returned, with the tests of the table and of the memory lent before them.
@@ -86,7 +86,7 @@ def check_answer(table, log, _, lent, *__):
 def decide_answer(table, first, second, _, buffer, work):
     line = decisions.answer(table, first, second, buffer, work)
     number = number_of(line)
-    return number, f"-{number}" if number else {decisions.HOLDS: "0", decisions.DIFFERS: "1"}[line]
+    return number, f"-{number}" if number else line.replace(decisions.HOLDS, "0").replace(decisions.DIFFERS, "1")
 
 
 def shorten_answer(table, form, _, lent, steps, *__):
@@ -161,6 +161,9 @@ def decided():
     yield from spread([(DECIDE, table, first, second, 0, *(lent or (BUFFER, WORK))) for group in decisions.GROUPS for table, first, second, _, *lent in group()], {0: 16})
     for table, second, lent in itertools.product((TABLE, TABLE + b"\2"), (scalar("g"), scalar("h"), vector("a"), b"\0"), ((BUFFER - 1, WORK), (BUFFER, WORK - 1), (BUFFER + 1, WORK + 1))):
         yield DECIDE, table, scalar("g"), second, 0, *lent
+    for table, first, second, meant in decisions.aside():
+        assert decisions.answer(table, first, second, BUFFER, WORK).startswith(meant), (table.hex(), first.hex(), second.hex())
+        yield DECIDE, table, first, second, 0, BUFFER, WORK
 
 
 def forms_to_shorten():
@@ -202,9 +205,10 @@ def examples():
     """The examples of docs/FORMAT.md, whose answers must be those that stand there."""
     document = (pathlib.Path(__file__).resolve().parent.parent / "docs" / "FORMAT.md").read_text()
     blocks = [dict(line.split(": ", 1) for line in block.strip().split("\n")) for block in re.findall(r"(?m)^```\n((?:[a-z]+: .*\n)+)```$", document)]
-    assert {key for block in blocks for key in block} == {"table", "expression", "form", "assignment", "value", "log", "answer"}, "an example of each sort"
+    keys = {"table", "expression", "form", "assignment", "value", "first", "second", "decision", "log", "answer"}
+    assert {key for block in blocks for key in block} == keys, "an example of each sort"
     for block in blocks:
-        data = {key: bytes.fromhex(block[key]) for key in block if key not in ("value", "answer")}
+        data = {key: bytes.fromhex(block[key]) for key in block if key not in ("value", "decision", "answer")}
         if "log" in block:
             case, answer = (CHECK, data["table"], data["log"], b"", 3, 0, 0), block["answer"]
             number, line = check_answer(*case[1:])
@@ -212,6 +216,10 @@ def examples():
         elif "value" in block:
             case = (VALUE, data["table"], data["form"], data["assignment"], 3, 0, 0)
             assert value_answer(*case[1:])[1] == f"0 {block['value']}", block
+        elif "decision" in block:
+            case = (DECIDE, data["table"], data["first"], data["second"], 0, BUFFER, WORK)
+            verdict, *numbers = block["decision"].split(" ", 1)
+            assert decisions.answer(data["table"], data["first"], data["second"], BUFFER, WORK) == " ".join([verdict, *(bytes.fromhex(n).hex() for n in numbers)]), block
         else:
             case = (REDUCE, data["table"], data["expression"], b"", ROOM, 0, 0)
             assert reduce_answer(*case[1:])[1].split()[1] == data["form"].hex(), block

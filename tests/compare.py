@@ -4,10 +4,10 @@ shortening_cases.py and insertion_cases.py.
 
 What is returned and all memory, lent or around what is lent, is compared.
 A form that is given is handed on to the value call, whose numbers must be those of the expression by components. An assignment that is handed over
-must be in its range, and tell the two forms apart by the unrelated program and by the value call. A log that shortening wrote must begin with the form
-taken, be accepted by the unrelated program with the steps reported, have at most as many steps as terms were saved, and end in a form that no step shortens;
-the check call must accept it, and the decision must say of its ends that they are equal. A form with a letter replaced must have the old form's value where
-the letter has the inserted form's: by the value call, or, where that is not in its range, by the unrelated program.
+must be the first that the unrelated program finds, byte by byte, and tell the two forms apart by the value call. A log that shortening wrote must begin
+with the form taken, be accepted by the unrelated program with the steps reported, have at most as many steps as terms were saved, and end in a form that no
+step shortens; the check call must accept it, and the decision must say of its ends that they are equal. A form with a letter replaced must have the old
+form's value where the letter has the inserted form's: by the value call, or, where that is not in its range, by the unrelated program.
 """
 import argparse
 import collections
@@ -150,7 +150,7 @@ def log_inputs(chance):
 
 def pair_inputs(chance):
     while True:
-        made = chance.choice((decisions.random_pair, decisions.random_pair, decisions.damaged_pair))
+        made = chance.choice((decisions.random_pair, decisions.near_pair, decisions.near_pair, decisions.damaged_pair))
         table, *pair = made(chance, *chance.choices(((3, 4), (12, 8), (48, 6), (2, 30)), (12, 4, 2, 1))[0])
         pair = [chance.choices((x, damaged(chance, x), any_bytes(chance, 40)), (30, 3, 1))[0] for x in pair]
         work = chance.choice((55296, 55296, 55296, 55297, 55400)) if chance.randrange(20) else chance.randrange(55296)
@@ -218,12 +218,6 @@ def compare_check(function, table, data, lent):
     return returned == 0 and target.stands_but_for(answer[1:]), "accepted"
 
 
-def in_range(table, numbers):
-    """Each number 0 to 6, of a scalar letter 0 to 2 and two zeros."""
-    most = [m for kind in table for m in ((6, 6, 6) if kind else (2, 0, 0))]
-    return all(n <= m for n, m in zip(numbers, most, strict=True))
-
-
 def compare_decide(functions, table, first, second, lent, work):
     buffer, memory = Lent(ctypes.c_uint8, [0xC3] * lent), Lent(ctypes.c_uint8, [0x3C] * work)
     returned = call(functions.kalzunbi_decide, (table, first, second), buffer, memory)
@@ -233,18 +227,13 @@ def compare_decide(functions, table, first, second, lent, work):
     around = memory.stands_but_for(memory.first(work))
     if answer == decisions.HOLDS:
         return returned == 0 and buffer.stands_but_for() and around, answer
-    numbers = buffer.first(3 * len(table))
-    if not (returned == 1 and buffer.stands_but_for(numbers) and around and in_range(table, numbers)):
-        return False, answer
-    values = []
-    for data in (first, second):
-        target = Lent(ctypes.c_int64, [0] * 3)
-        vectors = [tuple(numbers[i:i + 3]) for i in range(0, len(numbers), 3)]
-        given = call(functions.kalzunbi_value, (table, data, bytes(numbers)), target) == 0
-        values.append(target.first(3))
-        if not given or values[-1] != forms.evaluate(forms.read(data)[1], vectors):
-            return False, answer
-    return values[0] != values[1], answer
+    verdict, numbers = answer.split()
+    numbers = bytes.fromhex(numbers)
+    if not (returned == 1 and buffer.stands_but_for(numbers) and around):
+        return False, verdict
+    vectors = [tuple(numbers[i:i + 3]) for i in range(0, len(numbers), 3)]
+    values = [value_called(functions.kalzunbi_value, table, data, vectors) for data in (first, second)]
+    return None not in values and values[0] != values[1], verdict
 
 
 def compare_shorten(functions, table, data, lent, numbers):

@@ -4,13 +4,16 @@
 Writes crates/decision_cases/stdin (the cases) and crates/decision_cases/stdout (the answers).
 A case is the length of a table (one byte), the table, the length of a form (two bytes), the form, the same
 for the second form, how many bytes of the buffer are lent (one byte) and how many of the work memory (two
-bytes). Its answer is a line: holds, differs, or R and a number.
+bytes). Its answer is a line: holds, differs and the first assignment under which the forms do, or R and a number.
 
 Nothing here is taken from the engine. A form is expanded into a dictionary from products of components to
-coefficients, one for each of its components; two forms are equal where these dictionaries are.
+coefficients, one for each of its components; two forms are equal where these dictionaries are. The first assignment is
+found with all three components at once: each number is the least that does not make all of them 0.
 
 Each case says what its answer is meant to be, and that is compared; only those by chance do not. Forms that are
-equal must have the same values under random assignments of large integers, and those that differ must not.
+equal must have the same values under random assignments of large integers, and those that differ must not. Under the
+first assignment the values must differ. Before it, with a lesser number at a place and any behind it, they must be
+equal; and where few assignments come before it, all of them are tried in their order, by values alone.
 
 With --pari, PARI/GP compares each pair of forms as polynomials in the components of the letters; it is installed if
 it is not there. With --header, the forms that tests/benchmark.c measures are printed as C; with --gp, for
@@ -73,6 +76,28 @@ def expanded(terms, i):
     return {m: c for m, c in out.items() if c}
 
 
+# ════ the first assignment
+
+def put(p, x, v):
+    """The polynomial with v for the variable x."""
+    out = collections.Counter()
+    for m, c in p.items():
+        out[tuple(y for y in m if y != x)] += c * v ** m.count(x)
+    return {m: c for m, c in out.items() if c}
+
+
+def first_apart(table, left, right):
+    """The first whole numbers, letter by letter and component by component, under which two forms differ; and the components that do."""
+    both = left + [(-coef, factors, part) for coef, factors, part in right]
+    rest = [expanded(both, i) for i in range(3)]
+    occurring = {x for p in rest for m in p for x in m}
+    numbers = bytearray(3 * len(table))
+    for x in sorted(occurring):
+        numbers[x] = next(v for v in itertools.count() if any(put(p, x, v) for p in rest))
+        rest = [put(p, x, numbers[x]) for p in rest]
+    return bytes(numbers), [i for i in range(3) if rest[i]]
+
+
 # ════ an answer
 
 def answer(table, first, second, buffer, work):
@@ -87,7 +112,7 @@ def answer(table, first, second, buffer, work):
         demand(f == g, 6)
     except Refused as refusal:
         return f"R{refusal.args[0]}"
-    return HOLDS if all(expanded(left, i) == expanded(right, i) for i in range(3)) else DIFFERS
+    return HOLDS if all(expanded(left, i) == expanded(right, i) for i in range(3)) else f"{DIFFERS} {first_apart(table, left, right)[0].hex()}"
 
 
 # ════ forms: of expressions, with one sign turned, of some terms
@@ -195,6 +220,9 @@ MEASURED = {
     "other": (equal_triples(1000)[0], changed(equal_triples(1000)[1], 47, lambda coef: coef + 1)),
     "zero": (zero_triples(), NOTHING[0]),
     "vectors": equal_vectors(),
+    "apart": (equal_vectors()[0], changed(equal_vectors()[1], 47, lambda coef: coef + 1)),
+    "far": (equal_vectors()[0], NOTHING[1]),
+    "wedges": (vector("(a^b)"), vector("(a^c)")),
 }
 
 
@@ -213,6 +241,15 @@ def full_forms():
         assert zero[1] == 48
         yield FULL_TABLE, zero, NOTHING[zero[0]], HOLDS
         yield FULL_TABLE, NOTHING[zero[0]], turned(zero, 47), DIFFERS
+    # the ends of a log
+    table, whole = logs.log_of_eight_steps()
+    _, _, _, end, start = logs.cut_log(whole)
+    yield table, whole[:end], whole[start:], HOLDS
+    yield table, whole[start:], turned(whole[:end], 3), DIFFERS
+
+
+def aside():
+    """Full forms for which there is no room among the cases: tests/call_cases.py decides them."""
     yield FULL_TABLE, zero_triples(), negated(zero_triples()), HOLDS
     # every coefficient at the limit
     large = forms.record(0, [(LIMIT, factors, part) for _, factors, part in forms.read(zero_triples())[1]])
@@ -220,11 +257,10 @@ def full_forms():
     # letters 13 to 23
     table = bytes([0, 1] * 12)
     yield table, *(high_letters(x, table) for x in equal_vectors()), HOLDS
-    # the ends of logs
-    for table, whole in (logs.longest_log(), logs.log_of_eight_steps()):
-        _, _, _, end, start = logs.cut_log(whole)
-        yield table, whole[:end], whole[start:], HOLDS
-    yield table, whole[start:], turned(whole[:end], 3), DIFFERS
+    # the ends of the longest log
+    table, whole = logs.longest_log()
+    _, _, _, end, start = logs.cut_log(whole)
+    yield table, whole[:end], whole[start:], HOLDS
 
 
 # ════ the cases: a table, two forms, what the answer is meant to be; and the lengths of the buffer and of the work memory, if not the least
@@ -328,6 +364,47 @@ def larger_numbers():
     yield bytes([1]), vector("(a.a)*a"), vector("(a.a)*a"), HOLDS
 
 
+def renamed(data, to):
+    """The form with other letters: to names them in the order of a, b, c, .."""
+    kind, terms = forms.read(data)
+    return sum_of(kind, [(coef, tuple(tuple(to[x] for x in f) for f in factors), tuple(to[x] for x in part)) for coef, factors, part in terms])
+
+
+def seen_by(table, first, second):
+    """The components that differ under the first assignment."""
+    return first_apart(table, forms.read(first)[1], forms.read(second)[1])[1]
+
+
+def first_assignments():
+    """The first assignment of vector forms that one component alone sees, or two, or three; letters that do not occur; numbers above 1."""
+    # (abc) is first not 0 at c = (1, 0, 0), b = (0, 1, 0), a = (0, 0, 1): then the letters are the axes
+    for some in itertools.chain.from_iterable(itertools.combinations(range(3), count) for count in (1, 2, 3)):
+        first = vector("".join(f"{(2, -1, 3)[i]:+d}(abc)*{'cba'[i]}" for i in some))
+        assert seen_by(TABLE, first, NOTHING[1]) == list(some), some
+        yield TABLE, first, NOTHING[1], DIFFERS
+        yield TABLE, NOTHING[1], first, DIFFERS
+        # other letters in front of these, between and behind them; these in another order
+        for table, to in ((bytes([1, 1, 1]), (0, 1, 2)), (bytes([0, 1, 0, 1, 1, 0]), (1, 3, 4)), (bytes([1] * 24), (5, 14, 23)), (bytes([0, 1] * 12), (21, 3, 7))):
+            yield table, renamed(first, to), NOTHING[1], DIFFERS
+    for first, second, axis in (
+            ("a", "0", 2), ("(a^b)", "0", 0), ("(a^b)", "(a^c)", 0), ("(abc)*b", "0", 1), ("(abc)*(a^c)", "(abc)*(c^d)", 1), ("(abc)*(c^d)", "0", 1),
+            ("(a.b)*a", "(a.b)*b", 2), ("(a.c)*b", "(a.b)*c", 1), ("(abc)*a", "(abc)(a.b)*c", 2), ("(abc)*b", "(abc)(a.b)*c", 1), ("(abd)*c", "(abc)*d", 2),
+            # scalar letters: g(g − 1), h(h − g), g(h − 1), g(h − 2), i(i − 2)
+            ("gg(abc)*a", "g(abc)*a", 2), ("gg(abc)*b", "g(abc)*b", 1), ("gg(abc)*c", "g(abc)*c", 0), ("gg*(a^b)", "g*(a^b)", 0), ("hh(abc)*b", "gh(abc)*b", 1),
+            ("gh*a", "g*a", 2), ("gh(abc)*b", "2g(abc)*b", 1), ("ii(abc)*(a^b)", "2i(abc)*(a^b)", 0),
+            # with a = (0, 0, 1) and f = (0, 0, z): z(z − 1), z(z − 1)(z − 2), z(z − 1)(z − 2)(z − 3)
+            ("(a.f)*f", "(a.a)*f", 2), ("(a.a)(f.f)*f+2(a.a)*f", "3(a.f)*f", 2), ("(a.f)(f.f)*f+11(a.f)*f", "6(a.a)(f.f)*f+6(a.a)*f", 2),
+            # with a = (0, 0, z): z² − 1 and (z² − 1)(z² − 4), where z is not 0
+            ("(a.a)*(a^b)", "(a^b)", 0), ("(a.a)(abc)*b", "(abc)*b", 1), ("(a.a)(a.a)*(a^b)+4*(a^b)", "5(a.a)*(a^b)", 0)):
+        pair = vector(first), vector(second)
+        assert seen_by(TABLE, *pair) == [axis], (first, second, first_apart(TABLE, *(forms.read(x)[1] for x in pair)))
+        yield TABLE, *pair, DIFFERS
+        yield TABLE, *reversed(pair), DIFFERS
+        # the letters a to i elsewhere, in the same order and in another
+        for to in ((1, 3, 5, 7, 9, 11, 12, 14, 22), (15, 9, 13, 1, 23, 3, 20, 8, 0)):
+            yield bytes([0, 1] * 12), *(renamed(x, to) for x in pair), DIFFERS
+
+
 def empty_and_unlike():
     """Empty forms, and forms of unlike kind, also where all their numbers are 0 or equal."""
     some = [scalar("0"), vector("0"), scalar("1"), vector("a"), scalar("g"), vector("g*a"), scalar("(a.a)"), vector("-2(a.b)*(c^d)"), scalar("(abc)(def)")]
@@ -415,6 +492,13 @@ def random_pair(chance, most_terms=3, most_steps=4):
     return table, *pair
 
 
+def near_pair(chance, *_):
+    """Two forms of three vectors and a scalar, with few terms and small coefficients: they often agree at small numbers, and their components at unlike ones."""
+    kind, letters, scalars = chance.randrange(2), sorted(chance.sample(range(6), 3)), [chance.randint(6, 8)]
+    pair = [forms.chosen_form(chance, kind, chance.randint(0, 3), letters, scalars, lambda: chance.choice((1, -1, 2, -2, 3, -4, 5, -6))) for _ in range(2)]
+    return TABLE, *(forms.record(kind, terms) for terms in pair)
+
+
 def damaged_pair(chance, *most):
     """A random pair with a byte or the table changed."""
     table, *pair = random_pair(chance, *most)
@@ -434,9 +518,11 @@ def by_chance():
         yield *random_pair(chance, 3, 3), ""
     for _ in range(50):
         yield *damaged_pair(chance, 2, 2), ""
+    for _ in range(24):
+        yield *near_pair(chance), ""
 
 
-GROUPS = (lines_to_prove, each_rule, larger_numbers, full_forms, empty_and_unlike, lengths, tables, shape, letters_of_the_table, order_of_refusals, by_chance)
+GROUPS = (lines_to_prove, each_rule, larger_numbers, first_assignments, full_forms, empty_and_unlike, lengths, tables, shape, letters_of_the_table, order_of_refusals, by_chance)
 
 
 # ════ the program
@@ -448,6 +534,36 @@ def check_values(first, second, verdict, chance):
         return expressions.record_value(sigma, first) == expressions.record_value(sigma, second)
 
     assert all(values() for _ in range(3)) == (verdict == HOLDS), (first.hex(), second.hex(), verdict)
+
+
+def same_values(first, second, row):
+    sigma = [tuple(row[i:i + 3]) for i in range(0, len(row), 3)]
+    return expressions.record_value(sigma, first) == expressions.record_value(sigma, second)
+
+
+def check_first(table, first, second, numbers, chance):
+    """The values differ under the first assignment, and before it they are equal: a lesser number at a place, any behind it."""
+    assert not same_values(first, second, numbers), (first.hex(), second.hex(), numbers.hex())
+    most = [m for kind in table for m in ((99, 99, 99) if kind else (99, 0, 0))]
+    for x, n in enumerate(numbers):
+        for v in range(n):
+            for largest in (0, 1, 3, 99):
+                row = list(numbers[:x]) + [v] + [chance.randint(0, min(m, largest)) for m in most[x + 1:]]
+                assert same_values(first, second, row), (first.hex(), second.hex(), numbers.hex(), row)
+
+
+def check_by_force(table, first, second, numbers, most=1500):
+    """All assignments of the letters that occur, in their order, up to the first under which the values differ; whether there were at most so many."""
+    letters = sorted({n for data in (first, second) for _, factors, part in forms.read(data)[1] for some in (*factors, part) for n in some})
+    ranges = [range(m) for n in letters for m in ((7, 7, 7) if table[n] else (3, 1, 1))]
+    row = [0] * (3 * len(table))
+    for some in itertools.islice(itertools.product(*ranges), most):
+        for k, n in enumerate(letters):
+            row[3 * n:3 * n + 3] = some[3 * k:3 * k + 3]
+        if not same_values(first, second, row):
+            assert bytes(row) == numbers, (first.hex(), second.hex(), numbers.hex(), row)
+            return True
+    return False
 
 
 def gp_letters(table):
@@ -480,16 +596,21 @@ def write_gp():
 
 
 def write_cases():
-    stdin, lines, decided, chance = b"", [], [], random.Random(4)
+    stdin, lines, decided, chance, forced = b"", [], [], random.Random(4), 0
     for group in GROUPS:
         before = len(lines)
         for table, first, second, meant, *lent in group():
             buffer, work = lent or (BUFFER, WORK)
             line = answer(table, first, second, buffer, work)
-            assert meant in ("", line), (group.__name__, len(lines) - before, table.hex(), first.hex(), second.hex(), line, meant)
-            if line[0] != "R":
-                check_values(first, second, line, chance)
-                decided.append((table, first, second, line))
+            verdict = line.split()[0]
+            assert meant in ("", verdict), (group.__name__, len(lines) - before, table.hex(), first.hex(), second.hex(), line, meant)
+            if verdict[0] != "R":
+                check_values(first, second, verdict, chance)
+                decided.append((table, first, second, verdict))
+            if verdict == DIFFERS:
+                numbers = bytes.fromhex(line.split()[1])
+                check_first(table, first, second, numbers, chance)
+                forced += check_by_force(table, first, second, numbers)
             stdin += bytes([len(table)]) + table + b"".join(len(x).to_bytes(2, "big") + x for x in (first, second)) + bytes([buffer]) + work.to_bytes(2, "big")
             lines.append(line)
         print(f"{group.__name__}: {len(lines) - before}")
@@ -499,7 +620,8 @@ def write_cases():
     home = pathlib.Path(__file__).resolve().parent.parent / "crates" / "decision_cases"
     (home / "stdin").write_bytes(stdin)
     (home / "stdout").write_text("\n".join(lines) + "\n")
-    print(f"{len(lines)} cases, {len(stdin)} bytes, {dict(sorted(collections.Counter(lines).items()))}")
+    verdicts = collections.Counter(line.split()[0] for line in lines)
+    print(f"{len(lines)} cases, {len(stdin)} bytes, {dict(sorted(verdicts.items()))}; {forced} first assignments found by force")
 
 
 if __name__ == "__main__":

@@ -1,5 +1,5 @@
 /* The examples of docs/FORMAT.md, line by line from standard input, with the answers that the calls give: a form for an expression, a value for a form and
- * an assignment, an answer for a log. Every other line is written as it was read. */
+ * an assignment, a decision for two forms, an answer for a log. Every other line is written as it was read. */
 #include "kalzunbi.h"
 
 #include <inttypes.h>
@@ -13,7 +13,7 @@ struct bytes {
     size_t length;
 };
 
-static struct bytes table, expression, form, assignment, log_bytes;
+static struct bytes table, expression, form, assignment, first, second, log_bytes;
 
 /* bytes in hexadecimal with blanks between them; what is no such byte ends them */
 static void read_bytes(struct bytes *b, const char *text)
@@ -26,7 +26,7 @@ static void read_bytes(struct bytes *b, const char *text)
 
 static void write_bytes(const char *key, const struct bytes *b)
 {
-    printf("%s:", key);
+    printf("%s", key);
     for (size_t i = 0; i < b->length; i++)
         printf(" %02X", b->at[i]);
     printf("\n");
@@ -40,7 +40,7 @@ static void give_form(void)
         return;
     }
     form.length = (size_t)length;
-    write_bytes("form", &form);
+    write_bytes("form:", &form);
 }
 
 static void give_value(void)
@@ -51,6 +51,20 @@ static void give_value(void)
         printf("value: R%" PRId64 "\n", -refused);
     else
         printf("value: %" PRId64 " %" PRId64 " %" PRId64 "\n", v[0], v[1], v[2]);
+}
+
+static void give_decision(void)
+{
+    static uint8_t work[KALZUNBI_WORK];
+    static struct bytes buffer;
+    int64_t decided = kalzunbi_decide(table.at, table.length, first.at, first.length, second.at, second.length, buffer.at, sizeof buffer.at, work, sizeof work);
+    buffer.length = 3 * table.length;
+    if (decided < 0)
+        printf("decision: R%" PRId64 "\n", -decided);
+    else if (decided == 0)
+        printf("decision: holds\n");
+    else
+        write_bytes("decision: differs", &buffer);
 }
 
 static void give_answer(void)
@@ -66,17 +80,20 @@ static void give_answer(void)
 /* a table begins an example */
 static void take(const char *key, const char *text)
 {
-    struct bytes *read = !strcmp(key, "table") ? &table : !strcmp(key, "expression") ? &expression : !strcmp(key, "form") ? &form
-                       : !strcmp(key, "assignment") ? &assignment : !strcmp(key, "log") ? &log_bytes : NULL;
+    struct bytes *read = !strcmp(key, "table:") ? &table : !strcmp(key, "expression:") ? &expression : !strcmp(key, "form:") ? &form
+                       : !strcmp(key, "assignment:") ? &assignment : !strcmp(key, "first:") ? &first : !strcmp(key, "second:") ? &second
+                       : !strcmp(key, "log:") ? &log_bytes : NULL;
     if (read == &table)
-        expression.length = form.length = assignment.length = log_bytes.length = 0;
+        expression.length = form.length = assignment.length = first.length = second.length = log_bytes.length = 0;
     if (read == &form && expression.length > 0)
         give_form();
     else if (read) {
         read_bytes(read, text);
         write_bytes(key, read);
-    } else if (!strcmp(key, "value"))
+    } else if (!strcmp(key, "value:"))
         give_value();
+    else if (!strcmp(key, "decision:"))
+        give_decision();
     else
         give_answer();
 }
@@ -85,7 +102,7 @@ int main(void)
 {
     static char line[LINE];
     while (fgets(line, sizeof line, stdin)) {
-        char *text = strchr(line, ':');
+        char *text = strchr(line, ' ');
         if (!text)
             return 1;
         *text = '\0';

@@ -8,10 +8,10 @@ gcc -std=c99 -Wall -Wextra -Werror -pedantic -Iinclude tests/format_examples.c t
 
 # the lines of the blocks, and a document without one answer of each sort has lost its examples
 sed -n '/^```$/,/^```$/{/^```$/!p}' docs/FORMAT.md >target/format.written
-for key in expression value answer; do
+for key in expression value decision answer; do
     grep -q "^$key: " target/format.written || { echo "docs/FORMAT.md: no line with $key"; exit 1; }
 done
 target/format_examples <target/format.written >target/format.found
 diff target/format.written target/format.found || { echo 'docs/FORMAT.md: the answers below > are those of the calls'; exit 1; }
 count() { grep -c "^$1: " target/format.written; }
-echo "$(count expression) forms, $(count value) value, $(count answer) logs: as the document says"
+echo "$(count expression) forms, $(count value) value, $(count decision) decisions, $(count answer) logs: as the document says"

@@ -13,10 +13,6 @@ pub below-more : (P : ℕ → Type 0) (i : ℕ) → ((j : ℕ) → j < i → P j
 below-more P i h p j l =
     elim (N.eq-or-lt-of-le (N.le-of-suc-le-suc (N.le-trans l (N.le-of-eq (add-one i))))) [ inl q ↦ subst P (sym q) p | inr q ↦ h j q ]
 
--- and below anything less
-pub below-fewer : {P : ℕ → Type 0} {i m : ℕ} → ((j : ℕ) → j < i → P j) → m ≤ i → (j : ℕ) → j < m → P j
-below-fewer h l j k = h j (N.le-trans k l)
-
 -- ════ digits to the base 256
 
 -- a number below 256 ^ suc n without its lowest digit

@@ -2,14 +2,14 @@
 // table (one byte) and of two inputs (two bytes each), and how much is lent of three parts of memory (two bytes each); then come the table and the inputs.
 // What a call does not take is empty, or 0; the letter of an insertion stands in place of the second part of memory. For each case it writes a line: the number returned, and behind it what the memory lent holds; or, where
 // document 01 leaves that open, what is wrong with it.
-ghost use Prim.Native.Nat.{_<_, _≤_};
+ghost use Prim.Native.Nat.{_<_};
 ghost use lib.ListN.{length};
 use audit::Verdict;
 use audit::audit;
 use case_lines::FILLING;
 use case_lines::byte_at;
-use case_lines::in_range;
 use case_lines::print_accepted;
+use case_lines::print_assignment;
 use case_lines::print_bytes;
 use case_lines::print_character;
 use case_lines::print_refusal;
@@ -32,13 +32,6 @@ use integers::within;
 const NUMBER: u64 = 170;
 
 const SIGNED: i64 = 170;
-
-// The lesser of two numbers.
-fn at_most(n: usize, most: usize) -> usize
-    ensures { λ r. ⌜ r ≤ most ⌝ }
-{
-    if n < most { n } else { most }
-}
 
 // The first n bytes, or all where there are fewer.
 fn front(s: &[u8], n: usize) -> &[u8] {
@@ -160,33 +153,6 @@ fn run_checked(table: &[u8], log: &[u8], p: usize) {
     }
 }
 
-// Whether two vectors are unequal.
-fn unequal(v: &[i64; 3], w: &[i64; 3]) -> bool {
-    v[0] != w[0] || v[1] != w[1] || v[2] != w[2]
-}
-
-// Whether the value call gives different values of two forms.
-fn apart(table: &[u8], first: &[u8], second: &[u8], assignment: &[u8]) -> bool {
-    let mut v = [SIGNED; 3];
-    let mut w = [SIGNED; 3];
-    let a = kalzunbi_value(table, first, assignment, &mut v);
-    let b = kalzunbi_value(table, second, assignment, &mut w);
-    is_zero(a) && is_zero(b) && unequal(&v, &w)
-}
-
-// What is wrong with the assignment handed over and with the bytes behind it.
-fn print_differing(table: &[u8], first: &[u8], second: &[u8], buffer: &[u8]) {
-    let n = 3 * at_most(table.len(), 24);
-    let assignment = front(buffer, n);
-    if !in_range(table, assignment) {
-        io::write_all(1, b" out-of-range");
-    }
-    if !apart(table, first, second, assignment) {
-        io::write_all(1, b" not-apart");
-    }
-    print_standing(behind(buffer, n));
-}
-
 // What is wrong with memory that has to stand: the buffer, and the work bytes too where the call is refused.
 fn print_kept(r: i64, buffer: &[u8], work: &[u8]) {
     print_standing(buffer);
@@ -195,12 +161,12 @@ fn print_kept(r: i64, buffer: &[u8], work: &[u8]) {
     }
 }
 
-// The decision call: the number returned.
+// The decision call: the number returned, and the assignment where the forms differ.
 fn print_decided(table: &[u8], first: &[u8], second: &[u8], buffer: &mut [u8], work: &mut [u8]) {
     let r = kalzunbi_decide(table, first, second, buffer, work);
     print_signed(r);
     if is_one(r) {
-        print_differing(table, first, second, buffer);
+        print_assignment(table, buffer);
     } else {
         print_kept(r, buffer, work);
     }

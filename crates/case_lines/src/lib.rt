@@ -103,30 +103,6 @@ pub fn print_standing(s: &[u8]) {
     }
 }
 
-// Whether the three numbers of a letter are from 0 to 6, of a scalar letter from 0 to 2 and two zeros.
-fn letter_in_range(kind: u8, x: u8, y: u8, z: u8) -> bool {
-    if kind == 0 {
-        return x <= 2 && y == 0 && z == 0;
-    }
-    x <= 6 && y <= 6 && z <= 6
-}
-
-// Whether every letter has three numbers, and they are in range.
-pub fn in_range(table: &[u8], s: &[u8]) -> bool {
-    if s.len() / 3 < table.len() {
-        return false;
-    }
-    let mut n: usize = 0;
-    while n < table.len() {
-        let i = 3 * n;
-        if !letter_in_range(table[n], s[i], s[i + 1], s[i + 2]) {
-            return false;
-        }
-        n += 1;
-    }
-    true
-}
-
 // Whether two parts of memory hold the same bytes.
 fn same(s: &[u8], t: &[u8]) -> bool {
     if s.len() != t.len() {
@@ -214,4 +190,16 @@ pub fn assignment_length(letters: usize) -> usize
         return 0;
     }
     3 * letters
+}
+
+// The assignment that a decision handed over, and whether the bytes behind it stand.
+pub fn print_assignment(table: &[u8], buffer: &[u8]) {
+    let n = assignment_length(table.len());
+    if buffer.len() < n {
+        io::write_all(1, b" cut-off");
+        return;
+    }
+    print_character(b' ');
+    print_bytes(&buffer[..n]);
+    print_standing(&buffer[n..]);
 }

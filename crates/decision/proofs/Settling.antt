@@ -7,7 +7,7 @@ use Prim.Native.Nat.{ℕ, zero, suc, _+_, _-_, _*_, _/_, _%_, _≤_, _<_}
 use native.Mathlib.Nat as N
 use native.Mathlib.Omega.{arith}
 use lib.Dec.{T, leb, eqb}
-use borrow.Author.Tests.{eq-eqb, ne-eqb, eqb-true, le-leb, lt-ltb}
+use borrow.Author.Tests.{eq-eqb, ne-eqb, eqb-true, le-leb}
 use lib.IntN.{ℤ, pos, _+ℤ_, _-ℤ_, _*ℤ_}
 use lib.IntN as I
 use lib.ListN.{length, getD, take, drop}
@@ -18,10 +18,11 @@ use Rattle.specification.specs.Letters.{scalar, vector, kindOf}
 use Rattle.specification.specs.Records.{partFits}
 use Rattle.specification.specs.Values.{Vec, scalarValue, _•_}
 use Rattle.specification.specs.Terms as S
-use Rattle.specification.specs.Evaluation.{signedByte, assignment, partValue, termValue, termsValue, value, factorsValue}
-use Rattle.specification.specs.Decision.{letterInRange, Holds, Differs}
+use Rattle.specification.specs.Evaluation.{assignment, partValue, termValue, termsValue, value, factorsValue}
+use Rattle.specification.specs.Decision.{letterInRange, whole, Holds, Differs}
 use Rattle.theory.specs.Elements.{All, all-T, T-each}
 use Rattle.theory.specs.Values.Vectors.{by-components}
+use Rattle.theory.specs.Values.Firsts.{whole-bytes}
 use Rattle.theory.specs.Shape.Terms.{term-opens, kindOfPart}
 use Rattle.theory.specs.Shape.Letters.{Known, FactorKnown, AllKnown, known-is, terms-known}
 use Rattle.terms.specs.declared.types.Form.{Form}
@@ -31,7 +32,8 @@ use Rattle.polynomials.specs.Summands.{Summand, weigh, total, isSome}
 use Rattle.polynomials.specs.Memory.{summands}
 use Rattle.polynomials.specs.Expansion.{LettersBelow}
 use Rattle.elimination.specs.Differences.{TermBelow, difference, Comparable, Compared}
-use Rattle.elimination.specs.Elimination.{limitOf, Eliminable, Eliminated}
+use Rattle.elimination.specs.Elimination.{limitOf, Eliminable, Gives, ZeroBefore}
+use Rattle.firsts.specs.Keeping.{SoFar}
 use Rattle.decision.specs.Values.{component, variables}
 use Rattle.decision.specs.Settling.{Decidable}
 use Rattle.polynomials.proofs.Bytes.{length-summands}
@@ -94,19 +96,22 @@ in-range table b h = T-each (letterInRange table b) (length table) letter
     letter : (n : ℕ) → n < length table → T (letterInRange table b n)
     letter n l = letter-in-range table b n (h (3 * n) (omega arith)) (h (3 * n + 1) (omega arith)) (h (3 * n + 2) (omega arith))
 
--- a byte up to 6 is the value of its variable
-variable-value : (b : List ℕ) (x : ℕ) → getD b x 0 ≤ 6 → variables (assignment b) x ≡ pos (getD b x 0)
-unfolding variables assignment component signedByte
-variable-value b x h = go (x % 3) refl (omega arith)
+-- a whole number is the value of its variable
+whole-gives : (table s : List ℕ) → Gives table s (variables (whole s))
+unfolding Gives variables whole component
+whole-gives table s x h = go (x % 3) refl (omega arith)
   where
-    byte : signedByte (getD b x 0) ≡ pos (getD b x 0)
-    byte = rw (lt-ltb (getD b x 0) 128 (omega arith))
-
-    go : (r : ℕ) → x % 3 ≡ r → r < 3 → component r (assignment b (x / 3)) ≡ pos (getD b x 0)
-    go zero e l = let q : 3 * (x / 3) ≡ x = omega arith in ap (λ (i : ℕ). signedByte (getD b i 0)) q ∙ byte
-    go (suc zero) e l = let q : 3 * (x / 3) + 1 ≡ x = omega arith in ap (λ (i : ℕ). signedByte (getD b i 0)) q ∙ byte
-    go (suc (suc zero)) e l = let q : 3 * (x / 3) + 2 ≡ x = omega arith in ap (λ (i : ℕ). signedByte (getD b i 0)) q ∙ byte
+    go : (r : ℕ) → x % 3 ≡ r → r < 3 → component r (whole s (x / 3)) ≡ pos (getD s x 0)
+    go zero e l = let q : 3 * (x / 3) ≡ x = omega arith in ap (λ (i : ℕ). pos (getD s i 0)) q
+    go (suc zero) e l = let q : 3 * (x / 3) + 1 ≡ x = omega arith in ap (λ (i : ℕ). pos (getD s i 0)) q
+    go (suc (suc zero)) e l = let q : 3 * (x / 3) + 2 ≡ x = omega arith in ap (λ (i : ℕ). pos (getD s i 0)) q
     go (suc (suc (suc r))) e l = absurd (omega arith)
+
+-- and so is a byte up to 6
+byte-gives : (table b : List ℕ) → ((x : ℕ) → x < 3 * length table → getD b x 0 ≤ 6) → Gives table b (variables (assignment b))
+unfolding Gives variables
+byte-gives table b few x h =
+    ap (component (x % 3)) (sym (whole-bytes (length table) b b (λ i l. refl) few (x / 3) (omega arith))) ∙ whole-gives table b x h
 
 -- ════ scalar forms
 
@@ -145,6 +150,11 @@ unfolding isSome
 some-left zero l p q = absurd (omega arith)
 some-left (suc k) [] p q = absurd (omega arith)
 some-left (suc k) (m ∷ l) p q = refl
+
+-- there are at most three components
+pub three : {m i k : ℕ} → ((m ≡ 1) × (k ≡ 0)) ⊎ (m ≡ 3) → i < m → i < 3
+three (inl e) l = omega (arith, e .0)
+three (inr e) l = omega arith
 
 module _ (table : List ℕ) (f g : Form) (buffer work : List ℕ) (w : Decidable table f g buffer work) where
   letters-below : (kind : ℕ) (ls : List ℕ) → All (Known table kind) ls → LettersBelow ls
@@ -195,76 +205,66 @@ module _ (table : List ℕ) (f g : Form) (buffer work : List ℕ) (w : Decidable
       tau l = scalarValue (pos 0)
 
       -- what is left has the value of the difference
-      same-value : (σ : ℕ → ℤ) → total σ (take r ns) ≡ total σ (es i)
+      pub same-value : (σ : ℕ → ℤ) → total σ (take r ns) ≡ total σ (es i)
       same-value σ = gathered-value table (w .letters) (es i) (all-modest f g i (summands now) compare-asks) (values tau i h .1) (few-all f g i (summands now) compare-asks) r (summands now) ns c σ
 
-      -- nothing is left
-      pub none-left : r ≤ 0 → (σ : ℕ → ℤ) → total σ (es i) ≡ pos 0
-      unfolding weigh
-      none-left l σ = let e : r ≡ 0 = omega arith in sym (same-value σ) ∙ ap (λ (k : ℕ). total σ (take k ns)) e
+      -- something is left: numbers can be chosen
+      pub eliminate-asks : (b : List ℕ) → length b ≡ length buffer → 0 < r → Eliminable table r ns b
+      eliminate-asks b room l =
+          let few : r ≤ length ns = omega (arith, c .few, c .same, few-all f g i (summands now) compare-asks, length-summands now, w .workRoom, same) in
+          record {
+            letters = w .letters;
+            there = few;
+            room = omega (arith, w .room, room);
+            polynomial = gathered-polynomial table (w .letters) (es i) (all-modest f g i (summands now) compare-asks) (values tau i h .1)
+                (few-all f g i (summands now) compare-asks) r (summands now) ns c (some-left r ns l few);
+          }
 
-      -- something is left
-      module _ (l : 0 < r) (b : List ℕ) (room : length b ≡ length buffer) (z : (x : ℕ) → x < 3 * length table → getD b x 0 ≡ 0) where
-        few : r ≤ length ns
-        few = omega (arith, c .few, c .same, few-all f g i (summands now) compare-asks, length-summands now, w .workRoom, same)
+  -- all components are looked at: one of a scalar form, three of a vector form
+  module _ (m : ℕ) (k : ((m ≡ 1) × (f .kind ≡ 0)) ⊎ (m ≡ 3)) where
+    -- where the difference of each is 0, the forms have the same value
+    module _ (τ : ℕ → Vec) (z : (i : ℕ) → i < m → total (variables τ) (es i) ≡ pos 0) where
+      same-component : (i : ℕ) → i < 3 → i < m → component i (value τ (formOf f)) ≡ component i (value τ (formOf g))
+      same-component i h l = sub-zero→eq (component i (value τ (formOf f))) (component i (value τ (formOf g))) (sym (values τ i h .0) ∙ z i l)
 
-        some : isSome (take r ns) ≡ true
-        some = some-left r ns l few
+      other-component : (i : ℕ) → suc i < 3 → component (suc i) (value τ (formOf f)) ≡ component (suc i) (value τ (formOf g))
+      unfolding value formOf
+      other-component i h = go k
+        where
+          go : ((m ≡ 1) × (f .kind ≡ 0)) ⊎ (m ≡ 3) → component (suc i) (value τ (formOf f)) ≡ component (suc i) (value τ (formOf g))
+          go (inr e) = same-component (suc i) h (omega arith)
+          go (inl e) =
+              no-parts τ i (formOf f .terms) (scalars f (w .validFirst) (e .1)) ∙ sym (no-parts τ i (formOf g .terms) (scalars g (w .validSecond) (sym (w .kinds) ∙ e .1)))
 
-        -- numbers can be chosen
-        pub eliminate-asks : Eliminable table r ns b
-        eliminate-asks =
-            record {
-              letters = w .letters;
-              there = few;
-              room = omega (arith, w .room, room);
-              polynomial = gathered-polynomial table (w .letters) (es i) (all-modest f g i (summands now) compare-asks) (values tau i h .1)
-                  (few-all f g i (summands now) compare-asks) r (summands now) ns c some;
-              zeros = z;
-            }
+      first-component : component 0 (value τ (formOf f)) ≡ component 0 (value τ (formOf g))
+      first-component = same-component 0 (omega arith) (go k)
+        where
+          go : ((m ≡ 1) × (f .kind ≡ 0)) ⊎ (m ≡ 3) → 0 < m
+          go (inl e) = omega (arith, e .0)
+          go (inr e) = omega arith
 
-        -- the numbers chosen tell the forms apart; b₀ is the buffer before its first bytes were set to 0
-        pub differs : (b₀ b′ : List ℕ) → b₀ ≡ buffer → drop (3 * length table) b ≡ drop (3 * length table) b₀ → Eliminated table (take r ns) b b′
-            → Differs table (formOf f) (formOf g) buffer b′
-        differs b₀ b′ o d e =
-            let τ = assignment b′ in
-            let at : (x : ℕ) → x < 3 * length table → variables τ x ≡ pos (getD b′ x 0) = λ x k. variable-value b′ x (N.le-trans (e .within x k) (limit-six table x)) in
-            record {
-              sameLength = e .sameLength ∙ room;
-              inRange = in-range table b′ (e .within);
-              unequal = λ q. e .nonzero (variables τ) at
-                  (same-value (variables τ) ∙ values τ i h .0 ∙ ap (λ (v : Vec). component i v -ℤ component i (value τ (formOf g))) q
-                  ∙ I.+ℤ-invr (component i (value τ (formOf g))));
-              restStands = e .behind ∙ d ∙ ap (drop (3 * length table)) o;
-            }
+      same-values : value τ (formOf f) ≡ value τ (formOf g)
+      unfolding component
+      same-values = by-components first-component (other-component 0 (omega arith)) (other-component 1 (omega arith))
 
-  -- every component is 0
-  module _ (m : ℕ) (k : ((m ≡ 1) × (f .kind ≡ 0)) ⊎ (m ≡ 3)) (z : (i : ℕ) → i < m → (σ : ℕ → ℤ) → total σ (es i) ≡ pos 0) where
-    same-component : (τ : ℕ → Vec) (i : ℕ) → i < 3 → i < m → component i (value τ (formOf f)) ≡ component i (value τ (formOf g))
-    same-component τ i h l = sub-zero→eq (component i (value τ (formOf f))) (component i (value τ (formOf g))) (sym (values τ i h .0) ∙ z i l (variables τ))
+    -- none is found that is not 0: the forms are equal under every assignment
+    pub equal : (b : List ℕ) (i : ℕ) (found : Bool) → found ≡ false → m ≤ i → SoFar table es i found buffer b → Holds (formOf f) (formOf g) buffer b
+    unfolding SoFar
+    equal b i found e h known = let n = subst (λ (x : Bool). SoFar table es i x buffer b) e known in record { equal = λ τ. same-values τ (λ j l. n .zeros j (N.le-trans l h) (variables τ)); bufferStands = n .stands }
 
-    other-component : (τ : ℕ → Vec) (i : ℕ) → suc i < 3 → component (suc i) (value τ (formOf f)) ≡ component (suc i) (value τ (formOf g))
-    unfolding value formOf
-    other-component τ i h = go k
-      where
-        go : ((m ≡ 1) × (f .kind ≡ 0)) ⊎ (m ≡ 3) → component (suc i) (value τ (formOf f)) ≡ component (suc i) (value τ (formOf g))
-        go (inr e) = same-component τ (suc i) h (omega arith)
-        go (inl e) =
-            no-parts τ i (formOf f .terms) (scalars f (w .validFirst) (e .1)) ∙ sym (no-parts τ i (formOf g .terms) (scalars g (w .validSecond) (sym (w .kinds) ∙ e .1)))
-
-    first-component : (τ : ℕ → Vec) → component 0 (value τ (formOf f)) ≡ component 0 (value τ (formOf g))
-    first-component τ = same-component τ 0 (omega arith) (go k)
-      where
-        go : ((m ≡ 1) × (f .kind ≡ 0)) ⊎ (m ≡ 3) → 0 < m
-        go (inl e) = omega (arith, e .0)
-        go (inr e) = omega arith
-
-    -- so the forms are equal under every assignment
-    pub equal : (b : List ℕ) → b ≡ buffer → Holds (formOf f) (formOf g) buffer b
-    unfolding component
-    equal b e = record { equal = λ τ. by-components (first-component τ) (other-component τ 0 (omega arith)) (other-component τ 1 (omega arith)); bufferStands = e }
-
--- there are at most three components
-pub three : {m i k : ℕ} → ((m ≡ 1) × (k ≡ 0)) ⊎ (m ≡ 3) → i < m → i < 3
-three (inl e) l = omega (arith, e .0)
-three (inr e) l = omega arith
+    -- the numbers found tell the forms apart, and none before them do
+    pub differs : (b : List ℕ) (i : ℕ) (found : Bool) → found ≡ true → m ≤ i → i ≤ m → SoFar table es i found buffer b → Differs table (formOf f) (formOf g) buffer b
+    unfolding SoFar ZeroBefore
+    differs b i found e h h′ known =
+        let n = subst (λ (x : Bool). SoFar table es i x buffer b) e known in
+        let τ = assignment b in
+        let c = n .which in
+        record {
+          sameLength = n .sameLength;
+          inRange = in-range table b (n .within);
+          unequal = λ q. n .nonzero (variables τ) (byte-gives table b (λ x l. N.le-trans (n .within x l) (limit-six table x)))
+              (values τ c (three k (N.le-trans (n .isOne) h′)) .0 ∙ ap (λ (v : Vec). component c v -ℤ component c (value τ (formOf g))) q
+              ∙ I.+ℤ-invr (component c (value τ (formOf g))));
+          first = λ s rest before. same-values (whole s) (λ j l. n .earliest j (N.le-trans l h) s (variables (whole s)) (whole-gives table s) before);
+          restStands = n .behind;
+        }

@@ -1,7 +1,7 @@
 -- What the decision says of two forms that it takes: it holds exactly where they are equal under every assignment of integers,
 -- and where it differs the bytes handed over are an assignment in range that tells them apart; the value call, given those bytes,
--- gives different numbers for the two. Assumes nothing.
-use mathlib.Core.Path.{_≡_, refl, subst}
+-- gives different numbers for the two. Whatever is lent, the bytes handed over are the same. Assumes nothing.
+use mathlib.Core.Path.{_≡_, refl, sym, _∙_, subst}
 use mathlib.Core.Bool.{_&&_}
 use mathlib.Core.List.{List}
 use Prim.Native.Nat.{ℕ, _*_, _≤_}
@@ -19,9 +19,10 @@ use Rattle.specification.specs.Decision.{takeTwoForms, decideTested, letterInRa
 use Rattle.specification.specs.Decision as D
 use Rattle.specification.specs.Promises.{ValuesDiffer, DecisionPromise}
 use Rattle.theory.specs.Tests.{and-split, given-same, required, tested, past, into}
-use Rattle.theory.specs.Shape.Letters.{table-good, good-short}
+use Rattle.theory.specs.Shape.Letters.{table-good, good-short, terms-known}
 use Rattle.theory.specs.Records.Taken.{FormTaken, both-taken}
 use Rattle.theory.specs.Values.Assignments.{value-given}
+use Rattle.theory.specs.Values.Firsts.{differs-alike}
 
 -- equal forms are said to hold
 equal-said : (table : List ℕ) (f g : Form) (buffer work buffer′ work′ : List ℕ) → ((σ : ℕ → Vec) → value σ f ≡ value σ g)
@@ -97,6 +98,27 @@ differs-values table s t buffer work answer buffer′ work′ contract e =
           different = w .unequal;
         }
 
+-- K2: whatever is lent, two calls on one table and two forms that differ hand over the same bytes
+pub differs-once : (table s t b w b′ w′ c x c′ x′ : List ℕ) → Decided table s t b w D.differs b′ w′ → Decided table s t c x D.differs c′ x′
+    → take (3 * length table) b′ ≡ take (3 * length table) c′
+unfolding Decided DecidedBy
+differs-once table s t b w b′ w′ c x c′ x′ = go (decideTested table s t b w) refl (decideTested table s t c x) refl
+  where
+    go : (p : Result (Form × Form)) → decideTested table s t b w ≡ p → (q : Result (Form × Form)) → decideTested table s t c x ≡ q
+        → DecidedBy p table b w D.differs b′ w′ → DecidedBy q table c x D.differs c′ x′ → take (3 * length table) b′ ≡ take (3 * length table) c′
+    go (refused n) e q d v u = absurd v
+    go (given f) e (refused n) d v u = absurd u
+    go (given f) e (given g) d v u =
+        let k = both-told table s t b w f e in
+        let l = both-told table s t c x g d in
+        let good = table-good table (k .tableTested) in
+        let short = good-short table good in
+        let first : g .0 ≡ f .0 = given-same (sym (l .first .isTaken) ∙ k .first .isTaken) in
+        let second : g .1 ≡ f .1 = given-same (sym (l .second .isTaken) ∙ k .second .isTaken) in
+        differs-alike table (f .0) (f .1) good (terms-known table (f .0 .terms) (k .first .lettersTested)) (terms-known table (f .1 .terms) (k .second .lettersTested))
+        b c b′ c′ (omega (arith, v .sameLength, k .room, short)) (omega (arith, u .sameLength, l .room, short)) v
+        (subst (λ (y : Form). D.Differs table (f .0) y c c′) second (subst (λ (y : Form). D.Differs table y (g .1) c c′) first u))
+
 -- what is promised of the answer
 pub decision-promise : (table s t buffer work : List ℕ) (answer : D.Decision) (buffer′ work′ : List ℕ) → Decided table s t buffer work answer buffer′ work′
     → DecisionPromise table s t buffer work answer buffer′
@@ -104,4 +126,6 @@ decision-promise table s t buffer work answer buffer′ work′ contract = recor
   holdsOnly = λ f g taken. holds-equal table s t buffer work answer buffer′ work′ f g taken contract;
   holdsAlways = λ f g taken. equal-holds table s t buffer work answer buffer′ work′ f g taken contract;
   tellsApart = differs-values table s t buffer work answer buffer′ work′ contract;
+  sameBytes = λ e b w b′ w′ other.
+      differs-once table s t b w b′ w′ buffer work buffer′ work′ other (subst (λ (a : D.Decision). Decided table s t buffer work a buffer′ work′) e contract);
 }

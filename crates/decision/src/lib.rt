@@ -1,10 +1,9 @@
-// The decision: whether two forms are equal under every assignment, or one under which they differ.
+// The decision: whether two forms are equal under every assignment, or the first under which they differ.
 ghost use Rattle.specification.specs.Decision.{Decided};
 ghost use Rattle.decision.specs.Settling.{Decidable, DecidedSo};
 ghost use Rattle.decision.specs.Answers.{decisionOf};
 use elimination::components::compare;
-use elimination::elimination::clear;
-use elimination::elimination::eliminate;
+use firsts::keep_first;
 use forms::read_both;
 use letters::check_table;
 use terms::types::Form;
@@ -22,7 +21,8 @@ pub enum Decision {
     Refused(u8),
 }
 
-// The decision of two forms that passed every test: their components are compared one after the other.
+// The decision of two forms that passed every test: their components are compared one after the other, and of the first numbers under which one differs the
+// first stand in the buffer. Two forms may differ in one component before they do in another, so all three are looked at.
 fn settle(table: &[u8], f: Form, g: Form, buffer: &mut [u8], work: &mut [u8]) -> Decision
     requires { ⌜ Decidable (now table) f g (now buffer) (now work) ⌝ }
     ensures { λ r. ⌜ DecidedSo (now (table .entry)) f g (now (buffer .entry)) (now (work .entry)) (decisionOf r) (now (buffer .exit)) (now (work .exit)) ⌝ }
@@ -31,20 +31,20 @@ fn settle(table: &[u8], f: Form, g: Form, buffer: &mut [u8], work: &mut [u8]) ->
     if f.kind != 0 {
         m = 3;
     }
+    let mut found = false;
     let mut i: u8 = 0;
     while i < m {
         let n = compare(work, f, g, i);
-        if n > 0 {
-            clear(buffer, 3 * table.len());
-            eliminate(table, work, n, buffer);
-            return Decision::Differs;
-        }
+        found = keep_first(table, work, n, buffer, found);
         i += 1;
+    }
+    if found {
+        return Decision::Differs;
     }
     Decision::Holds
 }
 
-// Whether two forms are equal under every assignment, or one under which they differ, in the buffer.
+// Whether two forms are equal under every assignment, or the first under which they differ, in the buffer.
 // Refused with 1 for the table, 2 for short memory, 11 for either form, then 5 or 6 for letters, 6 for unlike kinds.
 pub fn decide(
     table: &[u8],

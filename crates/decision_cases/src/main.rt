@@ -1,73 +1,18 @@
 // Runs cases of the decision from standard input. A case is the length of a table (one byte), the table, the length of a form's record (two bytes), the record,
 // the same for the second form, how many bytes of the buffer are lent (one byte) and how many of the work memory (two bytes).
-// For each it writes a line: holds, differs, or R and the number of the refusal; behind it what is wrong with the memory lent or the assignment, if anything is.
-ghost use Prim.Native.Nat.{_*_, _<_, _≤_};
+// For each it writes a line: holds, differs and the assignment handed over, or R and the number of the refusal; behind it what is wrong with the memory lent,
+// if anything is.
+ghost use Prim.Native.Nat.{_<_, _≤_};
 ghost use lib.ListN.{length};
 use case_lines::byte_at;
 use case_lines::fill;
-use case_lines::in_range;
+use case_lines::print_assignment;
 use case_lines::print_character;
 use case_lines::print_refusal;
 use case_lines::print_standing;
 use case_lines::two_bytes_at;
-use decision::BUFFER_BYTES;
 use decision::Decision;
 use decision::decide;
-use evaluation::Valued;
-use evaluation::value;
-use evaluation::vectors::Vector;
-
-// Whether two vectors are unequal.
-fn unequal(v: Vector, w: Vector) -> bool {
-    if v.x != w.x {
-        return true;
-    }
-    if v.y != w.y {
-        return true;
-    }
-    v.z != w.z
-}
-
-// Whether the value call gives different values of two forms.
-fn apart(table: &[u8], first: &[u8], second: &[u8], assignment: &[u8]) -> bool {
-    let a = value(table, first, assignment);
-    let Valued::Given(v) = a else {
-        return false;
-    };
-    let b = value(table, second, assignment);
-    let Valued::Given(w) = b else {
-        return false;
-    };
-    unequal(v, w)
-}
-
-// The words for an assignment that is out of range or does not tell two forms apart.
-fn print_faults(table: &[u8], first: &[u8], second: &[u8], assignment: &[u8]) {
-    if !in_range(table, assignment) {
-        io::write_all(1, b" out-of-range");
-    }
-    if !apart(table, first, second, assignment) {
-        io::write_all(1, b" not-apart");
-    }
-}
-
-// Two forms that differ, with the assignment that was handed over.
-fn print_differing(table: &[u8], first: &[u8], second: &[u8], buffer: &[u8]) {
-    io::write_all(1, b"differs");
-    let n = table.len();
-    let len = buffer.len();
-    if n > 24 {
-        io::write_all(1, b" table");
-        return;
-    }
-    if len < BUFFER_BYTES {
-        io::write_all(1, b" buffer");
-        return;
-    }
-    let m = 3 * n;
-    print_standing(&buffer[m..]);
-    print_faults(table, first, second, &buffer[..m]);
-}
 
 // The line of a case.
 fn print_case(table: &[u8], first: &[u8], second: &[u8], buffer: &mut [u8], work: &mut [u8]) {
@@ -79,7 +24,10 @@ fn print_case(table: &[u8], first: &[u8], second: &[u8], buffer: &mut [u8], work
             io::write_all(1, b"holds");
             print_standing(buffer);
         }
-        Decision::Differs => print_differing(table, first, second, buffer),
+        Decision::Differs => {
+            io::write_all(1, b"differs");
+            print_assignment(table, buffer);
+        }
         Decision::Refused(n) => {
             print_refusal(n);
             print_standing(buffer);

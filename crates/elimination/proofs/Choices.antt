@@ -1,4 +1,4 @@
--- Numbers for the variables, from the lowest on: one turn keeps what the next one asks, and at the end the value is a number that is not 0.
+-- Numbers for the variables, from the lowest on: one turn keeps what the next one asks; at the end the value is a number that is not 0, and was 0 before.
 -- Assumes nothing.
 use mathlib.Core.Path.{_≡_, refl, sym, _∙_, ap, subst}
 use mathlib.Core.Bool.{Bool, true, false, _&&_, _||_}
@@ -17,6 +17,7 @@ use lib.Seq.{getD-set-same, getD-set-other, drop-set-lt}
 use Rattle.specification.specs.Decision.{bufferBytes}
 use Rattle.algebra.specs.Integers.{NonZero}
 use Rattle.algebra.specs.Integers as R
+use Rattle.algebra.specs.Conditions.{eq-or-ne, lt-or-le}
 use Rattle.algebra.specs.Numbers.{below-more}
 use Rattle.specification.specs.Results.{if_then_else_}
 use Rattle.specification.specs.Letters.{vector, kindOf}
@@ -24,10 +25,11 @@ use Rattle.theory.specs.Elements.{All, all-implies, both-all}
 use Rattle.polynomials.specs.Keys.{digitValue, keyValue, rest, exponent, lowest, Ordered, tally}
 use Rattle.polynomials.specs.Summands.{Summand, weigh, total, putFor, substituted, isSome, Rising}
 use Rattle.polynomials.specs.Passes.{Substitutable, Substituted, lesserOf, leastFrom}
-use Rattle.elimination.specs.Elimination.{mostOf, limitOf, vectorDigit, scalarDigit, strangeDigit, Has, weight, Polynomial, FirstNumber, Eliminable, Eliminated}
+use Rattle.elimination.specs.Elimination.{mostOf, limitOf, vectorDigit, scalarDigit, strangeDigit, Has, weight, Polynomial, FirstNumber}
+use Rattle.elimination.specs.Elimination.{Eliminable, Unchosen, Gives, ZeroBefore, Eliminated}
 use Rattle.polynomials.proofs.Keys.{value-zero, rest-tally, rest-ordered}
 use Rattle.polynomials.proofs.Summands.{substituted-value, like-size, reduced-size, mass-size, AllOrdered, substituted-rising, substituted-ordered, substituted-keys}
-use Rattle.elimination.proofs.Survival.{survives}
+use Rattle.elimination.proofs.Survival.{none-weighs, survives}
 
 -- ════ the variables of a table
 
@@ -281,6 +283,17 @@ pub cleared-more : (l : List ℕ) (i : ℕ) → i < length l → ((x : ℕ) → 
 cleared-more l i h g =
     below-more (λ (x : ℕ). getD (set l i 0) x 0 ≡ 0) i (λ x k. getD-set-other l i x 0 0 (λ e. omega arith) ∙ g x k) (getD-set-same l i 0 0 h)
 
+-- with the first 3 bytes a letter 0, numbers can be chosen
+pub cleared-asks : (table : List ℕ) (n : ℕ) (ms : List Summand) (b₀ b : List ℕ) → Eliminable table n ms b₀ → length b ≡ length b₀
+    → ((x : ℕ) → x < 3 * length table → getD b x 0 ≡ 0) → Eliminable table n ms b × Unchosen table b
+unfolding Unchosen
+cleared-asks table n ms b₀ b w e z = (record { letters = w .letters; there = w .there; room = omega (arith, w .room); polynomial = w .polynomial }, z)
+
+-- and they are chosen for the buffer as it was
+pub cleared-first : (table : List ℕ) (ms : List Summand) (b₀ b b′ : List ℕ) → length b ≡ length b₀ → drop (3 * length table) b ≡ drop (3 * length table) b₀
+    → Eliminated table ms b b′ → Eliminated table ms b₀ b′
+cleared-first table ms b₀ b b′ e d w = record { sameLength = w .sameLength ∙ e; behind = w .behind ∙ d; first = w .first }
+
 -- ════ one number after the other
 
 -- how many digits are left at most
@@ -297,7 +310,13 @@ at-digit : (σ : ℕ → ℤ) (d x v : ℕ) → d ≡ suc x → σ x ≡ pos v �
 unfolding digitValue
 at-digit σ d x v e h = ap (digitValue σ) e ∙ h
 
--- what is known in the loop: ms is the polynomial at first, rs what is left of it, b the buffer so far, d the least digit
+-- ms is 0 wherever the numbers of s are those of b at all places before x, and s has a lesser one at x
+abbrev ZeroBelow : (table : List ℕ) (ms : List Summand) (b : List ℕ) (x : ℕ) → Type 0
+ZeroBelow table ms b x =
+    (s : List ℕ) (σ : ℕ → ℤ) → Gives table s σ → ((y : ℕ) → y < x → getD s y 0 ≡ getD b y 0) → getD s x 0 < getD b x 0 → total σ ms ≡ pos 0
+
+-- what is known in the loop: ms is the polynomial at first, rs what is left of it, b the buffer so far, d the least digit;
+-- the variables below `low` have their numbers, the others 0
 pub record Choosing (table : List ℕ) (ms rs : List Summand) (d : ℕ) (b₀ b : List ℕ) : Type 0 where
   pub least : d ≡ leastFrom 0 rs
   pub low : ℕ
@@ -307,12 +326,16 @@ pub record Choosing (table : List ℕ) (ms rs : List Summand) (d : ℕ) (b₀ b 
   pub polynomial : Polynomial table rs
   pub value : (σ : ℕ → ℤ) → ((x : ℕ) → suc x < low → σ x ≡ pos (getD b x 0)) → total σ ms ≡ total σ rs
   pub within : (x : ℕ) → x < 3 * length table → getD b x 0 ≤ limitOf table x
+  pub zeros : (x : ℕ) → x < 3 * length table → low ≤ suc x → getD b x 0 ≡ 0
+  pub first : (x : ℕ) → suc x < low → ZeroBelow table ms b x
   pub behind : drop (3 * length table) b ≡ drop (3 * length table) b₀
   pub same : length b ≡ length b₀
 
 -- nothing is chosen yet
-pub choose-starts : (table : List ℕ) (n : ℕ) (ms : List Summand) (b : List ℕ) (d : ℕ) → Eliminable table n ms b → d ≡ leastFrom 0 (take n ms) → Choosing table (take n ms) (take n ms) d b b
-choose-starts table n ms b d w e =
+pub choose-starts : (table : List ℕ) (n : ℕ) (ms : List Summand) (b : List ℕ) (d : ℕ) → Eliminable table n ms b → Unchosen table b → d ≡ leastFrom 0 (take n ms)
+    → Choosing table (take n ms) (take n ms) d b b
+unfolding Unchosen
+choose-starts table n ms b d w z e =
     record {
       least = e;
       low = 1;
@@ -321,7 +344,9 @@ choose-starts table n ms b d w e =
       ordered = all-implies (λ (m : Summand). Has table 6 2 (m .key)) (λ (m : Summand). Ordered 1 8 (m .key)) (λ m h. h .ordered) (take n ms) (w .polynomial .has);
       polynomial = w .polynomial;
       value = λ σ h. refl;
-      within = λ x l. omega (arith, w .zeros x l);
+      within = λ x l. omega (arith, z x l);
+      zeros = λ x l h. z x l;
+      first = λ x h. absurd (N.not-suc-le-zero (N.le-of-suc-le-suc h));
       behind = refl;
       same = refl;
     }
@@ -343,16 +368,28 @@ module _ (table : List ℕ) (ms rs : List Summand) (d : ℕ) (b₀ b : List ℕ)
       go (inl u) = u .1
       go (inr u) = absurd (omega (arith, u, a .0, w .lowSome))
 
-  -- no variable is left: what was chosen keeps the polynomial from being 0
+  -- whichever the place, below the numbers chosen it is 0: a variable without a number has 0, and nothing is less
+  below-zero : (x : ℕ) → x < 3 * length table → ZeroBelow table ms b x
+  below-zero x l s σ g a k = go (lt-or-le (suc x) (w .low))
+    where
+      go : (suc x < w .low) ⊎ (w .low ≤ suc x) → total σ ms ≡ pos 0
+      go (inl h) = w .first x h s σ g a k
+      go (inr h) = absurd (omega (arith, w .zeros x l h))
+
+  -- no variable is left: what was chosen keeps the polynomial from being 0, and nothing before it does
   pub choose-ends : d ≡ 0 → Eliminated table ms b₀ b
+  unfolding Gives ZeroBefore
   choose-ends z =
       record {
         sameLength = w .same;
-        within = w .within;
         behind = w .behind;
-        nonzero = λ σ h e.
-            only-zero rs (zero-key rs (w .ordered) (least-zero 0 rs (sym (w .least) ∙ z) .1)) (w .polynomial .some) (w .polynomial .rising) σ
-            (sym (w .value σ (λ x l. h x (omega (arith, l, w .lowMost)))) ∙ e);
+        first = record {
+          within = w .within;
+          nonzero = λ σ h e.
+              only-zero rs (zero-key rs (w .ordered) (least-zero 0 rs (sym (w .least) ∙ z) .1)) (w .polynomial .some) (w .polynomial .rising) σ
+              (sym (w .value σ (λ x l. h x (omega (arith, l, w .lowMost)))) ∙ e);
+          earliest = λ s σ g h. below-zero (h .place) (h .inside) s σ g (h .alike) (h .less);
+        };
       }
 
   -- a variable is left
@@ -449,6 +486,9 @@ module _ (table : List ℕ) (ms rs : List Summand) (d : ℕ) (b₀ b : List ℕ)
           pub byte-there : d - 1 < length b
           byte-there = omega (arith, w .same, known .0)
 
+          other-byte : (y : ℕ) → ¬ (y ≡ d - 1) → getD (set b (d - 1) v) y 0 ≡ getD b y 0
+          other-byte y q = getD-set-other b (d - 1) y v 0 q
+
           within-next : (y : ℕ) → y < 3 * length table → getD (set b (d - 1) v) y 0 ≤ limitOf table y
           within-next y l = go (eqb y (d - 1)) refl
             where
@@ -456,12 +496,34 @@ module _ (table : List ℕ) (ms rs : List Summand) (d : ℕ) (b₀ b : List ℕ)
               go true q =
                   let r : y ≡ d - 1 = eqb-true y (d - 1) q in
                   rw (r, getD-set-same b (d - 1) v 0 byte-there) (N.le-trans (f .few) (N.le-of-eq (e ∙ known .1)))
-              go false q = rw (getD-set-other b (d - 1) y v 0 (eqb-false y (d - 1) q)) (w .within y l)
+              go false q = rw (other-byte y (eqb-false y (d - 1) q)) (w .within y l)
 
           value-next : (σ : ℕ → ℤ) → ((y : ℕ) → suc y < suc d → σ y ≡ pos (getD (set b (d - 1) v) y 0)) → total σ ms ≡ total σ (substituted d v rs)
           value-next σ g =
-              w .value σ (λ y l. g y (omega (arith, l, low-least)) ∙ ap pos (getD-set-other b (d - 1) y v 0 (λ q. omega (arith, q, l, low-least))))
+              w .value σ (λ y l. g y (omega (arith, l, low-least)) ∙ ap pos (other-byte y (λ q. omega (arith, q, l, low-least))))
               ∙ sym (substituted-value σ d v (at-digit σ d (d - 1) v isDigit (g (d - 1) (omega arith) ∙ ap pos (getD-set-same b (d - 1) v 0 byte-there))) rs)
+
+          zeros-next : (y : ℕ) → y < 3 * length table → suc d ≤ suc y → getD (set b (d - 1) v) y 0 ≡ 0
+          zeros-next y l k = other-byte y (λ q. omega arith) ∙ w .zeros y l (omega (arith, low-least))
+
+          -- a lesser number for it leaves nothing
+          first-here : ZeroBelow table ms (set b (d - 1) v) (d - 1)
+          unfolding Gives
+          first-here s σ g a k =
+              let u = getD s (d - 1) 0 in
+              let less : u < v = N.le-trans k (N.le-of-eq (getD-set-same b (d - 1) v 0 byte-there)) in
+              w .value σ (λ y l. g y (omega (arith, l, low-least, known .0)) ∙ ap pos (a y (omega (arith, l, low-least)) ∙ other-byte y (λ q. omega (arith, q, l, low-least))))
+              ∙ sym (substituted-value σ d u (at-digit σ d (d - 1) u isDigit (g (d - 1) (known .0))) rs)
+              ∙ none-weighs (keyValue σ 8) (substituted d u rs) (f .before u less)
+
+          first-next : (x : ℕ) → suc x < suc d → ZeroBelow table ms (set b (d - 1) v) x
+          first-next x l s σ g a k = go (eq-or-ne x (d - 1))
+            where
+              go : (x ≡ d - 1) ⊎ ¬ (x ≡ d - 1) → total σ ms ≡ pos 0
+              go (inl q) =
+                  first-here s σ g (λ y h. a y (omega arith)) (subst (λ (y : ℕ). getD s y 0 < getD (set b (d - 1) v) y 0) q k)
+              go (inr q) =
+                  below-zero x (omega (arith, l, known .0)) s σ g (λ y h. a y h ∙ other-byte y (λ r. omega arith)) (N.le-trans k (N.le-of-eq (other-byte x q)))
 
           -- one number is chosen and written
           pub choose-on : (r : ℕ) (os ns : List Summand) (k : ℕ) (b′ : List ℕ) → Substituted d v k r os ns → rs ≡ take k os → b′ ≡ set b (d - 1) v → (d′ : ℕ) → d′ ≡ leastFrom 0 (take r ns)
@@ -477,6 +539,8 @@ module _ (table : List ℕ) (ms rs : List Summand) (d : ℕ) (b₀ b : List ℕ)
                 polynomial = subst (Polynomial table) (sym is) polynomial-next;
                 value = λ σ g. value-next σ (λ y l. g y l ∙ ap (λ (t : List ℕ). pos (getD t y 0)) p) ∙ ap (total σ) (sym is);
                 within = λ y l. subst (λ (t : List ℕ). getD t y 0 ≤ limitOf table y) (sym p) (within-next y l);
+                zeros = λ y l h. ap (λ (t : List ℕ). getD t y 0) p ∙ zeros-next y l h;
+                first = λ x l. subst (λ (t : List ℕ). ZeroBelow table ms t x) (sym p) (first-next x l);
                 behind = ap (drop (3 * length table)) p ∙ drop-set-lt (3 * length table) b (d - 1) v (known .0) ∙ w .behind;
                 same = ap length p ∙ length-set b (d - 1) v ∙ w .same;
               }

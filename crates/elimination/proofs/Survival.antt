@@ -141,7 +141,7 @@ first-there d o m ms s a =
     (λ i. m .coef *ℤ e i +ℤ z i) ∙ I.+ℤ-idr (m .coef *ℤ pos 1) ∙ R.*ℤ-1 (m .coef)
 
 -- without a summand the sum is 0
-none-weighs : (w : ℕ → ℤ) (ms : List Summand) → isSome ms ≡ false → weigh w ms ≡ pos 0
+pub none-weighs : (w : ℕ → ℤ) (ms : List Summand) → isSome ms ≡ false → weigh w ms ≡ pos 0
 unfolding weigh isSome
 none-weighs w [] e = refl
 none-weighs w (m ∷ ms) e = absurd (let z : _≡_ {A = ℕ} 0 1 = cc in omega arith)

@@ -7,7 +7,7 @@ use Prim.Native.Nat.{ℕ, zero, suc, _*_, _/_, _%_, _^_, _≤_, _<_}
 use lib.Dec.{ltb, eqb}
 use lib.IntN.{ℤ, pos}
 use lib.ListN.{length, getD, take, drop}
-use Rattle.specification.specs.Decision.{bufferBytes}
+use Rattle.specification.specs.Decision.{bufferBytes, Before}
 use Rattle.algebra.specs.Integers.{NonZero}
 use Rattle.specification.specs.Results.{if_then_else_}
 use Rattle.specification.specs.Letters.{vector, kindOf}
@@ -70,17 +70,33 @@ pub record FirstNumber (ms : List Summand) (d most r : ℕ) : Type 0 where
   pub before : (v : ℕ) → v < r → isSome (substituted d v ms) ≡ false
   pub found : (isSome (substituted d r ms) ≡ true) ⊎ (r ≡ most)
 
--- the first n summands are such a polynomial, and the first 3 bytes a letter are 0
+-- the first n summands are such a polynomial, and the buffer has room for a number for each variable
 pub record Eliminable (table : List ℕ) (n : ℕ) (ms : List Summand) (buffer : List ℕ) : Type 0 where
   pub letters : length table ≤ 24
   pub there : n ≤ length ms
   pub room : bufferBytes ≤ length buffer
   pub polynomial : Polynomial table (take n ms)
-  pub zeros : (x : ℕ) → x < 3 * length table → getD buffer x 0 ≡ 0
 
--- numbers are chosen under which it is not 0
+-- no number is chosen yet: each is 0
+unfoldable pub Unchosen : (table buffer : List ℕ) → Type 0
+Unchosen table buffer = (x : ℕ) → x < 3 * length table → getD buffer x 0 ≡ 0
+
+-- σ gives each variable of the table the number at its place
+unfoldable pub Gives : (table s : List ℕ) (σ : ℕ → ℤ) → Type 0
+Gives table s σ = (x : ℕ) → x < 3 * length table → σ x ≡ pos (getD s x 0)
+
+-- under all numbers before those of b it is 0
+unfoldable pub ZeroBefore : (table : List ℕ) (ms : List Summand) (b : List ℕ) → Type 0
+ZeroBefore table ms b = (s : List ℕ) (σ : ℕ → ℤ) → Gives table s σ → Before (3 * length table) s b → total σ ms ≡ pos 0
+
+-- the first numbers under which it is not 0: up to their limits, and under all before them it is 0
+pub record First (table : List ℕ) (ms : List Summand) (b : List ℕ) : Type 0 where
+  pub within : (x : ℕ) → x < 3 * length table → getD b x 0 ≤ limitOf table x
+  pub nonzero : (σ : ℕ → ℤ) → Gives table b σ → NonZero (total σ ms)
+  pub earliest : ZeroBefore table ms b
+
+-- they are chosen and written, and the bytes behind them stand
 pub record Eliminated (table : List ℕ) (ms : List Summand) (buffer buffer′ : List ℕ) : Type 0 where
   pub sameLength : length buffer′ ≡ length buffer
-  pub within : (x : ℕ) → x < 3 * length table → getD buffer′ x 0 ≤ limitOf table x
   pub behind : drop (3 * length table) buffer′ ≡ drop (3 * length table) buffer
-  pub nonzero : (σ : ℕ → ℤ) → ((x : ℕ) → x < 3 * length table → σ x ≡ pos (getD buffer′ x 0)) → NonZero (total σ ms)
+  pub first : First table ms buffer′

@@ -1,10 +1,10 @@
-// Numbers chosen for the variables, one after the other from the lowest on, so that a polynomial in lent bytes is not 0.
+// The first numbers for the variables, one after the other from the lowest on, under which a polynomial in lent bytes is not 0.
 ghost use mathlib.Core.Path.{_≡_};
 ghost use Prim.Native.Nat.{ℕ, _/_, _≤_, _<_};
 ghost use lib.ListN.{length, getD, take, drop};
 ghost use Rattle.polynomials.specs.Memory.{summands};
 ghost use Rattle.polynomials.specs.Passes.{Substitutable};
-ghost use Rattle.elimination.specs.Elimination.{mostOf, FirstNumber, Eliminable, Eliminated};
+ghost use Rattle.elimination.specs.Elimination.{mostOf, FirstNumber, Eliminable, Unchosen, Eliminated};
 use letters::kind_of;
 use polynomials::passes::least;
 use polynomials::passes::leaves;
@@ -33,9 +33,9 @@ fn first_number(work: &[u8], n: usize, d: u64, most: u64) -> u64
     v
 }
 
-// Chooses a number for each variable of a polynomial that is not 0, and writes it into the buffer.
-pub fn eliminate(table: &[u8], work: &mut [u8], n: usize, buffer: &mut [u8])
-    requires { ⌜ Eliminable (now table) n (summands (now work)) (now buffer) ⌝ }
+// Chooses for each variable of a polynomial that is not 0 the first number that leaves a summand, and writes it into the buffer.
+fn choose(table: &[u8], work: &mut [u8], n: usize, buffer: &mut [u8])
+    requires { ⌜ Eliminable (now table) n (summands (now work)) (now buffer) × Unchosen (now table) (now buffer) ⌝ }
     ensures { λ r. ⌜ Eliminated (now (table .entry)) (take n (summands (now (work .entry)))) (now (buffer .entry)) (now (buffer .exit)) ⌝ }
 {
     let mut m = n;
@@ -50,7 +50,7 @@ pub fn eliminate(table: &[u8], work: &mut [u8], n: usize, buffer: &mut [u8])
 }
 
 // Writes 0 into the first n bytes.
-pub fn clear(buffer: &mut [u8], n: usize)
+fn clear(buffer: &mut [u8], n: usize)
     requires { ⌜ n ≤ length (now buffer) ⌝ }
     ensures zeros { λ r. ⌜ ((x : ℕ) → x < n → getD (now (buffer .exit)) x 0 ≡ 0) ⌝ }
     ensures behind { λ r. ⌜ drop n (now (buffer .exit)) ≡ drop n (now (buffer .entry)) ⌝ }
@@ -60,4 +60,13 @@ pub fn clear(buffer: &mut [u8], n: usize)
         buffer[i] = 0;
         i += 1;
     }
+}
+
+// Writes into the buffer the first numbers under which a polynomial that is not 0 is not 0; a variable that it does not have gets 0.
+pub fn eliminate(table: &[u8], work: &mut [u8], n: usize, buffer: &mut [u8])
+    requires { ⌜ Eliminable (now table) n (summands (now work)) (now buffer) ⌝ }
+    ensures { λ r. ⌜ Eliminated (now (table .entry)) (take n (summands (now (work .entry)))) (now (buffer .entry)) (now (buffer .exit)) ⌝ }
+{
+    clear(buffer, 3 * table.len());
+    choose(table, work, n, buffer);
 }

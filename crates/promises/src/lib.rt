@@ -69,7 +69,7 @@ pub fn check_promised(table: &[u8], log: &[u8]) -> Checked
     check(table, log)
 }
 
-// P6: the decision holds exactly where two forms are equal under every assignment, and the assignment handed over tells them apart.
+// P6 and K2: the decision holds exactly where two forms are equal under every assignment; the assignment handed over tells them apart, and there is no other.
 pub fn decide_promised(
     table: &[u8],
     first: &[u8],

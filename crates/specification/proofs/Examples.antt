@@ -1,10 +1,13 @@
 -- Worked examples of document 01 that are not starred, and of document 02, as rows of one table with one computed test: a wrong definition is refused in this crate, before any theorem stands on it.
--- Assumes nothing.
+-- Behind them K2's order of assignments, at two letters. Assumes nothing.
+use mathlib.Core.Path.{_≡_, refl}
 use mathlib.Core.Bool.{Bool, true, false, _&&_}
 use mathlib.Core.List.{List, [], _∷_}
-use Prim.Native.Nat.{ℕ, _+_, _*_}
+use Prim.Native.Nat.{ℕ, zero, suc, _+_, _*_, _<_}
+use native.Mathlib.Omega.{arith}
 use lib.IntN.{ℤ, pos, negsuc}
 use lib.Dec.{T, eqb}
+use lib.ListN.{getD}
 use Rattle.specification.specs.Results.{Result, refused, given}
 use Rattle.specification.specs.Lists.{all}
 use Rattle.specification.specs.Values.{Vec, wedge}
@@ -15,6 +18,7 @@ use Rattle.specification.specs.Insertion.{withInserted}
 use Rattle.specification.specs.Rules.{sides}
 use Rattle.specification.specs.Evaluation.{termsValue}
 use Rattle.specification.specs.Logs.{sameCoef, sameForm}
+use Rattle.specification.specs.Decision.{whole, Before}
 use Rattle.specification.specs.Printing.{printCall}
 use Rattle.specification.proofs.Computing.{computing}
 
@@ -31,6 +35,8 @@ data Example : Type 0 where
   insertRefused : (form : List ℕ) (letter : ℕ) (inserted : List ℕ) (number : ℕ) → Example
   -- two vectors and their wedge
   wedges : (a b c : Vec) → Example
+  -- numbers in a row, and what they assign to a letter
+  assigns : (numbers : List ℕ) (letter : ℕ) (v : Vec) → Example
   -- a rule whose sides have the same value at the numbers below
   balances : (rule : ℕ) → Example
 
@@ -76,6 +82,8 @@ examples =
     ∷ insertRefused (0x01 ∷ 0x00 ∷ []) 6 (0x00 ∷ 0x00 ∷ []) 5
     -- "a∧b is (a2b3−a3b2, a3b1−a1b3, a1b2−a2b1)"
     ∷ wedges (vec (pos 1) (pos 2) (pos 3)) (vec (pos 4) (pos 5) (pos 7)) (vec (negsuc 0) (pos 5) (negsuc 2))
+    -- K2, "whole numbers", "letter by letter and component by component"
+    ∷ assigns (0 ∷ 1 ∷ 2 ∷ 300 ∷ 250 ∷ 5 ∷ []) 1 (vec (pos 300) (pos 250) (pos 5))
     -- "The five rules"
     ∷ balances 1
     ∷ balances 2
@@ -117,9 +125,36 @@ exampleHolds (isRecord f bytes) = same (writeForm f) bytes && isForm (readForm b
 exampleHolds (inserts form letter inserted bytes) = hasRecord (withInserted sixVectors form letter inserted) bytes
 exampleHolds (insertRefused form letter inserted n) = isNumber (withInserted sixVectors form letter inserted) n
 exampleHolds (wedges a b c) = sameVec (wedge a b) c
+exampleHolds (assigns numbers letter v) = sameVec (whole numbers letter) v
 exampleHolds (balances rule) =
     let s = sides rule (0 ∷ 1 ∷ 2 ∷ 3 ∷ 4 ∷ 5 ∷ []) in sameVec (termsValue numbers (s .left)) (termsValue numbers (s .right))
 
 examples-hold : T (all exampleHolds examples)
 unfolding examples exampleHolds same sameVec isForm isNumber sixVectors hasRecord computing
 examples-hold = tt
+
+-- ════ K2: the order of assignments
+
+-- a = (0, 0, 5), b = (9, 9, 9) comes before a = (0, 1, 0), b = (0, 0, 0): the second number decides
+lower : List ℕ
+lower = 0 ∷ 0 ∷ 5 ∷ 9 ∷ 9 ∷ 9 ∷ []
+
+higher : List ℕ
+higher = 0 ∷ 1 ∷ 0 ∷ 0 ∷ 0 ∷ 0 ∷ []
+
+lower-first : Before 6 lower higher
+unfolding lower higher
+lower-first = record { place = 1; inside = omega arith; alike = only; less = omega arith }
+  where
+    only : (i : ℕ) → i < 1 → getD lower i 0 ≡ getD higher i 0
+    only zero h = refl
+    only (suc i) h = absurd (omega arith)
+
+higher-not : ¬ Before 6 higher lower
+unfolding lower higher
+higher-not w = go (w .place) (w .alike) (w .less)
+  where
+    go : (n : ℕ) → ((i : ℕ) → i < n → getD higher i 0 ≡ getD lower i 0) → getD higher n 0 < getD lower n 0 → ⊥
+    go zero a l = omega arith
+    go (suc zero) a l = omega arith
+    go (suc (suc n)) a l = let e : _≡_ {A = ℕ} 1 0 = a 1 (omega arith) in omega arith

@@ -2,7 +2,8 @@
 use mathlib.Core.Path.{_≡_}
 use mathlib.Core.Bool.{Bool, _&&_}
 use mathlib.Core.List.{List}
-use Prim.Native.Nat.{ℕ, _+_, _*_}
+use Prim.Native.Nat.{ℕ, _+_, _*_, _<_}
+use lib.IntN.{pos}
 use lib.ListN.{length, getD, drop}
 use lib.Dec.{T, leb, eqb}
 use Rattle.specification.specs.Lists.{each}
@@ -11,7 +12,7 @@ use Rattle.specification.specs.Values.{Vec}
 use Rattle.specification.specs.Letters.{scalar, kindOf, testTable}
 use Rattle.specification.specs.Terms.{Form}
 use Rattle.specification.specs.Records.{takeBoth}
-use Rattle.specification.specs.Evaluation.{value, assignment}
+use Rattle.specification.specs.Evaluation.{value, restIsZero, assignment}
 
 -- "It says that the identity holds, or that it differs", or it is refused with its number
 pub data Decision : Type 0 where
@@ -51,6 +52,21 @@ letterInRange table s n =
     then leb first 2 && eqb second 0 && eqb third 0
     else leb first 6 && leb second 6 && leb third 6
 
+-- an assignment "in whole numbers from 0 up": the numbers in a row, three a letter
+unfoldable pub whole : (s : List ℕ) (n : ℕ) → Vec
+whole s n = record {
+  x = pos (getD s (3 * n) 0);
+  y = pos (getD s (3 * n + 1) 0);
+  z = pos (getD s (3 * n + 2) 0);
+}
+
+-- s comes before t, "letter by letter and component by component": at the first of n places where they differ s has the lesser number
+pub record Before (n : ℕ) (s t : List ℕ) : Type 0 where
+  pub place : ℕ
+  pub inside : place < n
+  pub alike : (i : ℕ) → i < place → getD s i 0 ≡ getD t i 0
+  pub less : getD s place 0 < getD t place 0
+
 -- refused: "All lent memory stands"
 pub record Stands (buffer work buffer′ work′ : List ℕ) : Type 0 where
   pub bufferStands : buffer′ ≡ buffer
@@ -61,11 +77,13 @@ pub record Holds (f g : Form) (buffer buffer′ : List ℕ) : Type 0 where
   pub equal : (σ : ℕ → Vec) → value σ f ≡ value σ g
   pub bufferStands : buffer′ ≡ buffer
 
--- differs: the first 3 times (letters) bytes are an assignment under which the values differ; "the other bytes of the buffer stand"
+-- differs: the first 3 times (letters) bytes are an assignment under which the values differ, "exactly the first": under every assignment in whole numbers
+-- before it, a scalar letter's other two 0, they are equal; "the other bytes of the buffer stand"
 pub record Differs (table : List ℕ) (f g : Form) (buffer buffer′ : List ℕ) : Type 0 where
   pub sameLength : length buffer′ ≡ length buffer
   pub inRange : T (each (length table) (letterInRange table buffer′))
   pub unequal : ¬ (value (assignment buffer′) f ≡ value (assignment buffer′) g)
+  pub first : (s : List ℕ) → T (each (length table) (restIsZero table s)) → Before (3 * length table) s buffer′ → value (whole s) f ≡ value (whole s) g
   pub restStands : drop (3 * length table) buffer′ ≡ drop (3 * length table) buffer
 
 -- what holds by the tests and by the answer; the work bytes are free after holds and after differs

@@ -1,4 +1,5 @@
--- What is promised of the calls beyond their definitions: P2, P3, P6 and P7 (demands 2 and 3) and the value of K1, of what a call gave or wrote. Assumes nothing.
+-- What is promised of the calls beyond their definitions: P2, P3, P6 and P7 (demands 2 and 3), the value of K1 and the bytes of K2, of what a call gave or wrote.
+-- Assumes nothing.
 use mathlib.Core.Path.{_≡_}
 use mathlib.Core.List.{List}
 use Prim.Native.Nat.{ℕ, _+_, _*_}
@@ -12,7 +13,7 @@ use Rattle.specification.specs.Expressions.{Expr, readExpr}
 use Rattle.specification.specs.Insertion.{replaced}
 use Rattle.specification.specs.Evaluation.{value, exprValue, valueCall}
 use Rattle.specification.specs.Logs.{Log, Checked, accepted, refusedAt, readLog, sameForm, takeSteps, withinLimits}
-use Rattle.specification.specs.Decision.{Decision, holds, differs, decideTested}
+use Rattle.specification.specs.Decision.{Decision, holds, differs, decideTested, Decided}
 
 -- P2: the bytes written are the record of a form that has the value of the expression under every assignment of integers
 pub record KeepsValue (table expr written : List ℕ) : Type 0 where
@@ -91,8 +92,9 @@ pub record ValuesDiffer (table s t bytes : List ℕ) : Type 0 where
   pub different : ¬ (first ≡ second)
 
 -- of two forms that the decision takes: "holds" exactly where they are equal under every assignment; where it says "differs", the value call on the
--- bytes handed over tells them apart
+-- bytes handed over tells them apart, and (K2) whoever decides the same forms, whatever is lent, hands over the same bytes
 pub record DecisionPromise (table s t buffer work : List ℕ) (answer : Decision) (buffer′ : List ℕ) : Type 0 where
   pub holdsOnly : (f g : Form) → decideTested table s t buffer work ≡ given (f, g) → answer ≡ holds → (σ : ℕ → Vec) → value σ f ≡ value σ g
   pub holdsAlways : (f g : Form) → decideTested table s t buffer work ≡ given (f, g) → ((σ : ℕ → Vec) → value σ f ≡ value σ g) → answer ≡ holds
   pub tellsApart : answer ≡ differs → ValuesDiffer table s t (take (3 * length table) buffer′)
+  pub sameBytes : answer ≡ differs → (b w b′ w′ : List ℕ) → Decided table s t b w differs b′ w′ → take (3 * length table) b′ ≡ take (3 * length table) buffer′

@@ -1,119 +1,88 @@
--- `decision::settle` meets its contract: the components before i are 0. Assumes nothing.
-use mathlib.Core.Path.{_≡_, refl, ap, _∙_}
+-- `decision::settle` meets its contract: of the components before i, the first numbers under which one differs are kept. Assumes nothing.
+use mathlib.Core.Path.{_≡_, refl, _∙_}
 use mathlib.Core.Logic.{_⊎_, inl, inr, ⊎-elim}
-use Prim.Native.Nat.{ℕ, _-_, _<_}
+use Prim.Native.Nat.{ℕ, _-_, _≤_}
 use native.Mathlib.Omega.{arith}
-use native.Mathlib.Nat.{not-suc-le-zero}
 use lib.ListN.{length}
-use lib.IntN.{ℤ, pos}
-use Rattle.algebra.specs.Numbers.{below-more, below-fewer}
 use Rattle.specification.specs.Decision.{DecidedBy}
 use Rattle.terms.specs.Abstraction.{formOf}
-use Rattle.decision.specs.Answers.{decisionOf}
 use Rattle.elimination.specs.Differences.{difference}
-use Rattle.polynomials.specs.Summands.{total}
-use Rattle.decision.proofs.Settling.{compare-asks, eliminate-asks, differs, none-left, equal, three}
+use Rattle.firsts.specs.Keeping.{SoFar}
+use Rattle.firsts.proofs.Numbers.{so-far-starts, so-far-more}
+use Rattle.decision.specs.Answers.{decisionOf}
+use Rattle.decision.proofs.Settling.{compare-asks, same-value, eliminate-asks, differs, equal, three}
 use Rattle.decision.proofs.settle.Statement.{statement}
 use Rattle.decision.proofs.settle.Tie as tie
 
 abbrev Inv-loop : tie.InvT-loop
-Inv-loop table f g buffer₀ work₀ m i₀ buffer work i =
-    (buffer ≡ buffer₀) × (length work ≡ length work₀) × ((j : ℕ) → j < i → (σ : ℕ → ℤ) → total σ (difference j (formOf f) (formOf g)) ≡ pos 0)
-    × (((m ≡ 1) × (f .kind ≡ 0)) ⊎ (m ≡ 3))
+Inv-loop table f g buffer₀ work₀ m found₀ i₀ buffer work found i =
+    (length buffer ≡ length buffer₀) × (length work ≡ length work₀) × SoFar table (λ (j : ℕ). difference j (formOf f) (formOf g)) i found buffer₀ buffer
+    × (((m ≡ 1) × (f .kind ≡ 0)) ⊎ (m ≡ 3)) × (i ≤ m)
 
 abbrev μ-loop : tie.MeasureT-loop
-μ-loop table f g buffer₀ work₀ m i₀ buffer work i = m - i
+μ-loop table f g buffer₀ work₀ m found₀ i₀ buffer work found i = m - i
 
 loop-holds : tie.Need-loop-holds Inv-loop μ-loop
-loop-holds c = (refl, refl, λ j h. absurd (not-suc-le-zero h), ⊎-elim (λ w. inr (w .1)) (λ w. inl (w .1, w .0 .left)) (c .if1 .came))
+loop-holds c = (refl, refl, so-far-starts _ _ 0 _, ⊎-elim (λ w. inr (w .1)) (λ w. inl (w .1, w .0 .left)) (c .if1 .came), omega arith)
 
 compare-requires : tie.Need-compare-requires Inv-loop μ-loop
 compare-requires c κs =
     compare-asks _ _ _ _ _ (c .before .before .before .before .before .before .before .before .pre) _ (c .before .before .loop .inv .1) _
     (three (c .before .before .loop .inv .3) (c .before .loop-test .taken))
 
-mul-clear : tie.Need-mul-clear Inv-loop μ-loop
-mul-clear c = omega (arith, c .before .before .before .before .before .before .before .before .before .before .before .before .before .pre .letters)
+keep-first-requires : tie.Need-keep-first-requires Inv-loop μ-loop
+keep-first-requires c κs =
+    let known = c .before .before .before .before .before .before .before .loop .inv in
+    eliminate-asks _ _ _ _ _ (c .before .before .before .before .before .before .before .before .before .before .before .before .before .pre) _ (known .1) _
+    (three (known .3) (c .before .before .before .before .before .before .loop-test .taken)) _ _
+    (c .before .before .before .before .compare .ensures) _ (known .0)
 
-clear-requires : tie.Need-clear-requires Inv-loop μ-loop
-clear-requires c κs =
-    omega (
-      arith,
-      c .before .before .before .before .before .before .before .before .before .before .before .before .before .pre .letters,
-      c .before .before .before .before .before .before .before .before .before .before .before .before .before .pre .room,
-      ap length (c .before .before .before .before .before .before .before .loop .inv .0),
+add-i : tie.Need-add-i Inv-loop μ-loop
+add-i c =
+    omega (arith, three (c .before .before .before .before .before .before .before .before .before .before .before .before .loop .inv .3) (c .before .before .before .before .before .before .before .before .before .before .before .loop-test .taken))
+
+loop-less : tie.Need-loop-less Inv-loop μ-loop
+loop-less c = omega (arith, c .before .before .before .before .before .before .before .before .before .before .before .loop-test .taken)
+
+loop-again : tie.Need-loop-again Inv-loop μ-loop
+loop-again c =
+    let known = c .before .before .before .before .before .before .before .before .before .before .before .before .loop .inv in
+    let kept = c .before .before .before .before .keep-first in
+    let taken = c .before .before .before .before .before .before .before .before .before .before .before .loop-test .taken in (
+      kept .kept .1 .1 .1 .0 ∙ known .0,
+      kept .kept .1 .0 ∙ c .before .before .before .before .before .before .before .before .before .compare .kept .0 ∙ known .1,
+      so-far-more _ _ _ _ _
+          (same-value _ _ _ _ _ (c .before .before .before .before .before .before .before .before .before .before .before .before .before .before .before .before .before .before .pre) _ (known .1) _ (three (known .3) taken) _ _ (c .before .before .before .before .before .before .before .before .before .compare .ensures))
+          _ _ _ _ (known .2) (kept .ensures),
+      known .3,
+      omega (arith, taken),
     )
 
-eliminate-requires : tie.Need-eliminate-requires Inv-loop μ-loop
-eliminate-requires c κs =
-    eliminate-asks _ _ _ _ _
-    (c .before .before .before .before .before .before .before .before .before .before .before .before .before .before .before .before .before .before .pre) _
-    (c .before .before .before .before .before .before .before .before .before .before .before .before .loop .inv .1) _
-    (three (c .before .before .before .before .before .before .before .before .before .before .before .before .loop .inv .3)
-    (c .before .before .before .before .before .before .before .before .before .before .before .loop-test .taken)) _ _
-    (c .before .before .before .before .before .before .before .before .before .compare .ensures) (c .before .before .before .before .before .before .if2 .taken) _
-    (c .before .before .before .before .clear .kept .0
-    ∙ ap length (c .before .before .before .before .before .before .before .before .before .before .before .before .loop .inv .0))
-    (c .before .before .before .before .clear .ensures .0)
-
 same-length : tie.Need-same-length Inv-loop μ-loop
-same-length c =
-    c .before .before .before .before .eliminate .kept .1 .1 .1 .0
-    ∙ c .before .before .before .before .before .before .before .before .before .clear .kept .0
-    ∙ ap length (c .before .before .before .before .before .before .before .before .before .before .before .before .before .before .before .before .before .loop .inv .0)
+same-length c = c .before .before .loop .inv .0
 
 same-length-2 : tie.Need-same-length-2 Inv-loop μ-loop
-same-length-2 c =
-    c .before .before .before .before .eliminate .kept .1 .0
-    ∙ c .before .before .before .before .before .before .before .before .before .before .before .before .before .before .compare .kept .0
-    ∙ (c .before .before .before .before .before .before .before .before .before .before .before .before .before .before .before .before .before .loop .inv .1)
+same-length-2 c = c .before .before .loop .inv .1
 
 returns : tie.Need-returns Inv-loop μ-loop
 unfolding decisionOf DecidedBy
 returns c =
-    differs _ _ _ _ _
-    (c .before .before .before .before .before .before .before .before .before .before .before .before .before .before .before .before .before .before .before .before .before .before .before .pre)
-    _ (c .before .before .before .before .before .before .before .before .before .before .before .before .before .before .before .before .before .loop .inv .1) _
-    (three (c .before .before .before .before .before .before .before .before .before .before .before .before .before .before .before .before .before .loop .inv .3)
-    (c .before .before .before .before .before .before .before .before .before .before .before .before .before .before .before .before .loop-test .taken)) _ _
-    (c .before .before .before .before .before .before .before .before .before .before .before .before .before .before .compare .ensures)
-    (c .before .before .before .before .before .before .before .before .before .before .before .if2 .taken) _
-    (c .before .before .before .before .before .before .before .before .before .clear .kept .0
-    ∙ ap length (c .before .before .before .before .before .before .before .before .before .before .before .before .before .before .before .before .before .loop .inv .0))
-    (c .before .before .before .before .before .before .before .before .before .clear .ensures .0) _ _
-    (c .before .before .before .before .before .before .before .before .before .before .before .before .before .before .before .before .before .loop .inv .0)
-    (c .before .before .before .before .before .before .before .before .before .clear .ensures .1)
-    (c .before .before .before .before .eliminate .ensures)
-
-add-i : tie.Need-add-i Inv-loop μ-loop
-add-i c = omega (arith, three (c .before .before .before .before .before .before .loop .inv .3) (c .before .before .before .before .before .loop-test .taken))
-
-loop-less : tie.Need-loop-less Inv-loop μ-loop
-loop-less c = omega arith
-
-loop-again : tie.Need-loop-again Inv-loop μ-loop
-loop-again c = (
-  (c .before .before .before .before .before .before .loop .inv .0),
-  c .before .before .before .compare .kept .0 ∙ (c .before .before .before .before .before .before .loop .inv .1),
-  below-more (λ (j : ℕ). (σ : ℕ → ℤ) → total σ (difference j _ _) ≡ pos 0) _ (c .before .before .before .before .before .before .loop .inv .2)
-      (none-left _ _ _ _ _ (c .before .before .before .before .before .before .before .before .before .before .before .before .pre) _
-      (c .before .before .before .before .before .before .loop .inv .1) _
-      (three (c .before .before .before .before .before .before .loop .inv .3) (c .before .before .before .before .before .loop-test .taken)) _ _
-      (c .before .before .before .compare .ensures) (c .if2 .left)),
-  (c .before .before .before .before .before .before .loop .inv .3),
-)
+    let known = c .before .before .loop .inv in
+    differs _ _ _ _ _ (c .before .before .before .before .before .before .before .before .pre) _ (known .3) _ _ _ (c .if2 .taken) (c .before .loop-test .left)
+    (known .4) (known .2)
 
 same-length-3 : tie.Need-same-length-3 Inv-loop μ-loop
-same-length-3 c = ap length (c .before .loop .inv .0)
+same-length-3 c = c .before .before .loop .inv .0
 
 same-length-4 : tie.Need-same-length-4 Inv-loop μ-loop
-same-length-4 c = (c .before .loop .inv .1)
+same-length-4 c = c .before .before .loop .inv .1
 
 returns-2 : tie.Need-returns-2 Inv-loop μ-loop
 unfolding decisionOf DecidedBy
 returns-2 c =
-    equal _ _ _ _ _ (c .before .before .before .before .before .before .before .pre) _ (c .before .loop .inv .3)
-    (below-fewer (c .before .loop .inv .2) (c .loop-test .left)) _ (c .before .loop .inv .0)
+    let known = c .before .before .loop .inv in
+    equal _ _ _ _ _ (c .before .before .before .before .before .before .before .before .pre) _ (known .3) _ _ _ (c .if2 .left) (c .before .loop-test .left)
+    (known .2)
 
 pub settle-spec : {M : Type 1} → statement M
 settle-spec =
@@ -123,15 +92,13 @@ settle-spec =
     μ-loop
     loop-holds
     compare-requires
-    mul-clear
-    clear-requires
-    eliminate-requires
-    same-length
-    same-length-2
-    returns
+    keep-first-requires
     add-i
     loop-less
     loop-again
+    same-length
+    same-length-2
+    returns
     same-length-3
     same-length-4
     returns-2)

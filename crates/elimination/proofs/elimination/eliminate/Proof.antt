@@ -1,124 +1,31 @@
--- `elimination::elimination::eliminate` meets its contract: the numbers chosen keep the value. Assumes nothing.
-use mathlib.Core.Path.{_≡_, refl, _∙_}
-use Prim.Native.Nat.{_≤_}
-use native.Mathlib.Omega.{arith}
-use lib.ListN.{length, take}
-use Rattle.polynomials.specs.Memory.{summands}
-use Rattle.elimination.proofs.Choices.{Choosing, choose-starts, choose-on, choose-ends, choose-falls, fallOf, letter-there, most-six, fits, number-small, byte-there}
+-- `elimination::elimination::eliminate` meets its contract. Assumes nothing.
+use borrow.Author.Needs.{needs}
+use Rattle.elimination.proofs.Choices.{cleared-asks, cleared-first}
 use Rattle.elimination.proofs.elimination.eliminate.Statement.{statement}
 use Rattle.elimination.proofs.elimination.eliminate.Tie as tie
 
-abbrev Inv-loop : tie.InvT-loop
-Inv-loop table work₀ n buffer₀ m₀ d₀ work buffer m d =
-    (length work ≡ length work₀) × (m ≤ length (summands work)) × Choosing table (take n (summands work₀)) (take m (summands work)) d buffer₀ buffer
+mul-clear : tie.Need-mul-clear
+mul-clear c = search needs
 
-abbrev μ-loop : tie.MeasureT-loop
-μ-loop table work₀ n buffer₀ m₀ d₀ work buffer m d = fallOf d
+clear-requires : tie.Need-clear-requires
+clear-requires c κs = search needs
 
-least-requires : tie.Need-least-requires Inv-loop μ-loop
-least-requires c κs = c .before .before .before .before .pre .there
+choose-requires : tie.Need-choose-requires
+choose-requires c κs =
+    cleared-asks _ _ _ _ _ (c .before .before .before .before .before .before .before .before .before .pre) (c .before .before .before .before .clear .kept .0)
+    (c .before .before .before .before .clear .ensures .0)
 
-loop-holds : tie.Need-loop-holds Inv-loop μ-loop
-loop-holds c = (refl, c .before .before .before .before .before .pre .there, choose-starts _ _ _ _ _ (c .before .before .before .before .before .pre) (c .least .ensures))
+same-length : tie.Need-same-length
+same-length c = search needs
 
-sub-x : tie.Need-sub-x Inv-loop μ-loop
-sub-x c = omega arith
+same-length-2 : tie.Need-same-length-2
+same-length-2 c = search needs
 
-most-requires : tie.Need-most-requires Inv-loop μ-loop
-most-requires c κs = letter-there _ _ _ _ _ _ (c .before .before .loop .inv .2) (c .before .loop-test .taken)
-
-first-number-requires : tie.Need-first-number-requires Inv-loop μ-loop
-first-number-requires c κs = (
-  c .before .before .before .loop .inv .1,
-  most-six _ _ _ _ _ _ (c .before .before .before .loop .inv .2) (c .before .before .loop-test .taken) _ (c .most .ensures),
-  fits _ _ _ _ _ _ (c .before .before .before .loop .inv .2) (c .before .before .loop-test .taken) _ (c .most .ensures),
-)
-
-substitute-requires : tie.Need-substitute-requires Inv-loop μ-loop
-substitute-requires c κs = (
-  c .before .before .before .before .before .loop .inv .1,
-  fits _ _ _ _ _ _ (c .before .before .before .before .before .loop .inv .2) (c .before .before .before .before .loop-test .taken) _
-      (c .before .before .most .ensures) _ (c .before .first-number .ensures .few),
-)
-
-cast-buffer : tie.Need-cast-buffer Inv-loop μ-loop
-cast-buffer c =
-    omega (
-      arith,
-      number-small _ _ _ _ _ _ (c .before .before .before .before .before .before .before .before .loop .inv .2)
-          (c .before .before .before .before .before .before .before .loop-test .taken) _ (c .before .before .before .before .before .most .ensures) _
-          (c .before .before .before .before .first-number .ensures),
-    )
-
-slice-write-buffer : tie.Need-slice-write-buffer Inv-loop μ-loop
-slice-write-buffer c =
-    byte-there _ _ _ _ _ _ (c .before .before .before .before .before .before .before .before .loop .inv .2)
-    (c .before .before .before .before .before .before .before .loop-test .taken) _ (c .before .before .before .before .before .most .ensures) _
-    (c .before .before .before .before .first-number .ensures)
-    (c .before .before .before .before .before .before .before .before .before .before .before .before .before .before .pre .room)
-    (c .before .before .before .before .before .before .before .before .before .before .before .before .before .before .pre .letters)
-
-least-requires-2 : tie.Need-least-requires-2 Inv-loop μ-loop
-least-requires-2 c κs =
-    omega (
-      arith,
-      c .before .before .before .before .before .before .before .before .before .loop .inv .1,
-      c .before .before .before .substitute .ensures .few,
-      c .before .before .before .substitute .ensures .count,
-    )
-
-loop-less : tie.Need-loop-less Inv-loop μ-loop
-loop-less c =
-    choose-falls _ _ _ _ _ _ (c .before .before .before .before .before .before .before .before .before .before .loop .inv .2)
-    (c .before .before .before .before .before .before .before .before .before .loop-test .taken) _
-    (c .before .before .before .before .before .before .before .most .ensures) _ (c .before .before .before .before .before .before .first-number .ensures)
-    (c .before .before .before .before .before .before .before .before .before .before .before .before .before .before .before .before .pre .room)
-    (c .before .before .before .before .before .before .before .before .before .before .before .before .before .before .before .before .pre .letters) _ _ _ _
-    (c .before .before .before .before .substitute .ensures) refl _ (c .least2 .ensures)
-
-loop-again : tie.Need-loop-again Inv-loop μ-loop
-loop-again c = (
-  c .before .before .before .before .substitute .kept .0 ∙ c .before .before .before .before .before .before .before .before .before .before .loop .inv .0,
-  omega (
-    arith,
-    c .before .before .before .before .before .before .before .before .before .before .loop .inv .1,
-    c .before .before .before .before .substitute .ensures .few,
-    c .before .before .before .before .substitute .ensures .count,
-  ),
-  choose-on _ _ _ _ _ _ (c .before .before .before .before .before .before .before .before .before .before .loop .inv .2)
-      (c .before .before .before .before .before .before .before .before .before .loop-test .taken) _
-      (c .before .before .before .before .before .before .before .most .ensures) _ (c .before .before .before .before .before .before .first-number .ensures)
-      (c .before .before .before .before .before .before .before .before .before .before .before .before .before .before .before .before .pre .room)
-      (c .before .before .before .before .before .before .before .before .before .before .before .before .before .before .before .before .pre .letters) _ _ _ _ _
-      (c .before .before .before .before .substitute .ensures) refl refl _ (c .least2 .ensures),
-)
-
-same-length : tie.Need-same-length Inv-loop μ-loop
-same-length c = c .before .loop .inv .0
-
-same-length-2 : tie.Need-same-length-2 Inv-loop μ-loop
-same-length-2 c = c .before .loop .inv .2 .same
-
-returns : tie.Need-returns Inv-loop μ-loop
-returns c = choose-ends _ _ _ _ _ _ (c .before .loop .inv .2) (c .loop-test .left)
+returns : tie.Need-returns
+returns c =
+    let cleared = c .before .before .before .before .before .before .before .before .before .clear in
+    cleared-first _ _ _ _ _ (cleared .kept .0) (cleared .ensures .1) (c .before .before .before .before .choose .ensures)
 
 pub eliminate-spec : {M : Type 1} → statement M
 eliminate-spec =
-    tie.close
-    (tie.spec
-    Inv-loop
-    μ-loop
-    least-requires
-    loop-holds
-    sub-x
-    most-requires
-    first-number-requires
-    substitute-requires
-    cast-buffer
-    slice-write-buffer
-    least-requires-2
-    loop-less
-    loop-again
-    same-length
-    same-length-2
-    returns)
+    tie.close (tie.spec mul-clear clear-requires choose-requires same-length same-length-2 returns)
