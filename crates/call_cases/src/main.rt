@@ -1,7 +1,8 @@
 // Runs cases of the calls for C and of the audit from standard input. A case begins with 12 bytes: the number of the call (one byte), the lengths of a
 // table (one byte) and of two inputs (two bytes each), and how much is lent of three parts of memory (two bytes each); then come the table and the inputs.
-// What a call does not take is empty, or 0; the letter of an insertion stands in place of the second part of memory. For each case it writes a line: the number returned, and behind it what the memory lent holds; or, where
-// document 01 leaves that open, what is wrong with it.
+// What a call does not take is empty, or 0; the letter of an insertion stands in place of the second part of memory. For each case it writes a line: the
+// number returned, and behind it what the memory lent holds, or the assignment that the decision handed over; or, where document 01 leaves the memory open,
+// what is wrong with it.
 ghost use Prim.Native.Nat.{_<_};
 ghost use lib.ListN.{length};
 use audit::Verdict;

@@ -35,7 +35,7 @@ use Rattle.elimination.specs.Differences.{TermBelow, difference, Comparable, Co
 use Rattle.elimination.specs.Elimination.{limitOf, Eliminable, Gives, ZeroBefore}
 use Rattle.firsts.specs.Keeping.{SoFar}
 use Rattle.decision.specs.Values.{component, variables}
-use Rattle.decision.specs.Settling.{Decidable}
+use Rattle.decision.specs.Settling.{Components, Decidable}
 use Rattle.polynomials.proofs.Bytes.{length-summands}
 use Rattle.decision.proofs.Contents.{AllHas}
 use Rattle.decision.proofs.ExpandedValues.{component-zero, component-plus, Sound, difference-value}
@@ -152,9 +152,10 @@ some-left (suc k) [] p q = absurd (omega arith)
 some-left (suc k) (m ∷ l) p q = refl
 
 -- there are at most three components
-pub three : {m i k : ℕ} → ((m ≡ 1) × (k ≡ 0)) ⊎ (m ≡ 3) → i < m → i < 3
-three (inl e) l = omega (arith, e .0)
-three (inr e) l = omega arith
+pub three : (kind m i : ℕ) → Components kind m → i < m → i < 3
+unfolding Components
+three kind m i (inl e) l = omega (arith, e .0)
+three kind m i (inr e) l = omega arith
 
 module _ (table : List ℕ) (f g : Form) (buffer work : List ℕ) (w : Decidable table f g buffer work) where
   letters-below : (kind : ℕ) (ls : List ℕ) → All (Known table kind) ls → LettersBelow ls
@@ -221,25 +222,27 @@ module _ (table : List ℕ) (f g : Form) (buffer work : List ℕ) (w : Decidable
           }
 
   -- all components are looked at: one of a scalar form, three of a vector form
-  module _ (m : ℕ) (k : ((m ≡ 1) × (f .kind ≡ 0)) ⊎ (m ≡ 3)) where
+  module _ (m : ℕ) (k : Components (f .kind) m) where
     -- where the difference of each is 0, the forms have the same value
     module _ (τ : ℕ → Vec) (z : (i : ℕ) → i < m → total (variables τ) (es i) ≡ pos 0) where
       same-component : (i : ℕ) → i < 3 → i < m → component i (value τ (formOf f)) ≡ component i (value τ (formOf g))
       same-component i h l = sub-zero→eq (component i (value τ (formOf f))) (component i (value τ (formOf g))) (sym (values τ i h .0) ∙ z i l)
 
       other-component : (i : ℕ) → suc i < 3 → component (suc i) (value τ (formOf f)) ≡ component (suc i) (value τ (formOf g))
-      unfolding value formOf
+      unfolding value formOf Components
       other-component i h = go k
         where
-          go : ((m ≡ 1) × (f .kind ≡ 0)) ⊎ (m ≡ 3) → component (suc i) (value τ (formOf f)) ≡ component (suc i) (value τ (formOf g))
+          go : Components (f .kind) m → component (suc i) (value τ (formOf f)) ≡ component (suc i) (value τ (formOf g))
           go (inr e) = same-component (suc i) h (omega arith)
           go (inl e) =
-              no-parts τ i (formOf f .terms) (scalars f (w .validFirst) (e .1)) ∙ sym (no-parts τ i (formOf g .terms) (scalars g (w .validSecond) (sym (w .kinds) ∙ e .1)))
+              no-parts τ i (formOf f .terms) (scalars f (w .validFirst) (e .1))
+              ∙ sym (no-parts τ i (formOf g .terms) (scalars g (w .validSecond) (sym (w .kinds) ∙ e .1)))
 
       first-component : component 0 (value τ (formOf f)) ≡ component 0 (value τ (formOf g))
+      unfolding Components
       first-component = same-component 0 (omega arith) (go k)
         where
-          go : ((m ≡ 1) × (f .kind ≡ 0)) ⊎ (m ≡ 3) → 0 < m
+          go : Components (f .kind) m → 0 < m
           go (inl e) = omega (arith, e .0)
           go (inr e) = omega arith
 
@@ -250,10 +253,13 @@ module _ (table : List ℕ) (f g : Form) (buffer work : List ℕ) (w : Decidable
     -- none is found that is not 0: the forms are equal under every assignment
     pub equal : (b : List ℕ) (i : ℕ) (found : Bool) → found ≡ false → m ≤ i → SoFar table es i found buffer b → Holds (formOf f) (formOf g) buffer b
     unfolding SoFar
-    equal b i found e h known = let n = subst (λ (x : Bool). SoFar table es i x buffer b) e known in record { equal = λ τ. same-values τ (λ j l. n .zeros j (N.le-trans l h) (variables τ)); bufferStands = n .stands }
+    equal b i found e h known =
+        let n = subst (λ (x : Bool). SoFar table es i x buffer b) e known in
+        record { equal = λ τ. same-values τ (λ j l. n .zeros j (N.le-trans l h) (variables τ)); bufferStands = n .stands }
 
     -- the numbers found tell the forms apart, and none before them do
-    pub differs : (b : List ℕ) (i : ℕ) (found : Bool) → found ≡ true → m ≤ i → i ≤ m → SoFar table es i found buffer b → Differs table (formOf f) (formOf g) buffer b
+    pub differs : (b : List ℕ) (i : ℕ) (found : Bool) → found ≡ true → m ≤ i → i ≤ m → SoFar table es i found buffer b
+        → Differs table (formOf f) (formOf g) buffer b
     unfolding SoFar ZeroBefore
     differs b i found e h h′ known =
         let n = subst (λ (x : Bool). SoFar table es i x buffer b) e known in
@@ -263,7 +269,7 @@ module _ (table : List ℕ) (f g : Form) (buffer work : List ℕ) (w : Decidable
           sameLength = n .sameLength;
           inRange = in-range table b (n .within);
           unequal = λ q. n .nonzero (variables τ) (byte-gives table b (λ x l. N.le-trans (n .within x l) (limit-six table x)))
-              (values τ c (three k (N.le-trans (n .isOne) h′)) .0 ∙ ap (λ (v : Vec). component c v -ℤ component c (value τ (formOf g))) q
+              (values τ c (three (f .kind) m c k (N.le-trans (n .isOne) h′)) .0 ∙ ap (λ (v : Vec). component c v -ℤ component c (value τ (formOf g))) q
               ∙ I.+ℤ-invr (component c (value τ (formOf g))));
           first = λ s rest before. same-values (whole s) (λ j l. n .earliest j (N.le-trans l h) s (variables (whole s)) (whole-gives table s) before);
           restStands = n .behind;

@@ -115,7 +115,8 @@ differs-once table s t b w b′ w′ c x c′ x′ = go (decideTested table s t 
         let short = good-short table good in
         let first : g .0 ≡ f .0 = given-same (sym (l .first .isTaken) ∙ k .first .isTaken) in
         let second : g .1 ≡ f .1 = given-same (sym (l .second .isTaken) ∙ k .second .isTaken) in
-        differs-alike table (f .0) (f .1) good (terms-known table (f .0 .terms) (k .first .lettersTested)) (terms-known table (f .1 .terms) (k .second .lettersTested))
+        differs-alike table (f .0) (f .1) good
+        (terms-known table (f .0 .terms) (k .first .lettersTested)) (terms-known table (f .1 .terms) (k .second .lettersTested))
         b c b′ c′ (omega (arith, v .sameLength, k .room, short)) (omega (arith, u .sameLength, l .room, short)) v
         (subst (λ (y : Form). D.Differs table (f .0) y c c′) second (subst (λ (y : Form). D.Differs table y (g .1) c c′) first u))
 

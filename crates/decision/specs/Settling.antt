@@ -1,5 +1,6 @@
 -- What holds of two forms that passed every test, and of the answer then. Assumes nothing.
 use mathlib.Core.Path.{_≡_}
+use mathlib.Core.Logic.{_⊎_}
 use mathlib.Core.List.{List}
 use Prim.Native.Nat.{ℕ, _≤_}
 use lib.ListN.{length}
@@ -10,6 +11,10 @@ use Rattle.specification.specs.Decision.{bufferBytes, workBytes, DecidedBy}
 use Rattle.terms.specs.declared.types.Form.{Form}
 use Rattle.terms.specs.Abstraction.{formOf}
 use Rattle.terms.specs.Valid.{FormValid}
+
+-- how many components of forms of a kind are compared: one of scalar forms, three of vector forms
+unfoldable pub Components : (kind m : ℕ) → Type 0
+Components kind m = ((m ≡ 1) × (kind ≡ 0)) ⊎ (m ≡ 3)
 
 -- two forms passed every test
 pub record Decidable (table : List ℕ) (f g : Form) (buffer work : List ℕ) : Type 0 where

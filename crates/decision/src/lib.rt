@@ -1,6 +1,6 @@
 // The decision: whether two forms are equal under every assignment, or the first under which they differ.
 ghost use Rattle.specification.specs.Decision.{Decided};
-ghost use Rattle.decision.specs.Settling.{Decidable, DecidedSo};
+ghost use Rattle.decision.specs.Settling.{Components, Decidable, DecidedSo};
 ghost use Rattle.decision.specs.Answers.{decisionOf};
 use elimination::components::compare;
 use firsts::keep_first;
@@ -21,16 +21,19 @@ pub enum Decision {
     Refused(u8),
 }
 
-// The decision of two forms that passed every test: their components are compared one after the other, and of the first numbers under which one differs the
-// first stand in the buffer. Two forms may differ in one component before they do in another, so all three are looked at.
-fn settle(table: &[u8], f: Form, g: Form, buffer: &mut [u8], work: &mut [u8]) -> Decision
-    requires { ⌜ Decidable (now table) f g (now buffer) (now work) ⌝ }
+// How many components of two forms of a kind are compared: scalar forms have one, and vector forms may differ in any of three first.
+fn components(kind: u8) -> u8
+    ensures { λ r. ⌜ Components kind r ⌝ }
+{
+    if kind == 0 { 1 } else { 3 }
+}
+
+// The decision of two forms that passed every test: their m components are compared one after the other, and of the first numbers under which one differs the
+// first stand in the buffer. (The number is passed on because a form of which a field is read here would be copied for each component.)
+fn settle(table: &[u8], f: Form, g: Form, m: u8, buffer: &mut [u8], work: &mut [u8]) -> Decision
+    requires { ⌜ Decidable (now table) f g (now buffer) (now work) × Components (f .kind) m ⌝ }
     ensures { λ r. ⌜ DecidedSo (now (table .entry)) f g (now (buffer .entry)) (now (work .entry)) (decisionOf r) (now (buffer .exit)) (now (work .exit)) ⌝ }
 {
-    let mut m: u8 = 1;
-    if f.kind != 0 {
-        m = 3;
-    }
     let mut found = false;
     let mut i: u8 = 0;
     while i < m {
@@ -75,5 +78,6 @@ pub fn decide(
     if f.kind != g.kind {
         return Decision::Refused(6);
     }
-    settle(table, f, g, buffer, work)
+    let m = components(f.kind);
+    settle(table, f, g, m, buffer, work)
 }

@@ -512,7 +512,8 @@ module _ (table : List ℕ) (ms rs : List Summand) (d : ℕ) (b₀ b : List ℕ)
           first-here s σ g a k =
               let u = getD s (d - 1) 0 in
               let less : u < v = N.le-trans k (N.le-of-eq (getD-set-same b (d - 1) v 0 byte-there)) in
-              w .value σ (λ y l. g y (omega (arith, l, low-least, known .0)) ∙ ap pos (a y (omega (arith, l, low-least)) ∙ other-byte y (λ q. omega (arith, q, l, low-least))))
+              w .value σ
+              (λ y l. g y (omega (arith, l, low-least, known .0)) ∙ ap pos (a y (omega (arith, l, low-least)) ∙ other-byte y (λ q. omega (arith, q, l, low-least))))
               ∙ sym (substituted-value σ d u (at-digit σ d (d - 1) u isDigit (g (d - 1) (known .0))) rs)
               ∙ none-weighs (keyValue σ 8) (substituted d u rs) (f .before u less)
 

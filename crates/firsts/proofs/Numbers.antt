@@ -31,7 +31,8 @@ module _ (n i : ℕ) (s t : List ℕ) (h : Alike i s t) where
 -- one more number is written
 pub written-more : (b s : List ℕ) (i : ℕ) → i < length b → Alike i b s → Alike (i + 1) (set b i (getD s i 0)) s
 written-more b s i l h =
-    below-more (λ (x : ℕ). getD (set b i (getD s i 0)) x 0 ≡ getD s x 0) i (λ x k. getD-set-other b i x (getD s i 0) 0 (λ e. omega arith) ∙ h x k) (getD-set-same b i (getD s i 0) 0 l)
+    below-more (λ (x : ℕ). getD (set b i (getD s i 0)) x 0 ≡ getD s x 0) i (λ x k. getD-set-other b i x (getD s i 0) 0 (λ e. omega arith) ∙ h x k)
+    (getD-set-same b i (getD s i 0) 0 l)
 
 -- ════ one more polynomial
 
@@ -78,8 +79,8 @@ module _ (table : List ℕ) (P : ℕ → List Summand) (i : ℕ) (lent : List �
     all-before b h z = below-more (λ (j : ℕ). ZeroBefore table (P j) b) i h (λ s σ g k. sym (value σ) ∙ z s σ g k)
 
     -- its numbers are the first of all, where those before are 0 under all numbers before them
-    first-chosen : (b b′ : List ℕ) → length b ≡ length lent → drop (count table) b ≡ drop (count table) lent → Eliminated table ms b b′ → ((j : ℕ) → j < i → ZeroBefore table (P j) b′)
-        → FirstSoFar table P (i + 1) lent b′
+    first-chosen : (b b′ : List ℕ) → length b ≡ length lent → drop (count table) b ≡ drop (count table) lent → Eliminated table ms b b′
+        → ((j : ℕ) → j < i → ZeroBefore table (P j) b′) → FirstSoFar table P (i + 1) lent b′
     first-chosen b b′ same d e h =
         record {
           sameLength = e .sameLength ∙ same;
@@ -124,5 +125,6 @@ module _ (table : List ℕ) (P : ℕ → List Summand) (i : ℕ) (lent : List �
         v = subst (λ (x : Bool). SoFar table P i x lent b) z w
 
         go : Lowered table ms b b′ → FirstSoFar table P (i + 1) lent b′
-        go (earlier k e) = first-chosen b b′ (v .sameLength) (v .behind) e (λ j l s σ g h. v .earliest j l s σ g (before-trans (count table) s b′ b h k))
+        go (earlier k e) =
+            first-chosen b b′ (v .sameLength) (v .behind) e (λ j l s σ g h. v .earliest j l s σ g (before-trans (count table) s b′ b h k))
         go (later p z) = subst (FirstSoFar table P (i + 1) lent) (sym p) (first-stands b v z)

@@ -32,6 +32,6 @@ unfolding flatMap order each all select joined ascend follows firstDifference co
     letterForm constantForm workWith reduced reduceCall factorTree timesFactors timesPart termTree plusTerms leafWith insertTerms insertForm takeInsertion withInserted insertCall factorValue factorsValue partValue termValue termsValue value exprKind exprValue signedByte sixOrLess
     restIsZero goodAssignment assignment valueCall rule1 rule2 rule3 rule4 bracket rule5 sides ruleLetters ruleKind isRule stepKindsFit stepTerms takeStep testStepLetters
     stepInShape stepAt writeStep writeSteps writeLog readStepAt readSteps readLog sameCoef sameTerms sameForm stepsLetters replay takeSteps checkCall takeTwoForms
-    decideTested letterInRange whole DecidedBy Decided shortenTested Shortest ShortenedBy Shortened digits decimal printFactor printPart isNothing printSize printStar printTerm
-    printFirstSign printSign printTerms printForm printTested printResult printCall
+    decideTested letterInRange whole DecidedBy Decided shortenTested Shortest ShortenedBy Shortened digits decimal printFactor printPart isNothing printSize
+    printStar printTerm printFirstSign printSign printTerms printForm printTested printResult printCall
 computing = tt

@@ -1,5 +1,5 @@
--- What is promised of the calls beyond their definitions: P2, P3, P6 and P7 (demands 2 and 3), the value of K1 and the bytes of K2, of what a call gave or wrote.
--- Assumes nothing.
+-- What is promised of the calls beyond their definitions: P2, P3, P6 and P7 (demands 2 and 3), the value of K1 and the bytes of K2,
+-- of what a call gave or wrote. Assumes nothing.
 use mathlib.Core.Path.{_≡_}
 use mathlib.Core.List.{List}
 use Prim.Native.Nat.{ℕ, _+_, _*_}

@@ -42,16 +42,21 @@ returns-5 c =
     (c .before .before .before .before .before .if4 .left)
     (c .if5 .taken)
 
+components-requires : tie.Need-components-requires
+components-requires c κs = search needs
+
 settle-requires : tie.Need-settle-requires
 unfolding formOf
-settle-requires c κs =
-    settle-asks _ _ _ _ _ _ (c .before .before .before .before .before .before .before .before .before .before .before .before .check-table .ensures)
-    (c .before .before .before .before .before .before .before .before .before .before .before .if1 .left)
-    (c .before .before .before .before .before .before .before .before .before .before .if2 .left)
-    (c .before .before .before .before .before .before .before .before .before .if3 .left) _
-    (c .before .before .before .before .before .before .before .before .read-both .ensures)
-    (c .before .before .before .before .before .before .before .if4 .left)
-    (c .before .before .if5 .left)
+settle-requires c κs = (
+  settle-asks _ _ _ _ _ _ (c .before .before .before .before .before .before .before .before .before .before .before .before .before .check-table .ensures)
+      (c .before .before .before .before .before .before .before .before .before .before .before .before .if1 .left)
+      (c .before .before .before .before .before .before .before .before .before .before .before .if2 .left)
+      (c .before .before .before .before .before .before .before .before .before .before .if3 .left) _
+      (c .before .before .before .before .before .before .before .before .before .read-both .ensures)
+      (c .before .before .before .before .before .before .before .before .if4 .left)
+      (c .before .before .before .if5 .left),
+  c .before .before .components .ensures,
+)
 
 same-length : tie.Need-same-length
 same-length c = search needs
@@ -62,13 +67,13 @@ same-length-2 c = search needs
 returns-6 : tie.Need-returns-6
 unfolding Decided decisionOf formOf
 returns-6 c =
-    settled _ _ _ _ _ _ (c .before .before .before .before .before .before .before .before .before .before .before .before .before .before .before .before .before .check-table .ensures)
-    (c .before .before .before .before .before .before .before .before .before .before .before .before .before .before .before .before .if1 .left)
-    (c .before .before .before .before .before .before .before .before .before .before .before .before .before .before .before .if2 .left)
-    (c .before .before .before .before .before .before .before .before .before .before .before .before .before .before .if3 .left) _
-    (c .before .before .before .before .before .before .before .before .before .before .before .before .before .read-both .ensures)
-    (c .before .before .before .before .before .before .before .before .before .before .before .before .if4 .left)
-    (c .before .before .before .before .before .before .before .if5 .left) _ _ _ (c .before .before .before .before .settle .ensures)
+    settled _ _ _ _ _ _ (c .before .before .before .before .before .before .before .before .before .before .before .before .before .before .before .before .before .before .check-table .ensures)
+    (c .before .before .before .before .before .before .before .before .before .before .before .before .before .before .before .before .before .if1 .left)
+    (c .before .before .before .before .before .before .before .before .before .before .before .before .before .before .before .before .if2 .left)
+    (c .before .before .before .before .before .before .before .before .before .before .before .before .before .before .before .if3 .left) _
+    (c .before .before .before .before .before .before .before .before .before .before .before .before .before .before .read-both .ensures)
+    (c .before .before .before .before .before .before .before .before .before .before .before .before .before .if4 .left)
+    (c .before .before .before .before .before .before .before .before .if5 .left) _ _ _ (c .before .before .before .before .settle .ensures)
 
 pub decide-spec : {M : Type 1} → statement M
 decide-spec =
@@ -81,6 +86,7 @@ decide-spec =
     read-both-requires
     returns-4
     returns-5
+    components-requires
     settle-requires
     same-length
     same-length-2

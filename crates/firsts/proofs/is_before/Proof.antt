@@ -42,7 +42,12 @@ loop-less : tie.Need-loop-less Inv-loop μ-loop
 loop-less c = omega (arith, c .before .before .before .before .before .before .loop-test .taken)
 
 loop-again : tie.Need-loop-again Inv-loop μ-loop
-loop-again c = (omega (arith, c .before .before .before .before .before .before .loop-test .taken), alike-more _ (c .before .before .before .before .before .before .before .before .args .s .now) (c .before .before .before .before .before .before .before .before .args .t .now) (c .before .before .before .before .before .before .before .loop .inv .1) (c .before .before .before .if1 .left) (c .if2 .left))
+loop-again c =
+    let given = c .before .before .before .before .before .before .before .before .args in
+    let known = c .before .before .before .before .before .before .before .loop .inv in (
+      omega (arith, c .before .before .before .before .before .before .loop-test .taken),
+      alike-more _ (given .s .now) (given .t .now) (known .1) (c .before .before .before .if1 .left) (c .if2 .left),
+    )
 
 returns-3 : tie.Need-returns-3 Inv-loop μ-loop
 returns-3 c = says-not _ _ _ _ (c .before .loop .inv .1) (inr (c .loop-test .left))

@@ -45,7 +45,8 @@ same-length-4 : tie.Need-same-length-4
 same-length-4 c = search needs
 
 returns-2 : tie.Need-returns-2
-returns-2 c = lowered-later _ _ _ _ _ _ (c .before .before .before .before .before .before .before .eliminate .ensures) (c .before .is-before .ensures) (c .if1 .left)
+returns-2 c =
+    lowered-later _ _ _ _ _ _ (c .before .before .before .before .before .before .before .eliminate .ensures) (c .before .is-before .ensures) (c .if1 .left)
 
 pub lower-spec : {M : Type 1} → statement M
 lower-spec =

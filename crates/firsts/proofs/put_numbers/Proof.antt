@@ -32,12 +32,13 @@ loop-less : tie.Need-loop-less Inv-loop μ-loop
 loop-less c = omega arith
 
 loop-again : tie.Need-loop-again Inv-loop μ-loop
-loop-again c = (
-  length-set (c .before .before .loop .buffer) (c .before .before .loop .i) _ ∙ c .before .before .loop .inv .0,
-  omega arith,
-  written-more (c .before .before .loop .buffer) (c .before .before .before .args .numbers .now) (c .before .before .loop .i) (omega (arith, c .before .before .loop .inv .0, c .before .before .before .pre .0)) (c .before .before .loop .inv .2),
-  drop-set-lt _ (c .before .before .loop .buffer) (c .before .before .loop .i) _ (c .before .loop-test .taken) ∙ c .before .before .loop .inv .3,
-)
+loop-again c =
+    let now = c .before .before .loop in (
+      length-set (now .buffer) (now .i) _ ∙ now .inv .0,
+      omega arith,
+      written-more (now .buffer) (c .before .before .before .args .numbers .now) (now .i) (omega (arith, now .inv .0, c .before .before .before .pre .0)) (now .inv .2),
+      drop-set-lt _ (now .buffer) (now .i) _ (c .before .loop-test .taken) ∙ now .inv .3,
+    )
 
 same-length : tie.Need-same-length Inv-loop μ-loop
 same-length c = c .before .loop .inv .0

@@ -46,7 +46,8 @@ module _ (n i : ℕ) (s t : List ℕ) (h : Alike i s t) where
       go (inl l) r k = omega (arith, h (w .place) l, w .less)
       go (inr l) r (inr k) = omega (arith, w .inside)
       go (inr l) (inl r) (inl k) = omega (arith, w .alike i r)
-      go (inr l) (inr r) (inl k) = let e : w .place ≡ i = N.le-antisymm r l in omega (arith, w .less, ap (λ (j : ℕ). getD s j 0) e, ap (λ (j : ℕ). getD t j 0) e)
+      go (inr l) (inr r) (inl k) =
+          let e : w .place ≡ i = N.le-antisymm r l in omega (arith, w .less, ap (λ (j : ℕ). getD s j 0) e, ap (λ (j : ℕ). getD t j 0) e)
 
 -- one comes before the other, or they are alike
 data Placed (n : ℕ) (s t : List ℕ) : Type 0 where
@@ -77,26 +78,24 @@ module _ (n : ℕ) (s t u : List ℕ) where
   before-trans v w = go (lt-or-le (v .place) (w .place)) (lt-or-le (w .place) (v .place))
     where
       go : (v .place < w .place) ⊎ (w .place ≤ v .place) → (w .place < v .place) ⊎ (v .place ≤ w .place) → Before n s u
-      go (inl l) r = record { place = v .place; inside = v .inside; alike = λ i k. v .alike i k ∙ w .alike i (omega arith); less = omega (arith, v .less, w .alike (v .place) l) }
-      go (inr l) (inl r) = record { place = w .place; inside = w .inside; alike = λ i k. v .alike i (omega arith) ∙ w .alike i k; less = omega (arith, w .less, v .alike (w .place) r) }
+      go (inl l) r =
+          before-here n (v .place) s u (λ i k. v .alike i k ∙ w .alike i (omega arith)) (v .inside) (omega (arith, v .less, w .alike (v .place) l))
+      go (inr l) (inl r) =
+          before-here n (w .place) s u (λ i k. v .alike i (omega arith) ∙ w .alike i k) (w .inside) (omega (arith, w .less, v .alike (w .place) r))
       go (inr l) (inr r) =
           let e : v .place ≡ w .place = N.le-antisymm r l in
-          record {
-            place = w .place;
-            inside = w .inside;
-            alike = λ i k. v .alike i (omega arith) ∙ w .alike i k;
-            less = omega (arith, w .less, v .less, ap (λ (j : ℕ). getD s j 0) e, ap (λ (j : ℕ). getD t j 0) e);
-          }
+          before-here n (w .place) s u (λ i k. v .alike i (omega arith) ∙ w .alike i k) (w .inside)
+          (omega (arith, w .less, v .less, ap (λ (j : ℕ). getD s j 0) e, ap (λ (j : ℕ). getD t j 0) e))
 
   -- before what is alike
   pub before-alike : Before n s t → Alike n t u → Before n s u
   before-alike v h =
-      record { place = v .place; inside = v .inside; alike = λ i k. v .alike i k ∙ h i (omega (arith, v .inside)); less = omega (arith, v .less, h (v .place) (v .inside)) }
+      before-here n (v .place) s u (λ i k. v .alike i k ∙ h i (omega (arith, v .inside))) (v .inside) (omega (arith, v .less, h (v .place) (v .inside)))
 
   -- what is alike is before
   pub alike-before : Alike n s t → Before n t u → Before n s u
   alike-before h v =
-      record { place = v .place; inside = v .inside; alike = λ i k. h i (omega (arith, v .inside)) ∙ v .alike i k; less = omega (arith, v .less, h (v .place) (v .inside)) }
+      before-here n (v .place) s u (λ i k. h i (omega (arith, v .inside)) ∙ v .alike i k) (v .inside) (omega (arith, v .less, h (v .place) (v .inside)))
 
 -- t is not before s: all before s are before t
 pub not-after : (n : ℕ) (s t u : List ℕ) → ¬ Before n t s → Before n u s → Before n u t
@@ -126,7 +125,8 @@ module _ (table : List ℕ) (f g : Form) (good : T (goodTable table)) (firsts : 
       let agree = whole-bytes (length table) (take n b′) b′ front (small table b′ long (v .inRange)) in
       v .unequal
       (sym (value-agrees (whole (take n b′)) (assignment b′) table agree f firsts)
-      ∙ w .first (take n b′) (T-each (restIsZero table (take n b′)) (length table) (rest-zero table b′ long (v .inRange) good)) (alike-before n (take n b′) b′ c′ front h)
+      ∙ w .first (take n b′) (T-each (restIsZero table (take n b′)) (length table) (rest-zero table b′ long (v .inRange) good))
+      (alike-before n (take n b′) b′ c′ front h)
       ∙ value-agrees (whole (take n b′)) (assignment b′) table agree g seconds)
 
   -- K2: the first 3 bytes a letter are determined by the forms, whatever was lent

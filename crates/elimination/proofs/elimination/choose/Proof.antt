@@ -4,7 +4,8 @@ use Prim.Native.Nat.{_≤_}
 use native.Mathlib.Omega.{arith}
 use lib.ListN.{length, take}
 use Rattle.polynomials.specs.Memory.{summands}
-use Rattle.elimination.proofs.Choices.{Choosing, choose-starts, choose-on, choose-ends, choose-falls, fallOf, letter-there, most-six, fits, number-small, byte-there}
+use Rattle.elimination.proofs.Choices.{Choosing, choose-starts, choose-on, choose-ends, choose-falls, fallOf}
+use Rattle.elimination.proofs.Choices.{letter-there, most-six, fits, number-small, byte-there}
 use Rattle.elimination.proofs.elimination.choose.Statement.{statement}
 use Rattle.elimination.proofs.elimination.choose.Tie as tie
 
@@ -19,7 +20,9 @@ least-requires : tie.Need-least-requires Inv-loop μ-loop
 least-requires c κs = c .before .before .before .before .pre .0 .there
 
 loop-holds : tie.Need-loop-holds Inv-loop μ-loop
-loop-holds c = (refl, c .before .before .before .before .before .pre .0 .there, choose-starts _ _ _ _ _ (c .before .before .before .before .before .pre .0) (c .before .before .before .before .before .pre .1) (c .least .ensures))
+loop-holds c =
+    let asked = c .before .before .before .before .before .pre in
+    (refl, asked .0 .there, choose-starts _ _ _ _ _ (asked .0) (asked .1) (c .least .ensures))
 
 sub-x : tie.Need-sub-x Inv-loop μ-loop
 sub-x c = omega arith
