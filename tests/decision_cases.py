@@ -552,15 +552,32 @@ def check_first(table, first, second, numbers, chance):
                 assert same_values(first, second, row), (first.hex(), second.hex(), numbers.hex(), row)
 
 
-def check_by_force(table, first, second, numbers, most=1500):
-    """All assignments of the letters that occur, in their order, up to the first under which the values differ; whether there were at most so many."""
+def by_numbers(data):
+    """The value of a form by components, as a function of the numbers in a row."""
+    def wedge(a, b):
+        return [f"(r[{3 * a + i}]*r[{3 * b + j}]-r[{3 * a + j}]*r[{3 * b + i}])" for i, j in ((1, 2), (2, 0), (0, 1))]
+
+    def factor_text(f):
+        pair = [f"r[{3 * f[0] + i}]" for i in range(3)] if len(f) < 3 else wedge(f[0], f[1])
+        return pair[0] if len(f) == 1 else "(" + "+".join(f"{x}*r[{3 * f[-1] + i}]" for i, x in enumerate(pair)) + ")"
+
+    totals = ["0", "0", "0"]
+    for coef, factors, part in forms.read(data)[1]:
+        base = ["1", "0", "0"] if not part else [f"r[{3 * part[0] + i}]" for i in range(3)] if len(part) == 1 else wedge(*part)
+        size = "*".join([f"({coef})", *map(factor_text, factors)])
+        totals = [f"{total}+{size}*{x}" for total, x in zip(totals, base)]
+    return eval(f"lambda r: ({', '.join(totals)})")
+
+
+def check_by_force(table, first, second, numbers):
+    """All assignments of the letters that occur, in their order, up to the first under which the values differ; False where that is too far."""
     letters = sorted({n for data in (first, second) for _, factors, part in forms.read(data)[1] for some in (*factors, part) for n in some})
     ranges = [range(m) for n in letters for m in ((7, 7, 7) if table[n] else (3, 1, 1))]
-    row = [0] * (3 * len(table))
-    for some in itertools.islice(itertools.product(*ranges), most):
+    one, other, row = by_numbers(first), by_numbers(second), [0] * (3 * len(table))
+    for some in itertools.islice(itertools.product(*ranges), 125000 if len(letters) < 4 else 1500):
         for k, n in enumerate(letters):
             row[3 * n:3 * n + 3] = some[3 * k:3 * k + 3]
-        if not same_values(first, second, row):
+        if one(row) != other(row):
             assert bytes(row) == numbers, (first.hex(), second.hex(), numbers.hex(), row)
             return True
     return False
