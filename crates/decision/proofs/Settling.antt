@@ -1,7 +1,7 @@
 -- The decision of two forms that passed every test: the components compared one after the other. Assumes nothing.
 use mathlib.Core.Path.{_≡_, refl, sym, _∙_, ap, ap₂, subst}
 use mathlib.Core.Bool.{Bool, true, false, _&&_}
-use mathlib.Core.Logic.{_⊎_, inl, inr}
+use mathlib.Core.Logic.{inl, inr}
 use mathlib.Core.List.{List, [], _∷_}
 use Prim.Native.Nat.{ℕ, zero, suc, _+_, _-_, _*_, _/_, _%_, _≤_, _<_}
 use native.Mathlib.Nat as N
@@ -10,7 +10,7 @@ use lib.Dec.{T, leb, eqb}
 use borrow.Author.Tests.{eq-eqb, ne-eqb, eqb-true, le-leb}
 use lib.IntN.{ℤ, pos, _+ℤ_, _-ℤ_, _*ℤ_}
 use lib.IntN as I
-use lib.ListN.{length, getD, take, drop}
+use lib.ListN.{length, getD, take}
 use Rattle.algebra.specs.Integers.{sub-zero→eq}
 use Rattle.specification.specs.Results.{if_then_else_}
 use Rattle.specification.specs.Lists.{each, all}
@@ -28,7 +28,7 @@ use Rattle.theory.specs.Shape.Letters.{Known, FactorKnown, AllKnown, known-is, 
 use Rattle.terms.specs.declared.types.Form.{Form}
 use Rattle.terms.specs.Abstraction.{formOf}
 use Rattle.terms.specs.Valid.{FormValid}
-use Rattle.polynomials.specs.Summands.{Summand, weigh, total, isSome}
+use Rattle.polynomials.specs.Summands.{Summand, total, isSome}
 use Rattle.polynomials.specs.Memory.{summands}
 use Rattle.polynomials.specs.Expansion.{LettersBelow}
 use Rattle.elimination.specs.Differences.{TermBelow, difference, Comparable, Compared}

@@ -21,7 +21,7 @@ abbrev μ-loop : tie.MeasureT-loop
 μ-loop table f g m buffer₀ work₀ found₀ i₀ buffer work found i = m - i
 
 loop-holds : tie.Need-loop-holds Inv-loop μ-loop
-loop-holds c = (refl, refl, so-far-starts _ _ 0 _, omega arith)
+loop-holds c = (refl, refl, so-far-starts _ _ _, omega arith)
 
 compare-requires : tie.Need-compare-requires Inv-loop μ-loop
 compare-requires c κs =
