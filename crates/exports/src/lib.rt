@@ -115,7 +115,7 @@ pub extern "C" fn kalzunbi_check(table: &[u8], log: &[u8], places: &mut [u64]) -
     }
 }
 
-// Whether two forms are equal under every assignment: 0, or 1 with an assignment under which they differ in the buffer, or minus 1, 2, 11, 5 or 6.
+// Whether two forms are equal under every assignment: 0, or 1 with the first assignment under which they differ in the buffer, or minus 1, 2, 11, 5 or 6.
 #[no_mangle]
 pub extern "C" fn kalzunbi_decide(
     table: &[u8],
