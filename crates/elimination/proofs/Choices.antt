@@ -22,6 +22,7 @@ use Rattle.algebra.specs.Numbers.{below-more}
 use Rattle.specification.specs.Results.{if_then_else_}
 use Rattle.specification.specs.Letters.{vector, kindOf}
 use Rattle.theory.specs.Elements.{All, all-implies, both-all}
+use Rattle.theory.specs.Values.Firsts.{Alike}
 use Rattle.polynomials.specs.Keys.{digitValue, keyValue, rest, exponent, lowest, Ordered, tally}
 use Rattle.polynomials.specs.Summands.{Summand, weigh, total, putFor, substituted, isSome, Rising}
 use Rattle.polynomials.specs.Passes.{Substitutable, Substituted, lesserOf, leastFrom}
@@ -276,12 +277,13 @@ pub first-on : (ms : List Summand) (d v : ℕ) → ((u : ℕ) → u < v → isSo
     → (u : ℕ) → u < v + 1 → isSome (substituted d u ms) ≡ false
 first-on ms d v h e = below-more (λ (u : ℕ). isSome (substituted d u ms) ≡ false) v h e
 
--- ════ bytes set to 0
+-- ════ numbers written one after the other
 
--- one more byte is 0
-pub cleared-more : (l : List ℕ) (i : ℕ) → i < length l → ((x : ℕ) → x < i → getD l x 0 ≡ 0) → (x : ℕ) → x < i + 1 → getD (set l i 0) x 0 ≡ 0
-cleared-more l i h g =
-    below-more (λ (x : ℕ). getD (set l i 0) x 0 ≡ 0) i (λ x k. getD-set-other l i x 0 0 (λ e. omega arith) ∙ g x k) (getD-set-same l i 0 0 h)
+-- one more number of s is written into b; of the empty list each is 0
+pub written-more : (b s : List ℕ) (i : ℕ) → i < length b → Alike i b s → Alike (i + 1) (set b i (getD s i 0)) s
+written-more b s i l h =
+    below-more (λ (x : ℕ). getD (set b i (getD s i 0)) x 0 ≡ getD s x 0) i (λ x k. getD-set-other b i x (getD s i 0) 0 (λ e. omega arith) ∙ h x k)
+    (getD-set-same b i (getD s i 0) 0 l)
 
 -- with the first 3 bytes a letter 0, numbers can be chosen
 pub cleared-asks : (table : List ℕ) (n : ℕ) (ms : List Summand) (b₀ b : List ℕ) → Eliminable table n ms b₀ → length b ≡ length b₀

@@ -1,4 +1,4 @@
--- Numbers in a row compared and written, and "the first of a union is the least of the firsts": one more polynomial keeps what is known of all so far.
+-- Numbers in a row compared, and "the first of a union is the least of the firsts": one more polynomial keeps what is known of all so far.
 -- Assumes nothing.
 use mathlib.Core.Path.{_≡_, refl, sym, _∙_, ap, subst}
 use mathlib.Core.Bool.{Bool, true, false}
@@ -8,15 +8,14 @@ use Prim.Native.Nat.{ℕ, _+_, _*_, _≤_, _<_}
 use native.Mathlib.Nat as N
 use native.Mathlib.Omega.{arith}
 use lib.IntN.{ℤ, pos}
-use lib.ListN.{length, getD, take, drop, set}
-use lib.Seq.{getD-set-same, getD-set-other}
+use lib.ListN.{length, getD, take, drop}
 use Rattle.algebra.specs.Numbers.{below-more}
 use Rattle.theory.specs.Values.Firsts.{Alike, before-here, not-before, before-trans, before-alike, alike-before, not-after}
 use Rattle.polynomials.specs.Summands.{Summand, weigh, total}
 use Rattle.elimination.specs.Elimination.{Gives, ZeroBefore, First, Eliminated}
 use Rattle.firsts.specs.Keeping.{IsBefore, Lowered, earlier, later, Kept, none, only, least, FirstSoFar, SoFar}
 
--- ════ numbers compared and written
+-- ════ numbers compared
 
 module _ (n i : ℕ) (s t : List ℕ) (h : Alike i s t) where
   -- the first has the lesser number
@@ -26,12 +25,6 @@ module _ (n i : ℕ) (s t : List ℕ) (h : Alike i s t) where
   -- the second has, or there is no further
   pub says-not : (getD t i 0 < getD s i 0) ⊎ (n ≤ i) → IsBefore n s t false
   says-not k = record { yes = λ e. absurd (let z : _≡_ {A = ℕ} 0 1 = cc in omega arith); no = λ e. not-before n i s t h k }
-
--- one more number is written
-pub written-more : (b s : List ℕ) (i : ℕ) → i < length b → Alike i b s → Alike (i + 1) (set b i (getD s i 0)) s
-written-more b s i l h =
-    below-more (λ (x : ℕ). getD (set b i (getD s i 0)) x 0 ≡ getD s x 0) i (λ x k. getD-set-other b i x (getD s i 0) 0 (λ e. omega arith) ∙ h x k)
-    (getD-set-same b i (getD s i 0) 0 l)
 
 -- ════ one more polynomial
 

@@ -6,7 +6,7 @@ use native.Mathlib.Nat.{not-suc-le-zero}
 use lib.Seq.{drop-set-lt}
 use lib.ListN.{length, drop, length-set}
 use Rattle.theory.specs.Values.Firsts.{Alike}
-use Rattle.firsts.proofs.Numbers.{written-more}
+use Rattle.elimination.proofs.Choices.{written-more}
 use Rattle.firsts.proofs.put_numbers.Statement.{statement}
 use Rattle.firsts.proofs.put_numbers.Tie as tie
 

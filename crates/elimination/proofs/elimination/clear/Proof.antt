@@ -1,11 +1,12 @@
 -- `elimination::elimination::clear` meets its contract: the bytes before i are 0. Assumes nothing.
 use mathlib.Core.Path.{_≡_, refl, _∙_}
+use mathlib.Core.List.{[]}
 use Prim.Native.Nat.{ℕ, _-_, _≤_, _<_}
 use native.Mathlib.Omega.{arith}
 use native.Mathlib.Nat.{not-suc-le-zero}
 use lib.Seq.{drop-set-lt}
 use lib.ListN.{length, getD, drop, length-set}
-use Rattle.elimination.proofs.Choices.{cleared-more}
+use Rattle.elimination.proofs.Choices.{written-more}
 use Rattle.elimination.proofs.elimination.clear.Statement.{statement}
 use Rattle.elimination.proofs.elimination.clear.Tie as tie
 
@@ -31,7 +32,7 @@ loop-again : tie.Need-loop-again Inv-loop μ-loop
 loop-again c = (
   length-set (c .before .loop .buffer) (c .before .loop .i) 0 ∙ c .before .loop .inv .0,
   omega arith,
-  cleared-more (c .before .loop .buffer) (c .before .loop .i) (omega (arith, c .before .loop .inv .0, c .before .before .pre)) (c .before .loop .inv .2),
+  written-more (c .before .loop .buffer) [] (c .before .loop .i) (omega (arith, c .before .loop .inv .0, c .before .before .pre)) (c .before .loop .inv .2),
   drop-set-lt _ (c .before .loop .buffer) (c .before .loop .i) 0 (c .loop-test .taken) ∙ c .before .loop .inv .3,
 )
 
