@@ -99,6 +99,20 @@ static size_t sum(uint8_t *to, int first, int count)
     return n;
 }
 
+/* a^b + c^d + e^f + ..., so many */
+static size_t sum_of_wedges(uint8_t *to, int count)
+{
+    size_t n = 0;
+    for (int i = 1; i < count; i++)
+        to[n++] = 3;
+    for (int i = 0; i < count; i++) {
+        const uint8_t wedge[5] = {8, 1, (uint8_t)(2 * i), 1, (uint8_t)(2 * i + 1)};
+        for (int k = 0; k < 5; k++)
+            to[n++] = wedge[k];
+    }
+    return n;
+}
+
 /* 48 terms -35mn(x.i)(def)*v, x being a or l, i from a to f, v from c to j: each has 6 vector letters and 2 scalar letters, and 16 bytes */
 static size_t full_form(uint8_t *to, int x)
 {
@@ -137,11 +151,17 @@ int main(void)
     const uint8_t wedges[8] = {8, 1, 0, 8, 1, 1, 1, 2};
     measure_reduction("reduction of a^(b^c)", wedges, 8, 16, 1000000);
 
-    uint8_t product[64] = {6};
+    uint8_t product[96] = {6};
     length = 1;
     length += sum(product + length, 12, 6);
     length += sum(product + length, 0, 8);
     measure_reduction("reduction of 6 scalar letters times 8 vector letters", product, length, 194, 10000);
+
+    product[0] = 8;
+    length = 1;
+    length += sum_of_wedges(product + length, 4);
+    length += sum_of_wedges(product + length, 6);
+    measure_reduction("reduction of 4 wedges wedge 6 wedges, 40 terms with a triple", product, length, 322, 10000);
 
     measure_decision("decision of rule 5's two sides: equal", rule_5_first, sizeof rule_5_first, rule_5_second, sizeof rule_5_second, 0, 100000);
     measure_decision("decision of two forms of 48 terms: equal", equal_first, sizeof equal_first, equal_second, sizeof equal_second, 0, 1000);

@@ -11,10 +11,12 @@ value() = sum(v = 3, 10, sum(i = 1, 6, -35 * m * n * dot(letter[1], letter[i]) *
 measure(value, 10000);
 
 \\ a variable for each component
-x = vector(8, i, vector(3, k, eval(Str("v", i, "_", k))));
+x = vector(12, i, vector(3, k, eval(Str("v", i, "_", k))));
 s = vector(6, i, eval(Str("s", i)));
 measure(() -> wedge(x[1], wedge(x[2], x[3])), 100000);
 measure(() -> vecsum(s) * sum(i = 1, 8, x[i]), 10000);
+wedges_of(n) = sum(i = 1, n, wedge(x[2 * i - 1], x[2 * i]));
+measure(() -> wedge(wedges_of(4), wedges_of(6)), 100);
 
 \\ the forms to decide, which tests/decision_cases.py --gp prints, compared as polynomials in components
 triple(a, b, c) = dot(wedge(a, b), c);

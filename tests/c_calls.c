@@ -229,6 +229,31 @@ static void reduce_calls(void)
     }
 }
 
+/* every triple of 24 vector letters: the letters that it has, from the first on; a minus where an odd number of its pairs descends;
+ * nothing where two are equal */
+static void triple_calls(void)
+{
+    for (int n = 0; n < 24 * 24 * 24; n++) {
+        const int x = n / 576, y = n / 24 % 24, z = n % 24, descents = (x > y) + (x > z) + (y > z);
+        char expression[15], record[25] = "0000";
+        int length = 4;
+        sprintf(expression, "0901%02x01%02x01%02x", x, y, z);
+        if (x != y && x != z && y != z) {
+            length = sprintf(record, "0001%s01", descents % 2 ? "09ffffffff" : "08");
+            for (int letter = 0; letter < 24; letter++)
+                if (letter == x || letter == y || letter == z)
+                    length += sprintf(record + length, "%02x", letter);
+        }
+        struct bytes table = from("010101010101010101010101010101010101010101010101"), tree = from(expression);
+        struct bytes expected = from(record), out = from("");
+        int64_t returned = kalzunbi_reduce(at(&table), table.length, at(&tree), tree.length, at(&out), KALZUNBI_FORM);
+        calls++;
+        out.length = expected.length;
+        check(returned == length / 2, "triple: what is returned, number", n);
+        check(same(&out, &expected), "triple: the bytes lent, number", n);
+    }
+}
+
 /* ---- insertion */
 
 struct insert_row {
@@ -673,6 +698,7 @@ int main(void)
     names();
     value_calls();
     reduce_calls();
+    triple_calls();
     insert_calls();
     check_calls();
     decide_calls();

@@ -2,3 +2,4 @@
 pub mod Exchanges
 pub mod Tidying
 pub mod Joins
+pub mod Selecting
