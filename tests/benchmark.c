@@ -151,7 +151,7 @@ int main(void)
     const uint8_t wedges[8] = {8, 1, 0, 8, 1, 1, 1, 2};
     measure_reduction("reduction of a^(b^c)", wedges, 8, 16, 1000000);
 
-    uint8_t product[96] = {6};
+    uint8_t product[64] = {6};
     length = 1;
     length += sum(product + length, 12, 6);
     length += sum(product + length, 0, 8);

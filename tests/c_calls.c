@@ -229,28 +229,50 @@ static void reduce_calls(void)
     }
 }
 
-/* every triple of 24 vector letters: the letters that it has, from the first on; a minus where an odd number of its pairs descends;
- * nothing where two are equal */
+/* ---- the sorting of a triple, on every triple of 24 vector letters */
+
+#define VECTORS "010101010101010101010101010101010101010101010101"
+
+/* an expression is reduced to a record */
+static void reduces(const char *expression, const char *record, int number)
+{
+    struct bytes table = from(VECTORS), tree = from(expression), expected = from(record), out = from("");
+    int64_t returned = kalzunbi_reduce(at(&table), table.length, at(&tree), tree.length, at(&out), KALZUNBI_FORM);
+    calls++;
+    out.length = expected.length;
+    check(returned == (int64_t)expected.length, "triple: what is returned, number", number);
+    check(same(&out, &expected), "triple: the bytes lent, number", number);
+}
+
+/* with p, q, r the letters x, y, z in ascending order, and a minus where an odd number of their pairs descends: (xyz) is (pqr), and rule 1 at x, y, z, a leads
+ * from 0 to (pqr)a-(a.r)(p^q)+(a.q)(p^r)-(a.p)(q^r); where two letters are equal, both are 0. An expression has two of the letters in order before they are
+ * those of a triple, a step has them as they stand */
 static void triple_calls(void)
 {
     for (int n = 0; n < 24 * 24 * 24; n++) {
-        const int x = n / 576, y = n / 24 % 24, z = n % 24, descents = (x > y) + (x > z) + (y > z);
-        char expression[15], record[25] = "0000";
-        int length = 4;
-        sprintf(expression, "0901%02x01%02x01%02x", x, y, z);
-        if (x != y && x != z && y != z) {
-            length = sprintf(record, "0001%s01", descents % 2 ? "09ffffffff" : "08");
-            for (int letter = 0; letter < 24; letter++)
-                if (letter == x || letter == y || letter == z)
-                    length += sprintf(record + length, "%02x", letter);
+        const int x = n / 576, y = n / 24 % 24, z = n % 24, minus = ((x > y) + (x > z) + (y > z)) % 2;
+        const char *one[2] = {"", "ffffffff"};
+        char first[15], second[17], record[25] = "0000", log[145], last[128] = "0100";
+        int letters[3], count = 0;
+        for (int letter = 0; letter < 24; letter++)
+            if (letter == x || letter == y || letter == z)
+                letters[count++] = letter;
+        if (count == 3) {
+            const int p = letters[0], q = letters[1], r = letters[2];
+            sprintf(record, "0001%02x%s01%02x%02x%02x", 8 + minus, one[minus], p, q, r);
+            sprintf(last, "0104%02x%s01%02x%02x%02x00%02x%s0100%02x%02x%02x%02x%s0100%02x%02x%02x%02x%s0100%02x%02x%02x", 24 + minus, one[minus], p, q, r,
+                    37 - minus, one[1 - minus], r, p, q, 36 + minus, one[minus], q, p, r, 37 - minus, one[1 - minus], p, q, r);
         }
-        struct bytes table = from("010101010101010101010101010101010101010101010101"), tree = from(expression);
-        struct bytes expected = from(record), out = from("");
-        int64_t returned = kalzunbi_reduce(at(&table), table.length, at(&tree), tree.length, at(&out), KALZUNBI_FORM);
+        sprintf(first, "0901%02x01%02x01%02x", x, y, z);
+        sprintf(second, "0701%02x0801%02x01%02x", x, y, z);
+        reduces(first, record, n);
+        reduces(second, record, n);
+
+        uint64_t places[3];
+        sprintf(log, "01000101%02x%02x%02x0000%s", x, y, z, last);
+        struct bytes table = from(VECTORS), steps = from(log);
         calls++;
-        out.length = expected.length;
-        check(returned == length / 2, "triple: what is returned, number", n);
-        check(same(&out, &expected), "triple: the bytes lent, number", n);
+        check(kalzunbi_check(at(&table), table.length, at(&steps), steps.length, places, 3) == 0, "triple: a log of rule 1, number", n);
     }
 }
 
