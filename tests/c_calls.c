@@ -252,7 +252,7 @@ static void triple_calls(void)
     for (int n = 0; n < 24 * 24 * 24; n++) {
         const int x = n / 576, y = n / 24 % 24, z = n % 24, minus = ((x > y) + (x > z) + (y > z)) % 2;
         const char *one[2] = {"", "ffffffff"};
-        char first[15], second[17], record[25] = "0000", log[145], last[128] = "0100";
+        char first[16], second[24], record[32] = "0000", log[160], last[128] = "0100";
         int letters[3], count = 0;
         for (int letter = 0; letter < 24; letter++)
             if (letter == x || letter == y || letter == z)
