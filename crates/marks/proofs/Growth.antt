@@ -21,7 +21,7 @@ use Rattle.theory.specs.Gathering.Gathered.{into-join}
 use Rattle.marking.specs.Marks.{markOf, Shows, Covering}
 use Rattle.marks.specs.Steps.{Among}
 use Rattle.marking.proofs.MarkedTerms.{mark-like, mark-tidy, shows-some}
-use Rattle.marks.proofs.Units.{sign-unit}
+use Rattle.theory.specs.Units.{sign-unit}
 
 keep-long : (t : S.Term) (l : List S.Term) → length l ≤ length (keep t l)
 unfolding keep

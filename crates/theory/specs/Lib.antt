@@ -5,6 +5,7 @@ pub mod Order
 pub mod Sorting
 pub mod Reordering
 pub mod Signs
+pub mod Units
 pub mod Gathering
 pub mod Shape
 pub mod Values
