@@ -79,14 +79,15 @@ enum kalzunbi_refusal {
     /* the author of the expression */
     KALZUNBI_REFUSED_LONG_OR_DEEP = 3, /* an expression over 512 bytes, or more than 16 deep */
     KALZUNBI_REFUSED_TORN = 4,         /* an expression with a byte missing, left over or unknown */
-    KALZUNBI_REFUSED_MANY_PAIRS = 7,   /* a product of more than 48 pairs of terms */
+    KALZUNBI_REFUSED_MANY_PAIRS = 7,   /* a product of more than 48 pairs of terms, vanishing ones counted */
 
     /* the author of the expression; or the sender of the form or log whose letter it is, of the two forms to decide, of the log whose step it is */
     KALZUNBI_REFUSED_ABSENT_LETTER = 5, /* a letter that is not in the table */
     KALZUNBI_REFUSED_KIND = 6,          /* operands or two forms whose kinds do not fit, a letter of the wrong kind, a step of another kind than the form */
 
     /* the author of the expression; or the sender of the log whose step it is */
-    KALZUNBI_REFUSED_MANY_LETTERS = 8, /* a pair with over 6 vector letters or over 2 scalar letters; a step's M and rule with over 6 vector letters */
+    KALZUNBI_REFUSED_MANY_LETTERS = 8, /* a term of a pair that does not vanish, with over 6 vector letters or over 2 scalar letters; a step's M and
+                                          rule with over 6 vector letters, vanishing or not */
     KALZUNBI_REFUSED_COEFFICIENT = 9,  /* a coefficient beyond 2147483647 in size */
     KALZUNBI_REFUSED_MANY_TERMS = 10,  /* more than 48 terms */
 

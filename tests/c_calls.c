@@ -207,6 +207,13 @@ static const struct reduce_row reduce_rows[] = {
     {SMALL, "0701000104", 770, -6, ""},
     {SMALL, "0801040100", 770, -6, ""},
     {SMALL, "09010001010104", 770, -6, ""},
+    /* a pair that vanishes is not tested: ((a·a)(a·a)a)∧((b·b)a), 2147483647a∧2a; with another letter it is; one of two terms that stays; like terms that cancel */
+    {SMALL, "08060607010001000701000100010006070101010101" "00", 770, 0, "0100"},
+    {SMALL, "0806027fffffff010006020000000201" "00", 770, 0, "0100"},
+    {SMALL, "08060607010001000701000100010006070101010101" "02", 770, -8, ""},
+    {SMALL, "0806027fffffff010006020000000201" "01", 770, -9, ""},
+    {SMALL, "08060701030103080100010106070103010308010001" "02", 770, -8, ""},
+    {SMALL, "0806027fffffff03010001010602000000020301000101", 770, -9, ""},
     /* 8: three scalar letters; 9: a constant, a sum; 10 */
     {SMALL, "0606010401050106", 770, -8, ""},
     {SMALL, "0280000000", 770, -9, ""},
@@ -357,7 +364,11 @@ static const struct insert_row insert_rows[] = {
     /* 7: 49 pairs in a dot, in a product */
     {WIDE, "000104010000", 0, "01071000100110021003100410051006", 770, -7, ""},
     {WIDE, "01011401000100", 0, "01071000100110021003100410051006", 770, -7, ""},
-    /* 8: seven vector letters, three scalar ones, also where the pair would vanish */
+    /* a pair that vanishes is not tested: in (a·b), (c·c)(d·d)(b∧c) for a; in (abc), (d·d)(d·d)b for c; with another letter it is */
+    {SMALL, "000104010001", 0, "01012402020203030102", 770, 0, "0000"},
+    {SMALL, "00010801000102", 2, "010114020303030301", 770, 0, "0000"},
+    {SMALL, "00010801000102", 2, "010114020303030303", 770, -8, ""},
+    /* 8: seven vector letters, three scalar ones, also where a letter of the wedge is there again */
     {SMALL, "000104010001", 0, "01012402010102020203", 770, -8, ""},
     {SMALL, "01011202040500", 0, "010112010601", 770, -8, ""},
     {SMALL, "0101200001", 0, "01012402010102020103", 770, -8, ""},

@@ -131,11 +131,31 @@ def wide_tree(chance):
     return data
 
 
+def long_product(chance):
+    """A product of sums of one to three long or heavy terms with few letters, so that pairs vanish, wholly or one of two terms, on either side of the limits."""
+    A, B, C = map(expressions.letter, range(3))
+    scalars = [expressions.constant(k) for k in (1, -3, 32768, 65536, 2147483647)] + [expressions.letter(n) for n in (4, 5, 6)]
+    scalars += [expressions.dotted(x, y) for x in (A, B, C) for y in (A, B, C)] + [expressions.triple(A, B, C)]
+    parts = [A, B, C, expressions.wedged(A, B), expressions.wedged(A, C), expressions.wedged(B, C)]
+    def term():
+        data = chance.choice(parts)
+        for _ in range(chance.randrange(4)):
+            data = expressions.times(chance.choice(scalars), data)
+        return data
+    def some():
+        return expressions.total([term() for _ in range(chance.choice((1, 1, 2, 3)))])
+    token = chance.choice((7, 8, 8, 9))
+    return expressions.op(token)(*(some() for _ in range(3 if token == 9 else 2)))
+
+
 def expression_inputs(chance):
     while True:
         for table, data in expressions.by_chance(chance):
-            if chance.randrange(4) == 0:
+            way = chance.randrange(8)
+            if way < 2:
                 table, data = expressions.WIDE, wide_tree(chance)
+            elif way < 4:
+                table, data = expressions.SMALL, long_product(chance)
             data = chance.choices((data, damaged(chance, data), any_bytes(chance, 530)), (10, 4, 1))[0]
             yield any_table(chance, table), data, chance.choice((770, 770, 770, 771, 800, chance.randrange(771)))
 

@@ -407,7 +407,7 @@ def pairs():
 
 
 def letters():
-    """8: six and seven vector letters, two and three scalar ones, also in pairs that vanish."""
+    """8: six and seven vector letters, two and three scalar ones; in pairs that vanish they are not counted."""
     for text, inserted, meant in (
             ("(a.b)", "(c.c)(d.d)*e", "(b.e)(c.c)(d.d)"), ("(a.b)", LONG, 8), ("a", LONG, LONG), ("-2gh*a", LONG, f"-2gh{LONG}"),
             ("(b.c)*a", "(c.c)*(d^e)", "(b.c)(c.c)*(d^e)"), ("(b.c)*a", "(c.c)(d.d)*e", 8), ("(a^b)", "(c.c)(d.d)*e", "-(c.c)(d.d)*(b^e)"),
@@ -416,13 +416,35 @@ def letters():
             ("(a.a)", "(b.c)*(d^e)", 8), ("gh*a", "b", "gh*b"), ("gh*a", "i*b", 8), ("g*a", "h*b", "gh*b"), ("g*a", "hi*b", 8),
             ("(a.b)(a.c)", "g*d", "gg(b.d)(c.d)"), ("g(a.b)(a.c)", "g*d", 8), ("(a.a)", "gh*b", 8), ("(a.b)*a", "gh*b", 8),
             ("(a.b)+(a.c)(a.d)", "(b.b)*c", 8), ("(a.b)+(b.c)", "c+(c.c)(d.d)*(e^f)", 8),
-            # a pair that would vanish is tested; the part that vanished makes no pair
+            # a letter wedge a wedge never vanishes and is tested; a pair that vanishes is not, and what vanished makes no pair
             ("(a^b)", "(c.c)(d.d)*b", "0"), ("(a^b)", "(c.c)(d.d)*(b^e)", 8), ("(c.d)*(a^b)", "(c.c)(d.d)*b", "0"), ("(c.d)*(a^b)", "(c.c)(d.d)*e", 8),
-            ("(abc)", "(d.d)(e.e)*b", "0"), ("(abc)", "(d.d)(e.e)*c", 8), ("gh*(a^b)", "hi*b", "0"), ("gh*(a^b)", "hi*c", 8),
-            ("(a.b)", "(c.c)(d.d)*(b^c)", 8)):
+            ("(abc)", "(d.d)(e.e)*b", "0"), ("(abc)", "(d.d)(e.e)*c", "0"), ("gh*(a^b)", "hi*b", "0"), ("gh*(a^b)", "hi*c", 8),
+            ("(a.b)", "(c.c)(d.d)*(b^c)", "0")):
         yield case(text, A, inserted, meant)
-    yield case("(abc)", C, "(d.d)(e.e)*b", 8)
+    yield case("(abc)", C, "(d.d)(e.e)*b", "0")
     yield case("(abc)", C, "(d.d)*(a^b)", "(a.a)(b.b)(d.d)-(a.b)(a.b)(d.d)")
+
+
+def vanishing():
+    """K4: a pair that vanishes is not tested. Each answer was 8, but for those that say 8; beside each the same with a letter that does not vanish."""
+    for text, letter, inserted, meant in (
+            # the dot of a letter with a wedge that has it, on either side
+            ("(a.b)", A, "(c.c)(d.d)*(b^c)", "0"), ("(a.b)", B, "(c.c)(d.d)*(a^c)", "0"), ("(a.b)", B, "(c.c)(d.d)*(c^d)", 8),
+            # the wedge of equal letters: as the part, and in a triple
+            ("(a^b)", A, "(cde)(d.d)*b", "0"), ("(a^b)", B, "(cde)(d.d)*a", "0"), ("(a^b)", A, "(cde)(d.d)*f", 8), ("(abc)", A, "(def)(d.d)*b", "0"),
+            ("(abc)", B, "(def)(d.d)*a", "0"), ("(abc)", B, "(def)(d.d)*d", 8),
+            # the dot of a triple, with each of its letters
+            ("(abc)", A, "(d.d)(e.e)*c", "0"), ("(abc)", B, "(d.d)(e.e)*c", "0"), ("(abc)", C, "(d.d)(e.e)*a", "0"), ("(abc)", C, "(d.d)(e.e)*b", "0"),
+            ("(abc)", C, "(d.d)(e.e)*f", 8), ("(abc)", B, "(d.d)(e.e)*f", 8),
+            # with a coefficient, scalar letters, other factors and terms around it
+            ("-2147483647gh(abc)*(d^e)", A, "2147483647hi(d.d)(e.e)*c", "0"), ("(a.b)*(c^d)+5b", A, "2(c.c)(d.d)*(b^c)", "5b"), ("5+(abc)-(bcd)", A, "(d.d)(e.e)*c", "5-(bcd)"),
+            ("(a.b)(a.c)", A, "(d.d)(e.e)*(b^c)", "0"), ("(a.b)(a.d)", A, "(d.d)(e.e)*(b^c)", 8),
+            # one pair vanishes, the other is within, or too long, or too heavy; 8 of the other comes before its 9
+            ("(abc)", A, "(d.d)(e.e)*c+d", "(bcd)"), ("(abc)", A, "(d.d)(e.e)*c-3g*f", "-3g(bcf)"), ("(abc)", A, "(d.d)(e.e)*c+(d.d)(e.e)*f", 8),
+            ("(a.b)", A, "(c.c)(d.d)*(b^c)+7c", "7(b.c)"), ("(a.b)", A, "(c.c)(d.d)*(b^c)+(c.c)(d.d)*(c^d)", 8), ("2(a.b)", A, "(c.c)(d.d)*(b^c)+2147483647c", 9),
+            # a wedge of two letters that are there again, in a longer form: a letter wedge a wedge that has it does not vanish
+            ("(a^b)", A, "(c.c)(d.d)*(b^e)", 8), ("(a^b)", B, "(c.c)(d.d)*(a^e)", 8)):
+        yield case(text, letter, inserted, meant)
 
 
 def coefficients():
@@ -624,7 +646,7 @@ def by_chance():
 
 
 GROUPS = (velocities, each_place, wedges, letter_inside, letter_not_there, nothing, renamed, order_of_tests, tables_and_letters, pairs, letters,
-          coefficients, terms, partial_sums, order_of_working, order_of_factors, full_forms, by_chance)
+          vanishing, coefficients, terms, partial_sums, order_of_working, order_of_factors, full_forms, by_chance)
 
 
 # ════ the program
@@ -645,7 +667,7 @@ def main():
                 stdin += assignment
             lines.append(line)
         print(f"{group.__name__}: {len(lines) - before}")
-    assert len(stdin) < 60000, len(stdin)
+    assert len(stdin) <= 65536, len(stdin)
     home = pathlib.Path(__file__).resolve().parent.parent / "crates" / "insertion_cases"
     (home / "stdin").write_bytes(stdin)
     (home / "stdout").write_text("\n".join(lines) + "\n")

@@ -93,6 +93,9 @@ def inputs():
               add(E, constant(1)), sub(E, constant(1)), add(constant(1), dotted(A, A)), times(times(E, E), dotted(A, A)), add(A, wedged(B, C)), sub(wedged(A, B), A),
               times(constant(2147483647), times(times(E, G), times(times(dotted(A, B), dotted(C, D)), wedged(A, C)))), times(E, wedged(A, B)), neg(times(E, A))):
         yield whole(SMALL, x)
+    # K4: the customer's zero, and the same with another letter
+    yield whole(SMALL, wedged(FIVE, times(dotted(B, B), A)))
+    yield whole(SMALL, wedged(FIVE, times(dotted(B, B), C)))
     # every line to try
     for table, x in lines_to_try():
         yield whole(table, x)

@@ -2,7 +2,7 @@
 use mathlib.Core.Path.{_≡_, refl, ap, sym, subst, _∙_}
 use mathlib.Core.Logic.{_⊎_, inl, inr}
 use mathlib.Core.Bool.{Bool, true, false, _&&_}
-use mathlib.Core.List.{List, [], _∷_, _++_, map, flatMap, append-assoc, append-nil}
+use mathlib.Core.List.{List, [], _∷_, _++_, map, flatMap, append-nil}
 use Prim.Native.Nat.{ℕ, zero, suc, _+_, _*_, _≤_, _<_}
 use native.Mathlib.Nat as N
 use native.Mathlib.Numerals.{add-one}
@@ -14,17 +14,14 @@ use lib.ListN.{length, take, getD}
 use Rattle.specification.specs.Lists.{all}
 use Rattle.specification.specs.Letters.{scalar, vector}
 use Rattle.specification.specs.Results.{Result, Test, given, _>>=_, _>>_, require}
-use Rattle.specification.specs.Terms.{gather, within}
+use Rattle.specification.specs.Terms.{gather, lettersFit, termWithin, within}
 use Rattle.specification.specs.Terms as S
-use Rattle.specification.specs.Reduction.{timesParts, dotParts, wedgeParts, pairTerms, pairsOf, pairLettersFit, pairCoefFits}
+use Rattle.specification.specs.Reduction.{wedgeParts, pairsOf, pairStaying, productTerms}
 use Rattle.specification.specs.Reduction.{product, timesForms, dotForms, wedgeForms, tripleForms}
 use Rattle.theory.specs.Tests.{and-false, required, passed}
-use Rattle.theory.specs.Elements.{All, all-split, all-implies, all-of, all-T}
-use Rattle.theory.specs.Shape.Terms.{Fits, no-part}
+use Rattle.theory.specs.Elements.{All, all-split, all-T, T-all, flatMap-append}
 use Rattle.theory.specs.Shape.Forms.{AllFit, form-fits}
-use Rattle.theory.specs.Order.{monomial}
 use Rattle.theory.specs.Reduction.Products.{product-fits}
-use Rattle.theory.specs.Reduction.Operators.{timesLeft-follows, timesRight-follows, dot-follows, wedge-follows}
 use Rattle.terms.specs.declared.types.Term.{Term}
 use Rattle.terms.specs.Abstraction.{termOf, Counted}
 use Rattle.terms.proofs.Arrays.{mapped-behind}
@@ -37,11 +34,12 @@ use Rattle.rows.proofs.RowForms.{light-more, rows-refused, rows-as}
 use Rattle.pairing.specs.declared.parts.Few.{Few}
 use Rattle.pairing.specs.declared.parts.Operation.{Operation}
 use Rattle.pairing.specs.declared.parts.Operation.the-variants.{Times, Dot, Wedge}
-use Rattle.pairing.specs.Parts.{partsOf, listOf, Together}
-use Rattle.pair_limits.specs.Limits.{testPairs}
+use Rattle.pairing.specs.Parts.{partsOf, listOf}
+use Rattle.pair_limits.specs.Limits.{Kinds, Operands, Paired, rowTerms, testPairs}
+use Rattle.pair_limits.proofs.Fitting.{kinds-follow, operands-paired}
 use Rattle.gathering.specs.Bringing.{TermBroughtIn}
 use Rattle.sums.specs.Results.{Brought, GatheredRows}
-use Rattle.operators.specs.Products.{PairFits, Pair, PairMade, rowTerms, pairsBound, fewBound, PairsFit, Kinds, Operands}
+use Rattle.operators.specs.Products.{PairFits, Pair, PairMade, pairsBound, fewBound, PairsFit}
 use Rattle.sums.proofs.Bringing.{run-taken, run-all, run-holds, brought-none, brought-term, brought-both, brought-as}
 
 -- ════ at most two terms brought in
@@ -72,19 +70,14 @@ module _ (n : ℕ) (rows : List (List ℕ)) (coefs : List ℤ) (few : Few) (i r 
 
 -- ════ the pairs of one left term
 
-flatMap-join : {A B : Type 0} (f : A → List B) (xs ys : List A) → flatMap f (xs ++ ys) ≡ flatMap f xs ++ flatMap f ys
-unfolding flatMap
-flatMap-join f [] ys = refl
-flatMap-join f (x ∷ xs) ys = ap (λ (l : List _). f x ++ l) (flatMap-join f xs ys) ∙ sym (append-assoc (f x) (flatMap f xs) (flatMap f ys))
-
 flatMap-behind : {A B : Type 0} (f : A → List B) (xs : List A) (y : A) → flatMap f (xs ++ y ∷ []) ≡ flatMap f xs ++ f y
 unfolding flatMap
-flatMap-behind f xs y = flatMap-join f xs (y ∷ []) ∙ ap (λ (l : List _). flatMap f xs ++ l) (append-nil (f y))
+flatMap-behind f xs y = flatMap-append f xs (y ∷ []) ∙ ap (λ (l : List _). flatMap f xs ++ l) (append-nil (f y))
 
-row-behind : (op : Operation) (t : S.Term) (us : List S.Term) (u : S.Term) → rowTerms op t (us ++ u ∷ []) ≡ rowTerms op t us ++ pairTerms (partsOf op) (t, u)
+row-behind : (op : Operation) (t : S.Term) (us : List S.Term) (u : S.Term) → rowTerms op t (us ++ u ∷ []) ≡ rowTerms op t us ++ pairStaying (partsOf op) (t, u)
 unfolding rowTerms
 row-behind op t us u =
-    ap (flatMap (pairTerms (partsOf op))) (mapped-behind (λ (u : S.Term). (t, u)) us u) ∙ flatMap-behind (pairTerms (partsOf op)) (map (λ u. (t, u)) us) (t, u)
+    ap (flatMap (pairStaying (partsOf op))) (mapped-behind (λ (u : S.Term). (t, u)) us u) ∙ flatMap-behind (pairStaying (partsOf op)) (map (λ u. (t, u)) us) (t, u)
 
 -- none yet
 pub row-none : (op : Operation) (t : S.Term) (n : ℕ) (rows : List (List ℕ)) (coefs : List ℤ) → Run n rows coefs
@@ -117,7 +110,7 @@ module _ (op : Operation) (t : Term) (m : ℕ) (right : List (List ℕ)) (rights
       let x = termBy (getD right j []) (getD rights j (pos 0)) in
       let us = take j (runOf m right rights) in
       let l : rowTerms op (termOf t) us ++ listOf few ≡ rowTerms op (termOf t) (take (j + 1) (runOf m right rights)) =
-      ap (λ (l : List S.Term). rowTerms op (termOf t) us ++ l) (p .is ∙ ap (λ (x : S.Term). pairTerms (partsOf op) (termOf t, x)) right-is)
+      ap (λ (l : List S.Term). rowTerms op (termOf t) us ++ l) (p .is ∙ ap (λ (x : S.Term). pairStaying (partsOf op) (termOf t, x)) right-is)
       ∙ sym (ap (rowTerms op (termOf t)) (run-taken m right rights (v .room) (v .beside) j h) ∙ row-behind op (termOf t) us x) in
       brought-as n rows₀ coefs₀ (2 * j + 2) (2 * (j + 1)) (rowTerms op (termOf t) us ++ listOf few)
       (rowTerms op (termOf t) (take (j + 1) (runOf m right rights))) s rows' coefs' (omega arith) l
@@ -140,21 +133,17 @@ row-all op t m right rights v j n rows₀ coefs₀ s rows coefs g h w =
 
 -- ════ all pairs
 
--- the terms of all pairs
-abbrev pub termsOfPairs : Operation → (ts us : List S.Term) → List S.Term
-termsOfPairs op ts us = flatMap (pairTerms (partsOf op)) (pairsOf ts us)
-
 pairs-behind : (op : Operation) (ts : List S.Term) (t : S.Term) (us : List S.Term)
-    → termsOfPairs op (ts ++ t ∷ []) us ≡ termsOfPairs op ts us ++ rowTerms op t us
-unfolding pairsOf rowTerms
+    → productTerms (partsOf op) (ts ++ t ∷ []) us ≡ productTerms (partsOf op) ts us ++ rowTerms op t us
+unfolding productTerms pairsOf rowTerms
 pairs-behind op ts t us =
-    ap (flatMap (pairTerms (partsOf op))) (flatMap-behind (λ (t : S.Term). map (λ u. (t, u)) us) ts t)
-    ∙ flatMap-join (pairTerms (partsOf op)) (pairsOf ts us) (map (λ u. (t, u)) us)
+    ap (flatMap (pairStaying (partsOf op))) (flatMap-behind (λ (t : S.Term). map (λ u. (t, u)) us) ts t)
+    ∙ flatMap-append (pairStaying (partsOf op)) (pairsOf ts us) (map (λ u. (t, u)) us)
 
 -- none yet
 pub pairs-none : (op : Operation) (m : ℕ) (us : List S.Term) (more : List (List ℕ)) (beside : List ℤ)
-    → Brought (2 * (0 * m)) 0 more beside (termsOfPairs op [] us) 0 more beside
-unfolding pairsOf flatMap runOf termsBy
+    → Brought (2 * (0 * m)) 0 more beside (productTerms (partsOf op) [] us) 0 more beside
+unfolding productTerms pairsOf flatMap runOf termsBy
 pairs-none op m us more beside =
     brought-as 0 more beside 0 (2 * (0 * m)) [] [] 0 more beside (omega arith) refl
     (brought-none 0 more beside (record { room = omega arith; beside = omega arith; valid = tt; ascending = tt }))
@@ -187,42 +176,42 @@ module _ (op : Operation) (n : ℕ) (rows : List (List ℕ)) (coefs : List ℤ) 
   -- their terms brought in
   pub pairs-more : (more₀ : List (List ℕ)) (beside₀ : List ℤ) (count : ℕ) (more : List (List ℕ)) (beside : List ℤ) (s : ℕ) (more' : List (List ℕ))
       (beside' : List ℤ)
-      → Brought (2 * (i * m)) 0 more₀ beside₀ (termsOfPairs op (take i (runOf n rows coefs)) us) count more beside
+      → Brought (2 * (i * m)) 0 more₀ beside₀ (productTerms (partsOf op) (take i (runOf n rows coefs)) us) count more beside
       → Brought (2 * m) count more beside (rowTerms op (termOf t) us) s more' beside'
-      → Brought (2 * ((i + 1) * m)) 0 more₀ beside₀ (termsOfPairs op (take (i + 1) (runOf n rows coefs)) us) s more' beside'
+      → Brought (2 * ((i + 1) * m)) 0 more₀ beside₀ (productTerms (partsOf op) (take (i + 1) (runOf n rows coefs)) us) s more' beside'
   pairs-more more₀ beside₀ count more beside s more' beside' w b =
       let k : (i + 1) * m ≡ i * m + m = ap (λ (n : ℕ). n * m) (add-one i) ∙ N.suc-mul i m in
       let ts = take i (runOf n rows coefs) in
-      let l : termsOfPairs op ts us ++ rowTerms op (termOf t) us ≡ termsOfPairs op (take (i + 1) (runOf n rows coefs)) us =
-      ap (λ (x : S.Term). termsOfPairs op ts us ++ rowTerms op x us) left-is
-      ∙ sym (ap (λ (l : List S.Term). termsOfPairs op l us) (run-taken n rows coefs (v .room) (v .beside) i h)
+      let l : productTerms (partsOf op) ts us ++ rowTerms op (termOf t) us ≡ productTerms (partsOf op) (take (i + 1) (runOf n rows coefs)) us =
+      ap (λ (x : S.Term). productTerms (partsOf op) ts us ++ rowTerms op x us) left-is
+      ∙ sym (ap (λ (l : List S.Term). productTerms (partsOf op) l us) (run-taken n rows coefs (v .room) (v .beside) i h)
       ∙ pairs-behind op ts (termBy (getD rows i []) (getD coefs i (pos 0))) us) in
-      brought-as 0 more₀ beside₀ (2 * (i * m) + 2 * m) (2 * ((i + 1) * m)) (termsOfPairs op ts us ++ rowTerms op (termOf t) us)
-      (termsOfPairs op (take (i + 1) (runOf n rows coefs)) us) s more' beside'
+      brought-as 0 more₀ beside₀ (2 * (i * m) + 2 * m) (2 * ((i + 1) * m)) (productTerms (partsOf op) ts us ++ rowTerms op (termOf t) us)
+      (productTerms (partsOf op) (take (i + 1) (runOf n rows coefs)) us) s more' beside'
       (omega (arith, k)) l
-      (brought-both 0 more₀ beside₀ (2 * (i * m)) (2 * m) (termsOfPairs op ts us) (rowTerms op (termOf t) us) count s more beside more' beside' w b)
+      (brought-both 0 more₀ beside₀ (2 * (i * m)) (2 * m) (productTerms (partsOf op) ts us) (rowTerms op (termOf t) us) count s more beside more' beside' w b)
 
 -- all of them
 pub pairs-all : (op : Operation) (n : ℕ) (rows : List (List ℕ)) (coefs : List ℤ) → Run n rows coefs
     → (m : ℕ) (us : List S.Term) (i : ℕ) (more₀ : List (List ℕ)) (beside₀ : List ℤ) (s : ℕ) (more : List (List ℕ)) (beside : List ℤ)
-    → i ≤ n → n ≤ i → Brought (2 * (i * m)) 0 more₀ beside₀ (termsOfPairs op (take i (runOf n rows coefs)) us) s more beside
-    → Brought (2 * (n * m)) 0 more₀ beside₀ (termsOfPairs op (runOf n rows coefs) us) s more beside
+    → i ≤ n → n ≤ i → Brought (2 * (i * m)) 0 more₀ beside₀ (productTerms (partsOf op) (take i (runOf n rows coefs)) us) s more beside
+    → Brought (2 * (n * m)) 0 more₀ beside₀ (productTerms (partsOf op) (runOf n rows coefs) us) s more beside
 pairs-all op n rows coefs v m us i more₀ beside₀ s more beside g h w =
     let e : i ≡ n = omega arith in
     let k : 2 * (i * m) ≤ 2 * (n * m) = N.mul-le-mul (N.le-refl 2) (N.mul-le-mul g (N.le-refl m)) in
     brought-as 0 more₀ beside₀ (2 * (i * m)) (2 * (n * m)) _ _ s more beside k
-    (ap (λ (l : List S.Term). termsOfPairs op l us) (run-all n rows coefs (v .room) (v .beside) i h)) w
+    (ap (λ (l : List S.Term). productTerms (partsOf op) l us) (run-all n rows coefs (v .room) (v .beside) i h)) w
 
 -- ════ the tests of the pairs
 
 -- they come first
-product-tested : (kind : ℕ) (parts : List ℕ → List ℕ → List S.Term) (f g : S.Form)
-    → product kind parts f g ≡ (testPairs (f .terms) (g .terms) >> within kind (gather (flatMap (pairTerms parts) (pairsOf (f .terms) (g .terms)))))
+product-tested : (op : Operation) (kind : ℕ) (f g : S.Form)
+    → product kind (partsOf op) f g ≡ (testPairs op (f .terms) (g .terms) >> within kind (gather (productTerms (partsOf op) (f .terms) (g .terms))))
 unfolding product testPairs
-product-tested kind parts f g =
-    three (leb (length (f .terms) * length (g .terms)) 48) (all pairLettersFit (pairsOf (f .terms) (g .terms)))
-    (all pairCoefFits (pairsOf (f .terms) (g .terms)))
-    (within kind (gather (flatMap (pairTerms parts) (pairsOf (f .terms) (g .terms)))))
+product-tested op kind f g =
+    three (leb (length (f .terms) * length (g .terms)) 48) (all lettersFit (productTerms (partsOf op) (f .terms) (g .terms)))
+    (all termWithin (productTerms (partsOf op) (f .terms) (g .terms)))
+    (within kind (gather (productTerms (partsOf op) (f .terms) (g .terms))))
   where
     three : (a b c : Bool) (r : Result S.Form) → (require a 7 >> (require b 8 >> (require c 9 >> r))) ≡ ((require a 7 >> (require b 8 >> require c 9)) >> r)
     three false b c r = refl
@@ -230,62 +219,44 @@ product-tested kind parts f g =
     three true true false r = refl
     three true true true r = refl
 
--- what holds of all pairs, by their left terms
-by-left : (P : S.Term × S.Term → Type 0) (ts us : List S.Term) → All P (pairsOf ts us) → All (λ (t : S.Term). All (λ (u : S.Term). P (t, u)) us) ts
-unfolding pairsOf flatMap
-by-left P [] us a = tt
-by-left P (t ∷ ts) us a = let w = all-split P (map (λ u. (t, u)) us) (pairsOf ts us) a in (by-right us (w .0), by-left P ts us (w .1))
+-- what holds of the terms of all pairs that stay, pair by pair
+by-pair : (op : Operation) (P : S.Term → Type 0) (ts us : List S.Term) → All P (productTerms (partsOf op) ts us)
+    → All (λ (t : S.Term). All (λ (u : S.Term). All P (pairStaying (partsOf op) (t, u))) us) ts
+unfolding rowTerms productTerms pairsOf flatMap
+by-pair op P [] us a = tt
+by-pair op P (t ∷ ts) us a =
+    let w = all-split P (rowTerms op t us) (productTerms (partsOf op) ts us) (subst (All P) (flatMap-append (pairStaying (partsOf op)) (map (λ u. (t, u)) us) (pairsOf ts us)) a) in
+    (by-right us (w .0), by-pair op P ts us (w .1))
   where
-    by-right : (us : List S.Term) → All P (map (λ (u : S.Term). (t, u)) us) → All (λ (u : S.Term). P (t, u)) us
+    by-right : (us : List S.Term) → All P (rowTerms op t us) → All (λ (u : S.Term). All P (pairStaying (partsOf op) (t, u))) us
     by-right [] a = tt
-    by-right (u ∷ us) a = (a .0, by-right us (a .1))
+    by-right (u ∷ us) a = let w = all-split P (pairStaying (partsOf op) (t, u)) (rowTerms op t us) a in (w .0, by-right us (w .1))
 
 -- three facts of each pair
-each-fits : (op : Operation) (ts us : List S.Term) → All (λ (t : S.Term). All (λ (u : S.Term). Together op (t .part) (u .part)) us) ts
-    → All (λ (t : S.Term). All (λ (u : S.Term). T (pairLettersFit (t, u))) us) ts → All (λ (t : S.Term). All (λ (u : S.Term). T (pairCoefFits (t, u))) us) ts
+each-fits : (op : Operation) (ts us : List S.Term) → All (λ (t : S.Term). All (Paired op t) us) ts
+    → All (λ (t : S.Term). All (λ (u : S.Term). All (λ (x : S.Term). T (lettersFit x)) (pairStaying (partsOf op) (t, u))) us) ts
+    → All (λ (t : S.Term). All (λ (u : S.Term). All (λ (x : S.Term). T (termWithin x)) (pairStaying (partsOf op) (t, u))) us) ts
     → All (λ (t : S.Term). All (PairFits op t) us) ts
 each-fits op [] us a b c = tt
 each-fits op (t ∷ ts) us a b c = (one us (a .0) (b .0) (c .0), each-fits op ts us (a .1) (b .1) (c .1))
   where
-    one : (us : List S.Term) → All (λ (u : S.Term). Together op (t .part) (u .part)) us → All (λ (u : S.Term). T (pairLettersFit (t, u))) us
-        → All (λ (u : S.Term). T (pairCoefFits (t, u))) us
+    one : (us : List S.Term) → All (Paired op t) us → All (λ (u : S.Term). All (λ (x : S.Term). T (lettersFit x)) (pairStaying (partsOf op) (t, u))) us
+        → All (λ (u : S.Term). All (λ (x : S.Term). T (termWithin x)) (pairStaying (partsOf op) (t, u))) us
         → All (PairFits op t) us
     one [] a b c = tt
-    one (u ∷ us) a b c = (record { together = a .0; letters = b .0; coef = c .0 }, one us (a .1) (b .1) (c .1))
-
--- the terms of a scalar form have no vector part
-no-parts : (ts : List S.Term) → AllFit scalar ts → All (λ (t : S.Term). t .part ≡ []) ts
-no-parts ts = all-implies (λ (t : S.Term). Fits scalar (monomial t)) (λ (t : S.Term). t .part ≡ []) (λ t f. no-part (t .part) (f .kindIs)) ts
-
-kinds-together : (op : Operation) (kind a b : ℕ) (ts us : List S.Term) → Kinds op kind a b → AllFit a ts → AllFit b us
-    → All (λ (t : S.Term). All (λ (u : S.Term). Together op (t .part) (u .part)) us) ts
-unfolding Kinds Together
-kinds-together Times kind a b ts us (inl k) f g =
-    all-implies (λ (t : S.Term). t .part ≡ []) (λ (t : S.Term). All (λ (u : S.Term). (t .part ≡ []) ⊎ (u .part ≡ [])) us)
-    (λ t e. all-of (λ (u : S.Term). (t .part ≡ []) ⊎ (u .part ≡ [])) (λ u. inl e) us) ts (no-parts ts (subst (λ (n : ℕ). AllFit n ts) (k .0) f))
-kinds-together Times kind a b ts us (inr k) f g =
-    all-of (λ (t : S.Term). All (λ (u : S.Term). (t .part ≡ []) ⊎ (u .part ≡ [])) us)
-    (λ t. all-implies (λ (u : S.Term). u .part ≡ []) (λ (u : S.Term). (t .part ≡ []) ⊎ (u .part ≡ [])) (λ u e. inr e) us
-    (no-parts us (subst (λ (n : ℕ). AllFit n us) (k .0) g))) ts
-kinds-together Dot kind a b ts us k f g = all-of (λ (t : S.Term). All (λ (u : S.Term). Unit {0}) us) (λ t. all-of (λ (u : S.Term). Unit {0}) (λ u. tt) us) ts
-kinds-together Wedge kind a b ts us k f g = all-of (λ (t : S.Term). All (λ (u : S.Term). Unit {0}) us) (λ t. all-of (λ (u : S.Term). Unit {0}) (λ u. tt) us) ts
+    one (u ∷ us) a b c = (
+      record {
+        paired = a .0;
+        letters = T-all lettersFit (pairStaying (partsOf op) (t, u)) (b .0);
+        coef = T-all termWithin (pairStaying (partsOf op) (t, u)) (c .0);
+      },
+      one us (a .1) (b .1) (c .1),
+    )
 
 -- the products are of the kind
-products-fit : (op : Operation) (kind a b : ℕ) (ts us : List S.Term) → Kinds op kind a b → AllFit a ts → AllFit b us → T (all pairLettersFit (pairsOf ts us))
-    → AllFit kind (termsOfPairs op ts us)
-unfolding Kinds partsOf
-products-fit Times kind a b ts us (inl k) f g l =
-    product-fits _ timesParts scalar kind kind (timesLeft-follows kind) ts us (subst (λ (n : ℕ). AllFit n ts) (k .0) f)
-    (subst (λ (n : ℕ). AllFit n us) (k .1) g) l
-products-fit Times kind a b ts us (inr k) f g l =
-    product-fits _ timesParts kind scalar kind (timesRight-follows kind) ts us (subst (λ (n : ℕ). AllFit n ts) (k .1) f)
-    (subst (λ (n : ℕ). AllFit n us) (k .0) g) l
-products-fit Dot kind a b ts us k f g l =
-    subst (λ (n : ℕ). AllFit n (flatMap (pairTerms dotParts) (pairsOf ts us))) (sym (k .2))
-    (product-fits _ dotParts vector vector scalar dot-follows ts us (subst (λ (n : ℕ). AllFit n ts) (k .0) f) (subst (λ (n : ℕ). AllFit n us) (k .1) g) l)
-products-fit Wedge kind a b ts us k f g l =
-    subst (λ (n : ℕ). AllFit n (flatMap (pairTerms wedgeParts) (pairsOf ts us))) (sym (k .2))
-    (product-fits _ wedgeParts vector vector vector wedge-follows ts us (subst (λ (n : ℕ). AllFit n ts) (k .0) f) (subst (λ (n : ℕ). AllFit n us) (k .1) g) l)
+products-fit : (op : Operation) (kind a b : ℕ) (ts us : List S.Term) → Kinds op kind a b → AllFit a ts → AllFit b us → T (all lettersFit (productTerms (partsOf op) ts us))
+    → AllFit kind (productTerms (partsOf op) ts us)
+products-fit op kind a b ts us k f g l = let w = kinds-follow op kind a b k in product-fits (w .0) (partsOf op) a b kind (w .1) ts us f g l
 
 kind-small : (op : Operation) (kind a b : ℕ) → Kinds op kind a b → a ≤ 1 → b ≤ 1 → kind ≤ 1
 unfolding Kinds
@@ -297,35 +268,35 @@ kind-small Wedge kind a b k f g = omega (arith, k .2)
 -- ════ the product
 
 module _ (op : Operation) (kind n : ℕ) (rows : List (List ℕ)) (coefs : List ℤ) (m : ℕ) (right : List (List ℕ)) (rights : List ℤ) (t : ℕ)
-    (e : testOf t ≡ testPairs (runOf n rows coefs) (runOf m right rights)) where
+    (e : testOf t ≡ testPairs op (runOf n rows coefs) (runOf m right rights)) where
   -- a pair is refused
   pub pairs-refused : (w : Worked) (rows' : List (List ℕ)) (coefs' : List ℤ) → (t ≡ 0 → ⊥) → w .refusal ≡ t
       → (a b : ℕ) → RowsGive (product kind (partsOf op) (formBy a n rows coefs) (formBy b m right rights)) w rows' coefs'
   pairs-refused w rows' coefs' h p a b =
       rows-refused (product kind (partsOf op) (formBy a n rows coefs) (formBy b m right rights)) w t rows' coefs' p h
-      (product-tested kind (partsOf op) (formBy a n rows coefs) (formBy b m right rights)
-      ∙ ap (λ (x : Test). x >> within kind (gather (termsOfPairs op (runOf n rows coefs) (runOf m right rights)))) (sym e ∙ test-refused t h))
+      (product-tested op kind (formBy a n rows coefs) (formBy b m right rights)
+      ∙ ap (λ (x : Test). x >> within kind (gather (productTerms (partsOf op) (runOf n rows coefs) (runOf m right rights)))) (sym e ∙ test-refused t h))
 
   module _ (z : t ≡ 0) where
-    all-passed : testPairs (runOf n rows coefs) (runOf m right rights) ≡ given tt
+    -- the terms that stay
+    abbrev stayed : List S.Term
+    stayed = productTerms (partsOf op) (runOf n rows coefs) (runOf m right rights)
+
+    all-passed : testPairs op (runOf n rows coefs) (runOf m right rights) ≡ given tt
     all-passed = sym e ∙ test-passed t z
 
     few-pairs : T (leb (length (runOf n rows coefs) * length (runOf m right rights)) 48)
     unfolding testPairs
     few-pairs = required (leb (length (runOf n rows coefs) * length (runOf m right rights)) 48) 7
-        (require (all pairLettersFit (pairsOf (runOf n rows coefs) (runOf m right rights))) 8 >> require
-        (all pairCoefFits (pairsOf (runOf n rows coefs) (runOf m right rights))) 9) tt all-passed .0
+        (require (all lettersFit stayed) 8 >> require (all termWithin stayed) 9) tt all-passed .0
 
-    few-letters : T (all pairLettersFit (pairsOf (runOf n rows coefs) (runOf m right rights)))
-        × T (all pairCoefFits (pairsOf (runOf n rows coefs) (runOf m right rights)))
+    few-letters : T (all lettersFit stayed) × T (all termWithin stayed)
     unfolding testPairs
     few-letters =
         let a = required (leb (length (runOf n rows coefs) * length (runOf m right rights)) 48) 7
-        (require (all pairLettersFit (pairsOf (runOf n rows coefs) (runOf m right rights))) 8 >> require
-        (all pairCoefFits (pairsOf (runOf n rows coefs) (runOf m right rights))) 9) tt all-passed in
-        let b = required (all pairLettersFit (pairsOf (runOf n rows coefs) (runOf m right rights))) 8
-        (require (all pairCoefFits (pairsOf (runOf n rows coefs) (runOf m right rights))) 9) tt (a .1) in
-        (b .0, passed (all pairCoefFits (pairsOf (runOf n rows coefs) (runOf m right rights))) 9 (b .1))
+        (require (all lettersFit stayed) 8 >> require (all termWithin stayed) 9) tt all-passed in
+        let b = required (all lettersFit stayed) 8 (require (all termWithin stayed) 9) tt (a .1) in
+        (b .0, passed (all termWithin stayed) 9 (b .1))
 
     module _ (o : Operands op kind n rows coefs m right rights) where
       left-all-fit : AllFit (o .leftKind) (runOf n rows coefs)
@@ -334,7 +305,7 @@ module _ (op : Operation) (kind n : ℕ) (rows : List (List ℕ)) (coefs : List 
       right-all-fit : AllFit (o .rightKind) (runOf m right rights)
       right-all-fit = form-fits (formBy (o .rightKind) m right rights) (o .rightForm .inShape)
 
-      -- no pair is refused
+      -- nothing is refused
       pub pairs-fit : PairsFit op n (runOf n rows coefs) m (runOf m right rights)
       pairs-fit = record {
         few =
@@ -342,17 +313,14 @@ module _ (op : Operation) (kind n : ℕ) (rows : List (List ℕ)) (coefs : List 
             (o .rightForm .run .room) (o .rightForm .run .beside) i)
             (leb→le (length (runOf n rows coefs) * length (runOf m right rights)) 48 few-pairs);
         right = o .rightForm .few;
-        fits = each-fits op (runOf n rows coefs) (runOf m right rights)
-            (kinds-together op kind (o .leftKind) (o .rightKind) (runOf n rows coefs) (runOf m right rights) (o .kinds) left-all-fit right-all-fit)
-            (by-left (λ (p : S.Term × S.Term). T (pairLettersFit p)) (runOf n rows coefs) (runOf m right rights)
-            (all-T pairLettersFit (pairsOf (runOf n rows coefs) (runOf m right rights)) (few-letters .0)))
-            (by-left (λ (p : S.Term × S.Term). T (pairCoefFits p)) (runOf n rows coefs) (runOf m right rights)
-            (all-T pairCoefFits (pairsOf (runOf n rows coefs) (runOf m right rights)) (few-letters .1)));
+        fits = each-fits op (runOf n rows coefs) (runOf m right rights) (operands-paired op kind n rows coefs m right rights o)
+            (by-pair op (λ (x : S.Term). T (lettersFit x)) (runOf n rows coefs) (runOf m right rights) (all-T lettersFit stayed (few-letters .0)))
+            (by-pair op (λ (x : S.Term). T (termWithin x)) (runOf n rows coefs) (runOf m right rights) (all-T termWithin stayed (few-letters .1)));
       }
 
       module _ (k : ℕ) (more₀ : List (List ℕ)) (beside₀ : List ℤ) (r : ℕ) (more : List (List ℕ)) (beside : List ℤ)
-          (b : Brought k 0 more₀ beside₀ (termsOfPairs op (runOf n rows coefs) (runOf m right rights)) r more beside) where
-        brought-is : runOf r more beside ≡ gather (termsOfPairs op (runOf n rows coefs) (runOf m right rights))
+          (b : Brought k 0 more₀ beside₀ (productTerms (partsOf op) (runOf n rows coefs) (runOf m right rights)) r more beside) where
+        brought-is : runOf r more beside ≡ gather (productTerms (partsOf op) (runOf n rows coefs) (runOf m right rights))
         unfolding gather runOf termsBy
         brought-is = b .is
 
@@ -361,7 +329,7 @@ module _ (op : Operation) (kind n : ℕ) (rows : List (List ℕ)) (coefs : List 
         pairs-gathered = record {
           run = b .run;
           small = kind-small op kind (o .leftKind) (o .rightKind) (o .kinds) (o .leftForm .inShape .kind) (o .rightForm .inShape .kind);
-          terms = termsOfPairs op (runOf n rows coefs) (runOf m right rights);
+          terms = productTerms (partsOf op) (runOf n rows coefs) (runOf m right rights);
           is = brought-is;
           fit = products-fit op kind (o .leftKind) (o .rightKind) (runOf n rows coefs) (runOf m right rights) (o .kinds) left-all-fit right-all-fit
               (few-letters .0);
@@ -372,8 +340,8 @@ module _ (op : Operation) (kind n : ℕ) (rows : List (List ℕ)) (coefs : List 
             → (a b : ℕ) → RowsGive (product kind (partsOf op) (formBy a n rows coefs) (formBy b m right rights)) w rows' coefs'
         pairs-give w rows' coefs' g a d =
             rows-as (within kind (runOf r more beside)) (product kind (partsOf op) (formBy a n rows coefs) (formBy d m right rights)) w rows' coefs'
-            (ap (within kind) brought-is ∙ sym (product-tested kind (partsOf op) (formBy a n rows coefs) (formBy d m right rights)
-            ∙ ap (λ (x : Test). x >> within kind (gather (termsOfPairs op (runOf n rows coefs) (runOf m right rights)))) all-passed)) g
+            (ap (within kind) brought-is ∙ sym (product-tested op kind (formBy a n rows coefs) (formBy d m right rights)
+            ∙ ap (λ (x : Test). x >> within kind (gather (productTerms (partsOf op) (runOf n rows coefs) (runOf m right rights)))) all-passed)) g
 
 -- ════ the kinds
 

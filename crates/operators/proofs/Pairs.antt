@@ -1,4 +1,4 @@
--- The terms of one pair: the scalar parts joined, times what the vector parts make. Assumes nothing.
+-- The terms of one pair that stay: the scalar parts joined, times what the vector parts make. Assumes nothing.
 use mathlib.Core.Path.{_≡_, refl, ap, sym, subst, _∙_}
 use mathlib.Core.Logic.{_⊎_, inl}
 use mathlib.Core.List.{[], _∷_, map}
@@ -10,10 +10,12 @@ use lib.IntN.{ℤ, natAbs, _*ℤ_}
 use lib.ListN.{length, take}
 use lib.Seq.{length-take-le}
 use Rattle.algebra.specs.Integers.{natAbs-*ℤ}
-use Rattle.specification.specs.Terms.{timesTerm, coefWithin, vectorLetters, scalarLetters}
+use Rattle.specification.specs.Terms.{staying, timesTerm, coefWithin, vectorLetters, scalarLetters, termInShape}
 use Rattle.specification.specs.Terms as S
-use Rattle.specification.specs.Reduction.{joinedScalars, pairTerms, pairLettersFit, pairCoefFits}
+use Rattle.specification.specs.Reduction.{joinedScalars, pairStaying}
 use Rattle.theory.specs.Tests.{and-split}
+use Rattle.theory.specs.Shape.Terms.{in-limit}
+use Rattle.theory.specs.Reduction.Pairs.{pairLettersFit, pairCoefFits}
 use Rattle.terms.specs.declared.types.Term.{Term}
 use Rattle.terms.specs.Abstraction.{partOf, termOf, Counted}
 use Rattle.tidying.specs.Sorted.{Joined}
@@ -21,7 +23,46 @@ use Rattle.terms.proofs.InShape.{factors-count}
 use Rattle.pairing.specs.declared.parts.Operation.{Operation}
 use Rattle.pairing.specs.declared.parts.Few.{Few}
 use Rattle.pairing.specs.Parts.{partsOf, Small, listOf, FewMade}
-use Rattle.operators.specs.Products.{Scalars, Pair}
+use Rattle.pair_limits.specs.Limits.{Paired}
+use Rattle.pair_limits.proofs.Fitting.{paired-staying, paired-letters, paired-coefs}
+use Rattle.gathering.specs.Bringing.{Bringable}
+use Rattle.operators.specs.Products.{Scalars, Pair, PairMade}
+
+-- ════ which terms of a pair stay
+
+-- by what the vector parts make
+module _ (op : Operation) (t u : Term) (p : Paired op (termOf t) (termOf u)) (few : Few) (m : FewMade (staying (partsOf op (partOf (t .part)) (partOf (u .part)))) few) where
+  -- they are these times the joined scalar parts
+  made-staying : pairStaying (partsOf op) (termOf t, termOf u) ≡ map (timesTerm (joinedScalars (termOf t) (termOf u))) (listOf few)
+  unfolding termOf
+  made-staying = paired-staying op (termOf t) (termOf u) p ∙ ap (map (timesTerm (joinedScalars (termOf t) (termOf u)))) (sym (m .is))
+
+  -- none
+  none-stays : few .count ≡ 0 → pairStaying (partsOf op) (termOf t, termOf u) ≡ []
+  unfolding listOf
+  none-stays e = made-staying ∙ ap (λ (n : ℕ). map (timesTerm (joinedScalars (termOf t) (termOf u))) (map termOf (take n (few .first ∷ few .second ∷ [])))) e
+
+  -- at least one
+  some-stays : (few .count ≡ 0 → ⊥) → pairStaying (partsOf op) (termOf t, termOf u) ≡ [] → ⊥
+  unfolding listOf
+  some-stays n e = go (few .count) n (sym made-staying ∙ e)
+    where
+      go : (k : ℕ) → (k ≡ 0 → ⊥) → map (timesTerm (joinedScalars (termOf t) (termOf u))) (map termOf (take k (few .first ∷ few .second ∷ []))) ≡ [] → ⊥
+      go zero h q = h refl
+      go (suc k) h q = let l : suc _ ≡ 0 = ap length q in omega (arith, l)
+
+-- ════ a pair of which a term stays
+
+-- it passed the tests
+module _ (op : Operation) (t u : Term) (p : Pair op t u) (few : Few) (m : FewMade (staying (partsOf op (partOf (t .part)) (partOf (u .part)))) few) (n : few .count ≡ 0 → ⊥) where
+  one-stays : pairStaying (partsOf op) (termOf t, termOf u) ≡ [] → ⊥
+  one-stays = some-stays op t u (p .fits .paired) few m n
+
+  pub letters-passed : T (pairLettersFit (termOf t, termOf u))
+  letters-passed = subst T (paired-letters op (termOf t) (termOf u) (p .fits .paired) one-stays) (p .fits .letters)
+
+  pub coef-passed : T (pairCoefFits (termOf t, termOf u))
+  coef-passed = subst T (paired-coefs op (termOf t) (termOf u) (p .fits .paired) one-stays) (p .fits .coef)
 
 -- ════ few factors
 
@@ -63,7 +104,7 @@ pub record Base (t u b : Term) : Type 0 where
   pub size : natAbs (b .coef) ≤ 2147483647
   pub part : partOf (b .part) ≡ []
 
-module _ (op : Operation) (t u v w : Term) (p : Pair op t u) (h : Scalars t v) (k : Scalars u w) (n : t .«factor_count» + u .«factor_count» ≤ 5) where
+module _ (t u v w : Term) (p : T (pairCoefFits (termOf t, termOf u))) (h : Scalars t v) (k : Scalars u w) (n : t .«factor_count» + u .«factor_count» ≤ 5) where
   -- they can be joined
   pub joins-counts : Counted v × Counted w × (v .«factor_count» + w .«factor_count» ≤ 7)
   joins-counts = (h .counted, k .counted, omega (arith, h .count, k .count))
@@ -72,7 +113,7 @@ module _ (op : Operation) (t u v w : Term) (p : Pair op t u) (h : Scalars t v) (
   joins-fits =
       let e : natAbs (v .coef) * natAbs (w .coef) ≡ natAbs (t .coef) * natAbs (u .coef) = (λ i. natAbs (scalars-coef t v h i) * natAbs (scalars-coef u w k i))
       in
-      omega (arith, e, pair-size t u (p .fits .coef))
+      omega (arith, e, pair-size t u p)
 
   pub joins-part : (partOf (v .part) ≡ []) ⊎ (partOf (w .part) ≡ [])
   joins-part = inl (scalars-part t v h)
@@ -87,7 +128,7 @@ module _ (op : Operation) (t u v w : Term) (p : Pair op t u) (h : Scalars t v) (
         counted = j .counted;
         few = omega (arith, j .count, h .count, k .count);
         size = subst (λ (z : ℤ). natAbs z ≤ 2147483647) (sym (ap (λ (x : S.Term). x .coef) is))
-            (subst (λ (m : ℕ). m ≤ 2147483647) (sym (natAbs-*ℤ (t .coef) (u .coef))) (pair-size t u (p .fits .coef)));
+            (subst (λ (m : ℕ). m ≤ 2147483647) (sym (natAbs-*ℤ (t .coef) (u .coef))) (pair-size t u p));
         part = ap (λ (x : S.Term). x .part) is;
       }
 
@@ -120,17 +161,23 @@ module _ (t u b x : Term) (h : Base t u b) (s : Small x) where
 
 -- ════ the terms of a pair
 
-module _ (op : Operation) (t u : Term) (few : Few) (m : FewMade (partsOf op (partOf (t .part)) (partOf (u .part))) few) where
-  -- each term that the parts make, times the joined scalar parts
-  times-each : pairTerms (partsOf op) (termOf t, termOf u) ≡ map (timesTerm (joinedScalars (termOf t) (termOf u))) (listOf few)
-  unfolding pairTerms termOf
-  times-each = ap (map (timesTerm (joinedScalars (termOf t) (termOf u)))) (sym (m .is))
+shape-bringable : (x : Term) → Counted x → T (termInShape (termOf x)) → Bringable x
+unfolding termOf
+shape-bringable x h s = record { counted = h; light = in-limit (termOf x) s }
+
+module _ (op : Operation) (t u : Term) (p : Paired op (termOf t) (termOf u)) (few : Few)
+    (m : FewMade (staying (partsOf op (partOf (t .part)) (partOf (u .part)))) few) where
+  -- none stays
+  pub made-none : few .count ≡ 0 → Counted t → PairMade op t u (record { count = 0; first = t; second = t })
+  unfolding listOf
+  made-none e h =
+      record { is = sym (none-stays op t u p few m e); few = omega arith; first = shape-bringable t h (p .leftShape); second = shape-bringable t h (p .leftShape) }
 
   module _ (x : Term) (ex : termOf x ≡ timesTerm (joinedScalars (termOf t) (termOf u)) (termOf (few .first))) where
     -- at most one term
-    pub made-few : (y : Term) → few .count < 2 → listOf (record { count = few .count; first = x; second = y }) ≡ pairTerms (partsOf op) (termOf t, termOf u)
+    pub made-few : (y : Term) → few .count < 2 → listOf (record { count = few .count; first = x; second = y }) ≡ pairStaying (partsOf op) (termOf t, termOf u)
     unfolding listOf
-    made-few y h = go (few .count) refl h ∙ sym times-each
+    made-few y h = go (few .count) refl h ∙ sym (made-staying op t u p few m)
       where
         go : (n : ℕ) → few .count ≡ n → n < 2 → map termOf (take (few .count) (x ∷ y ∷ [])) ≡ map (timesTerm (joinedScalars (termOf t) (termOf u)))
             (map termOf (take (few .count) (few .first ∷ few .second ∷ [])))
@@ -140,6 +187,7 @@ module _ (op : Operation) (t u : Term) (few : Few) (m : FewMade (partsOf op (par
 
     -- two terms
     pub made-two : (y : Term) → termOf y ≡ timesTerm (joinedScalars (termOf t) (termOf u)) (termOf (few .second)) → 2 ≤ few .count
-        → listOf (record { count = few .count; first = x; second = y }) ≡ pairTerms (partsOf op) (termOf t, termOf u)
+        → listOf (record { count = few .count; first = x; second = y }) ≡ pairStaying (partsOf op) (termOf t, termOf u)
     unfolding listOf
-    made-two y ey h = let e : few .count ≡ 2 = omega (arith, m .few) in rw (e, ex, ey) (sym (rw e at times-each))
+    made-two y ey h = let e : few .count ≡ 2 = omega (arith, m .few) in rw (e, ex, ey)
+        (sym (made-staying op t u p few m ∙ ap (λ (n : ℕ). map (timesTerm (joinedScalars (termOf t) (termOf u))) (map termOf (take n (few .first ∷ few .second ∷ [])))) e))

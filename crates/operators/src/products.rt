@@ -1,15 +1,15 @@
-// Products of forms in lent rows: each left term with each right term, all pairs tested first, then gathered.
-ghost use mathlib.Core.List.{flatMap};
+// Products of forms in lent rows: each left term with each right term, what stays of all pairs tested first, then gathered.
 ghost use Prim.Native.Nat.{ℕ, _+_, _*_, _≤_};
 ghost use lib.ListN.{length};
-ghost use Rattle.specification.specs.Reduction.{pairTerms, pairsOf, product, timesForms, dotForms, wedgeForms, tripleForms};
+ghost use Rattle.specification.specs.Reduction.{productTerms, product, timesForms, dotForms, wedgeForms, tripleForms};
 ghost use Rattle.theory.specs.Elements.{All};
 ghost use Rattle.terms.specs.Abstraction.{termOf, Counted};
 ghost use Rattle.rows.specs.Rows.{runOf, Run, Light, formBy, FormRun, RowsGive};
 ghost use Rattle.gathering.specs.Bringing.{Bringable};
 ghost use Rattle.pairing.specs.Parts.{partsOf, listOf};
 ghost use Rattle.sums.specs.Results.{Brought};
-ghost use Rattle.operators.specs.Products.{Scalars, Pair, PairMade, PairFits, rowTerms, PairsFit, Operands, fewBound, pairsBound};
+ghost use Rattle.pair_limits.specs.Limits.{Operands, rowTerms};
+ghost use Rattle.operators.specs.Products.{Scalars, Pair, PairMade, PairFits, PairsFit, fewBound, pairsBound};
 use gathering::bringing::bring_term;
 use pair_limits::test_pairs;
 use pairing::parts::Few;
@@ -40,7 +40,7 @@ fn scalars(t: Term) -> Term
     }
 }
 
-// The terms of one pair, their letters and factors in any order.
+// The terms of one pair that stay, their letters and factors in any order. A pair of which none stays was not tested: its factors are not joined.
 fn pair_terms(op: Operation, t: Term, u: Term) -> Few
     requires { ⌜ Pair op t u ⌝ }
     ensures { λ r. ⌜ PairMade op t u r ⌝ }
@@ -49,6 +49,13 @@ fn pair_terms(op: Operation, t: Term, u: Term) -> Few
     let q = u.part;
     let few = parts(op, p, q);
     let n = few.count;
+    if n == 0 {
+        return Few {
+            count: 0,
+            first: t,
+            second: t,
+        };
+    }
     let b = join(scalars(t), scalars(u));
     let f = few.first;
     let x = join(b, f);
@@ -128,7 +135,7 @@ fn bring_pairs(
     requires { ⌜ Run n (now rows) (now coefs) × Run m (now right) (now rights)
         × PairsFit op n (runOf n (now rows) (now coefs)) m (runOf m (now right) (now rights)) × (96 ≤ length (now more)) × (96 ≤ length (now beside)) ⌝ }
     ensures { λ r. ⌜ Brought (2 * (n * m)) 0 (now (more .entry)) (now (beside .entry))
-        (flatMap (pairTerms (partsOf op)) (pairsOf (runOf n (now (rows .entry)) (now (coefs .entry))) (runOf m (now (right .entry)) (now (rights .entry))))) r
+        (productTerms (partsOf op) (runOf n (now (rows .entry)) (now (coefs .entry))) (runOf m (now (right .entry)) (now (rights .entry)))) r
         (now (more .exit)) (now (beside .exit)) ⌝ }
 {
     let mut count: usize = 0;
@@ -142,7 +149,7 @@ fn bring_pairs(
     count
 }
 
-// The product of two forms whose kinds fit: 7, 8 and 9 of the pairs, then 9 and 10 of what is gathered.
+// The product of two forms whose kinds fit: 7 of the pairs, 8 and 9 of the terms that stay, then 9 and 10 of what is gathered.
 fn multiply(
     op: Operation,
     kind: u8,
@@ -157,7 +164,7 @@ fn multiply(
     ensures { λ w. ⌜ ((a b : ℕ) → RowsGive (product kind (partsOf op) (formBy a n (now (rows .entry)) (now (coefs .entry)))
         (formBy b m (now (right .entry)) (now (rights .entry)))) w (now (rows .exit)) (now (coefs .exit))) ⌝ }
 {
-    let t = test_pairs(n, rows, coefs, m, right, rights);
+    let t = test_pairs(op, n, rows, coefs, m, right, rights);
     if t != 0 {
         return refuse(t);
     }

@@ -7,19 +7,20 @@ use Prim.Native.Nat.{ℕ, zero, suc, _+_, _*_, _-_, _≤_, _<_}
 use native.Mathlib.Nat as N
 use native.Mathlib.Omega.{arith}
 use borrow.Author.Tests.{lt-ltb, le-ltb, le-leb, lt-leb}
-use lib.Dec.{T, leb, leb→le}
+use lib.Dec.{T, leb}
 use lib.IntN.{ℤ, pos, natAbs, _*ℤ_}
 use lib.ListN.{length, take, drop, getD, drop-of-length-le}
 use Rattle.algebra.specs.Integers.{natAbs-*ℤ, sfits-natAbs}
 use Rattle.specification.specs.Lists.{all}
 use Rattle.specification.specs.Terms.{vectorLetters, scalarLetters, coefWithin, termInShape}
 use Rattle.specification.specs.Terms as S
-use Rattle.specification.specs.Reduction.{pairsOf, pairLettersFit, pairCoefFits}
+use Rattle.specification.specs.Reduction.{pairsOf}
 use Rattle.algebra.specs.Conditions.{lt-or-le}
 use Rattle.theory.specs.Tests.{and-false}
 use Rattle.theory.specs.Elements.{All, all-T, all-implies}
-use Rattle.theory.specs.Shape.Terms.{TermShape, term-opens}
+use Rattle.theory.specs.Shape.Terms.{TermShape, term-opens, in-limit}
 use Rattle.theory.specs.Shape.Forms.{FormInShape}
+use Rattle.theory.specs.Reduction.Pairs.{pairLettersFit, pairCoefFits}
 use Rattle.integers.proofs.Machine.{back, back-is}
 use Rattle.terms.specs.declared.types.Term.{Term}
 use Rattle.terms.specs.declared.shape.Used.{Used}
@@ -29,9 +30,8 @@ use Rattle.terms.specs.Used.{UsedBy}
 use Rattle.terms.proofs.Arrays.{all-at}
 use Rattle.rows.specs.Rows.{termBy, runOf, Run, Light}
 use Rattle.rows.proofs.Runs.{run-at}
-use Rattle.letters.specs.Tested.{testOf}
 use Rattle.pair_limits.specs.declared.Most.{Most}
-use Rattle.pair_limits.specs.Limits.{testPairs, larger, coefSize, largest, MostWith, MostOf, MostSmall}
+use Rattle.pair_limits.specs.Limits.{larger, coefSize, largest, MostWith, MostOf, MostSmall}
 
 -- ════ the larger of two
 
@@ -74,7 +74,7 @@ and-first x y l h = go (lt-or-le l x)
     go (inr k) = let j : y ≤ l = omega arith in rw (le-leb x l k, le-leb y l j)
 
 module _ {A : Type 0} where
-  all-join : (f : A → Bool) (xs ys : List A) → all f (xs ++ ys) ≡ (all f xs && all f ys)
+  pub all-join : (f : A → Bool) (xs ys : List A) → all f (xs ++ ys) ≡ (all f xs && all f ys)
   unfolding all
   all-join f [] ys = refl
   all-join f (x ∷ xs) ys = ap (λ (b : Bool). f x && b) (all-join f xs ys) ∙ sym (and-assoc (f x) (all f xs) (all f ys))
@@ -143,15 +143,14 @@ pub record Limited (t : S.Term) : Type 0 where
   pub scalars : scalarLetters t ≤ 2
   pub size : coefSize t ≤ 2147483647
 
+-- a term in shape
+pub limited : (t : S.Term) → T (termInShape t) → Limited t
+unfolding vectorLetters scalarLetters coefSize
+limited t h = let o : TermShape t = term-opens t h in record { vectors = o .fits .vectors; scalars = o .fits .scalars; size = in-limit t h }
+
 -- the terms of a form in shape
 pub form-limited : (f : S.Form) → FormInShape f → All Limited (f .terms)
-unfolding vectorLetters scalarLetters coefSize coefWithin
 form-limited f s = all-implies (λ (t : S.Term). T (termInShape t)) Limited limited (f .terms) (all-T termInShape (f .terms) (s .terms))
-  where
-    limited : (t : S.Term) → T (termInShape t) → Limited t
-    limited t h =
-        let o : TermShape t = term-opens t h in
-        record { vectors = o .fits .vectors; scalars = o .fits .scalars; size = leb→le (natAbs (t .coef)) 2147483647 (o .within) }
 
 module _ (ts us : List S.Term) (h : All Limited ts) (k : All Limited us) where
   most-vectors : largest vectorLetters us ≤ 6
@@ -181,39 +180,13 @@ module _ (ts us : List S.Term) (h : All Limited ts) (k : All Limited us) where
       ∙ all-pairs _*_ (λ a b c d p q. N.mul-le-mul p q) 2147483647 coefSize ts us
       (all-implies Limited (λ (t : S.Term). coefSize t * 0 ≤ 2147483647) (λ t l. omega arith) ts h) (omega arith)
 
-  -- ════ the tests by what was found
-
+  -- by what was found
   module _ (a b : Most) (ma : MostOf ts a) (mb : MostOf us b) where
-    letters-found : all pairLettersFit (pairsOf ts us) ≡ (leb (a .vectors + b .vectors) 6 && leb (a .scalars + b .scalars) 2)
+    pub letters-found : all pairLettersFit (pairsOf ts us) ≡ (leb (a .vectors + b .vectors) 6 && leb (a .scalars + b .scalars) 2)
     letters-found = letters-by-most ∙ (λ i. leb (sym (ma .vectors) i + sym (mb .vectors) i) 6 && leb (sym (ma .scalars) i + sym (mb .scalars) i) 2)
 
-    coefs-found : all pairCoefFits (pairsOf ts us) ≡ leb (a .size * b .size) 2147483647
+    pub coefs-found : all pairCoefFits (pairsOf ts us) ≡ leb (a .size * b .size) 2147483647
     coefs-found = coefs-by-most ∙ (λ i. leb (sym (ma .size) i * sym (mb .size) i) 2147483647)
-
-    -- 8: a pair with too many letters
-    pub eight : (l : Bool) → length ts * length us ≤ 48 → l ≡ (leb (a .vectors + b .vectors) 6 && leb (a .scalars + b .scalars) 2) → l ≡ false
-        → testOf 8 ≡ testPairs ts us
-    unfolding testOf testPairs
-    eight l n e p = rw (le-leb _ 48 n, letters-found ∙ sym e ∙ p)
-
-    -- 9: a pair's coefficient beyond
-    pub nine : (l c : Bool) → length ts * length us ≤ 48 → l ≡ (leb (a .vectors + b .vectors) 6 && leb (a .scalars + b .scalars) 2)
-        → c ≡ leb (a .size * b .size) 2147483647
-        → l ≡ true → c ≡ false → testOf 9 ≡ testPairs ts us
-    unfolding testOf testPairs
-    nine l c n e f p q = rw (le-leb _ 48 n, letters-found ∙ sym e ∙ p, coefs-found ∙ sym f ∙ q)
-
-    -- no pair is refused
-    pub all-fit : (l c : Bool) → length ts * length us ≤ 48 → l ≡ (leb (a .vectors + b .vectors) 6 && leb (a .scalars + b .scalars) 2)
-        → c ≡ leb (a .size * b .size) 2147483647
-        → l ≡ true → c ≡ true → testOf 0 ≡ testPairs ts us
-    unfolding testOf testPairs
-    all-fit l c n e f p q = rw (le-leb _ 48 n, letters-found ∙ sym e ∙ p, coefs-found ∙ sym f ∙ q)
-
--- 7: too many pairs
-pub seven : (ts us : List S.Term) → 48 < length ts * length us → testOf 7 ≡ testPairs ts us
-unfolding testOf testPairs
-seven ts us n = rw (lt-leb _ 48 n)
 
 -- the numbers of terms in shape are small
 pub most-small : (ts : List S.Term) (r : Most) → All Limited ts → MostOf ts r → MostSmall r
@@ -255,7 +228,7 @@ most-more ts rest t m r e h w = subst (λ (l : List S.Term). MostOf l r) (sym e)
   size = w .size ∙ ap (larger (coefSize t)) (h .size);
 })
 
--- the term of a row, in front of those behind it
+-- the rows one by one
 module _ (n : ℕ) (rows : List (List ℕ)) (coefs : List ℤ) (v : Run n rows coefs) where
   pub row-size : Light 2147483647 n coefs → (i : ℕ) → i < n → (t : Term) (z : ℤ) → (termOf t ≡ termBy (getD rows i []) z) × Counted t → z ≡ getD coefs i (pos 0)
       → natAbs (t .coef) ≤ 2147483647
@@ -264,19 +237,24 @@ module _ (n : ℕ) (rows : List (List ℕ)) (coefs : List ℤ) (v : Run n rows c
       subst (λ (y : ℤ). natAbs y ≤ 2147483647) (sym (ap (λ (x : S.Term). x .coef) (q .0) ∙ e))
       (all-at (λ (y : ℤ). natAbs y ≤ 2147483647) coefs n i (pos 0) (v .beside) h l)
 
+  -- the term of a row, in front of those behind it
+  pub in-front : (i : ℕ) → 0 < i → i ≤ n → (t : Term) (z : ℤ) → (termOf t ≡ termBy (getD rows (i - 1) []) z) × Counted t → z ≡ getD coefs (i - 1) (pos 0)
+      → drop (i - 1) (runOf n rows coefs) ≡ termOf t ∷ drop i (runOf n rows coefs)
+  in-front i g h t z q e =
+      let k : i - 1 < n = omega arith in
+      let a : i - 1 + 1 ≡ i = omega arith in
+      run-at rows coefs n (v .room) (v .beside) (i - 1) k ∙ (λ j. (sym (q .0 ∙ ap (termBy (getD rows (i - 1) [])) e)) j ∷ drop (a j) (runOf n rows coefs))
+
   pub most-row : (i : ℕ) → 0 < i → i ≤ n → (t : Term) (z : ℤ) (m r : Most) → (termOf t ≡ termBy (getD rows (i - 1) []) z) × Counted t
       → z ≡ getD coefs (i - 1) (pos 0)
       → MostOf (drop i (runOf n rows coefs)) m → MostWith (termOf t) m r → MostOf (drop (i - 1) (runOf n rows coefs)) r
   most-row i g h t z m r q e w d =
-      let k : i - 1 < n = omega arith in
-      let a : i - 1 + 1 ≡ i = omega arith in
-      most-more (drop (i - 1) (runOf n rows coefs)) (drop i (runOf n rows coefs)) (termOf t) m r
-      (run-at rows coefs n (v .room) (v .beside) (i - 1) k ∙ (λ j. (sym (q .0 ∙ ap (termBy (getD rows (i - 1) [])) e)) j ∷ drop (a j) (runOf n rows coefs))) w d
+      most-more (drop (i - 1) (runOf n rows coefs)) (drop i (runOf n rows coefs)) (termOf t) m r (in-front i g h t z q e) w d
 
 -- all of them
-pub most-all : (ts : List S.Term) (i : ℕ) (m : Most) → i ≤ 0 → MostOf (drop i ts) m → MostOf ts m
-most-all ts zero m h w = w
-most-all ts (suc i) m h w = absurd (omega arith)
+pub from-the-first : (P : List S.Term → Type 0) (ts : List S.Term) (i : ℕ) → i ≤ 0 → P (drop i ts) → P ts
+from-the-first P ts zero h w = w
+from-the-first P ts (suc i) h w = absurd (omega arith)
 
 -- ════ the tests of what was found
 

@@ -1,10 +1,12 @@
 -- What two vector parts make: the terms as data. Assumes nothing.
 use mathlib.Core.Path.{_≡_}
 use mathlib.Core.Logic.{_⊎_}
-use mathlib.Core.List.{List, [], _∷_, map}
+use mathlib.Core.Bool.{Bool, true, false}
+use mathlib.Core.List.{List, [], _∷_, _++_, map}
 use Prim.Native.Nat.{ℕ, _≤_}
-use lib.IntN.{natAbs}
+use lib.IntN.{pos, natAbs}
 use lib.ListN.{take}
+use Rattle.specification.specs.Terms.{exchangeSign}
 use Rattle.specification.specs.Terms as S
 use Rattle.specification.specs.Reduction.{timesParts, dotParts, wedgeParts}
 use Rattle.terms.specs.declared.types.Term.{Term}
@@ -19,11 +21,16 @@ partsOf Times = timesParts
 partsOf Dot = dotParts
 partsOf Wedge = wedgeParts
 
--- a product by a scalar has at most one vector part
+-- a product by a scalar has at most one vector part, its letters in order
 unfoldable pub Together : Operation → List ℕ → List ℕ → Type 0
-Together Times p q = (p ≡ []) ⊎ (q ≡ [])
+Together Times p q = ((p ≡ []) ⊎ (q ≡ [])) × (exchangeSign (p ++ q) ≡ pos 1)
 Together Dot p q = Unit {0}
 Together Wedge p q = Unit {0}
+
+-- there is a term
+unfoldable pub isSome : List S.Term → Bool
+isSome [] = false
+isSome (t ∷ ts) = true
 
 -- a term with the coefficient 1 or −1 and at most two factors
 pub record Small (t : Term) : Type 0 where

@@ -1,2 +1,3 @@
-// Pairs of terms: what their two vector parts make.
+// Pairs of terms: what their two vector parts make, and whether any of it stays.
 pub mod parts;
+pub mod staying;

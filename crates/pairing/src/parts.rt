@@ -1,10 +1,11 @@
-// What two vector parts make in a product: no term, one, or two, as document 01's identities have it.
+// What two vector parts make in a product, as document 01's identities have it, but for terms that vanish: no term, one, or two.
 ghost use mathlib.Core.Path.{_≡_};
 ghost use mathlib.Core.Logic.{_⊎_};
-ghost use mathlib.Core.List.{[], _∷_};
+ghost use mathlib.Core.List.{[], _∷_, _++_};
 ghost use Prim.Native.Nat.{_≤_, _<_};
-ghost use lib.IntN.{natAbs};
-ghost use Rattle.specification.specs.Terms.{plus, minus, dotOf, tripleOf};
+ghost use lib.IntN.{natAbs, pos};
+ghost use Rattle.specification.specs.Results.{if_then_else_};
+ghost use Rattle.specification.specs.Terms.{exchangeSign, isZero, staying, plus, minus, dotOf, tripleOf};
 ghost use Rattle.specification.specs.Reduction.{timesParts, dotParts, wedgeParts};
 ghost use Rattle.terms.specs.Numbers.{lettersOf};
 ghost use Rattle.terms.specs.Abstraction.{partOf, termOf};
@@ -111,6 +112,32 @@ fn two(t: Term, u: Term) -> Few
     }
 }
 
+// One term, unless it vanishes. Only the count tells, so that no array is made twice.
+fn one_unless(gone: bool, t: Term) -> Few
+    requires { ⌜ Small t ⌝ }
+    ensures { λ r. ⌜ FewMade (if gone then [] else termOf t ∷ []) r ⌝ }
+{
+    let n: usize = if gone { 0 } else { 1 };
+    Few {
+        count: n,
+        first: t,
+        second: t,
+    }
+}
+
+// Two terms, or the first alone where the second vanishes.
+fn two_unless(gone: bool, t: Term, u: Term) -> Few
+    requires { ⌜ Small t × Small u ⌝ }
+    ensures { λ r. ⌜ FewMade (termOf t ∷ (if gone then [] else termOf u ∷ [])) r ⌝ }
+{
+    let n: usize = if gone { 1 } else { 2 };
+    Few {
+        count: n,
+        first: t,
+        second: u,
+    }
+}
+
 // One dot, without a vector part.
 fn dot_alone(a: u8, b: u8) -> Few
     ensures { λ r. ⌜ FewMade (plus (dotOf a b ∷ []) [] ∷ []) r ⌝ }
@@ -119,12 +146,28 @@ fn dot_alone(a: u8, b: u8) -> Few
     one(with_factor(1, dot_number(a, b), p))
 }
 
+// Two letters of a triple are equal: it makes its term vanish.
+pub fn vanishing(a: u8, b: u8, c: u8) -> bool
+    ensures { λ r. ⌜ r ≡ isZero (exchangeSign (a ∷ b ∷ c ∷ [])) ⌝ }
+{
+    if a == b {
+        return true;
+    }
+    if a == c {
+        return true;
+    }
+    b == c
+}
+
 // One triple, without a vector part.
 fn triple_alone(a: u8, b: u8, c: u8) -> Few
-    ensures { λ r. ⌜ FewMade (plus (tripleOf a b c ∷ []) [] ∷ []) r ⌝ }
+    ensures { λ r. ⌜ FewMade (staying (plus (tripleOf a b c ∷ []) [] ∷ [])) r ⌝ }
 {
     let p = Part::Nothing;
-    one(with_factor(1, triple_number(a, b, c), p))
+    one_unless(
+        vanishing(a, b, c),
+        with_factor(1, triple_number(a, b, c), p),
+    )
 }
 
 // Two factors with a letter each, the second with the sign turned.
@@ -139,7 +182,7 @@ fn two_letters(k: u32, a: u8, l: u32, b: u8) -> Few
 
 // A letter dot a vector part.
 fn dot_letter(a: u8, q: Part) -> Few
-    ensures { λ r. ⌜ FewMade (dotParts (a ∷ []) (partOf q)) r ⌝ }
+    ensures { λ r. ⌜ FewMade (staying (dotParts (a ∷ []) (partOf q))) r ⌝ }
 {
     match q {
         Part::Nothing => none(),
@@ -159,7 +202,7 @@ fn dot_wedges(a: u8, b: u8, c: u8, d: u8) -> Few
 
 // A wedge dot a vector part.
 fn dot_wedge(a: u8, b: u8, q: Part) -> Few
-    ensures { λ r. ⌜ FewMade (dotParts (a ∷ b ∷ []) (partOf q)) r ⌝ }
+    ensures { λ r. ⌜ FewMade (staying (dotParts (a ∷ b ∷ []) (partOf q))) r ⌝ }
 {
     match q {
         Part::Nothing => none(),
@@ -170,7 +213,7 @@ fn dot_wedge(a: u8, b: u8, q: Part) -> Few
 
 // A vector part dot a vector part.
 fn dot_parts(p: Part, q: Part) -> Few
-    ensures { λ r. ⌜ FewMade (dotParts (partOf p) (partOf q)) r ⌝ }
+    ensures { λ r. ⌜ FewMade (staying (dotParts (partOf p) (partOf q))) r ⌝ }
 {
     match p {
         Part::Nothing => none(),
@@ -181,15 +224,15 @@ fn dot_parts(p: Part, q: Part) -> Few
 
 // The wedge of two letters.
 fn wedge_alone(a: u8, b: u8) -> Few
-    ensures { λ r. ⌜ FewMade (plus [] (a ∷ b ∷ []) ∷ []) r ⌝ }
+    ensures { λ r. ⌜ FewMade (staying (plus [] (a ∷ b ∷ []) ∷ [])) r ⌝ }
 {
     let p = Part::Wedge(a, b);
-    one(alone(p))
+    one_unless(a == b, alone(p))
 }
 
 // A letter wedge a vector part.
 fn wedge_letter(a: u8, q: Part) -> Few
-    ensures { λ r. ⌜ FewMade (wedgeParts (a ∷ []) (partOf q)) r ⌝ }
+    ensures { λ r. ⌜ FewMade (staying (wedgeParts (a ∷ []) (partOf q))) r ⌝ }
 {
     match q {
         Part::Nothing => none(),
@@ -198,20 +241,35 @@ fn wedge_letter(a: u8, q: Part) -> Few
     }
 }
 
+// A wedge wedge a wedge: each of the two terms by itself.
+fn wedge_wedges(a: u8, b: u8, c: u8, d: u8) -> Few
+    ensures { λ r. ⌜ FewMade (staying (wedgeParts (a ∷ b ∷ []) (c ∷ d ∷ []))) r ⌝ }
+{
+    let p = Part::Letter(c);
+    let q = Part::Letter(d);
+    let x = with_factor(1, triple_number(a, b, d), p);
+    let y = with_factor(-1, triple_number(a, b, c), q);
+    let second = vanishing(a, b, c);
+    if vanishing(a, b, d) {
+        return one_unless(second, y);
+    }
+    two_unless(second, x, y)
+}
+
 // A wedge wedge a vector part.
 fn wedge_wedge(a: u8, b: u8, q: Part) -> Few
-    ensures { λ r. ⌜ FewMade (wedgeParts (a ∷ b ∷ []) (partOf q)) r ⌝ }
+    ensures { λ r. ⌜ FewMade (staying (wedgeParts (a ∷ b ∷ []) (partOf q))) r ⌝ }
 {
     match q {
         Part::Nothing => none(),
         Part::Letter(c) => two_letters(dot_number(a, c), b, dot_number(b, c), a),
-        Part::Wedge(c, d) => two_letters(triple_number(a, b, d), c, triple_number(a, b, c), d),
+        Part::Wedge(c, d) => wedge_wedges(a, b, c, d),
     }
 }
 
 // A vector part wedge a vector part.
 fn wedge_parts(p: Part, q: Part) -> Few
-    ensures { λ r. ⌜ FewMade (wedgeParts (partOf p) (partOf q)) r ⌝ }
+    ensures { λ r. ⌜ FewMade (staying (wedgeParts (partOf p) (partOf q))) r ⌝ }
 {
     match p {
         Part::Nothing => none(),
@@ -220,19 +278,19 @@ fn wedge_parts(p: Part, q: Part) -> Few
     }
 }
 
-// The one of two vector parts that is there.
+// The one of two vector parts that is there, its letters in order.
 fn times_parts(p: Part, q: Part) -> Few
-    requires { ⌜ (partOf p ≡ []) ⊎ (partOf q ≡ []) ⌝ }
-    ensures { λ r. ⌜ FewMade (timesParts (partOf p) (partOf q)) r ⌝ }
+    requires { ⌜ ((partOf p ≡ []) ⊎ (partOf q ≡ [])) × (exchangeSign (partOf p ++ partOf q) ≡ pos 1) ⌝ }
+    ensures { λ r. ⌜ FewMade (staying (timesParts (partOf p) (partOf q))) r ⌝ }
 {
     let o = join_parts(p, q);
     one(alone(o))
 }
 
-// What two vector parts make in a product.
+// What two vector parts make in a product, but for terms that vanish.
 pub fn parts(op: Operation, p: Part, q: Part) -> Few
     requires { ⌜ Together op (partOf p) (partOf q) ⌝ }
-    ensures { λ r. ⌜ FewMade (partsOf op (partOf p) (partOf q)) r ⌝ }
+    ensures { λ r. ⌜ FewMade (staying (partsOf op (partOf p) (partOf q))) r ⌝ }
 {
     match op {
         Operation::Times => times_parts(p, q),

@@ -2,14 +2,14 @@
 use mathlib.Core.List.{flatMap}
 use Rattle.specification.specs.Lists.{order, each, all, select, joined, ascend, follows, firstDifference, compareLists, putInto, sorted}
 use Rattle.specification.specs.Letters.{isKind, goodTable, testTable, kindOf, testLetter, testLetters}
-use Rattle.specification.specs.Terms.{termKind, compareTerms, pairSign, signBefore, exchangeSign, factorSign, factorsSign, tidy, timesTerm, isZero, keep, insert}
-use Rattle.specification.specs.Terms.{gatherInto, gather, coefWithin, termWithin, vectorLettersOf, scalarLettersOf, vectorLetters, scalarLetters, within}
+use Rattle.specification.specs.Terms.{termKind, compareTerms, pairSign, signBefore, exchangeSign, factorSign, factorsSign, tidy, isZero, vanishes, staying, timesTerm, keep, insert}
+use Rattle.specification.specs.Terms.{gatherInto, gather, coefWithin, termWithin, vectorLettersOf, scalarLettersOf, vectorLetters, scalarLetters, lettersFit, within}
 use Rattle.specification.specs.Terms.{factorInShape, partInShape, termInShape}
 use Rattle.specification.specs.Records.{toBits32, fromBits32, fourBytes, fourBytesAt, factorsOf, isOne, coefField, countField, bitOf, partBit, writeTerm, writeForm}
 use Rattle.specification.specs.Records.{writeInto, answerForm, formTested, stands, readLetters, readCoef, factorsAt, readFactors, partLetters, goodBits, testShape, readTermAt}
 use Rattle.specification.specs.Records.{partFits, readTerms, readFormAt, readForm, testFactors, testTerm, testTerms, takeForm, takeBoth}
 use Rattle.specification.specs.Expressions.{tokenBytes, testBytes, readLetter, readToken, readOperands, readTree, readExpr}
-use Rattle.specification.specs.Reduction.{timesParts, dotParts, wedgeParts, joinedScalars, pairTerms, pairsOf, pairLettersFit, pairCoefFits, product, negateForm}
+use Rattle.specification.specs.Reduction.{timesParts, dotParts, wedgeParts, joinedScalars, pairTerms, pairsOf, pairStaying, productTerms, product, negateForm}
 use Rattle.specification.specs.Reduction.{sumForms, timesForms, dotForms, wedgeForms, tripleForms, letterForm, constantForm, workWith, reduced}
 use Rattle.specification.specs.Reduction.{reduceCall}
 use Rattle.specification.specs.Insertion.{factorTree, timesFactors, timesPart, termTree, plusTerms, leafWith, insertTerms, insertForm, takeInsertion, withInserted, insertCall}
@@ -24,11 +24,11 @@ use Rattle.specification.specs.Printing.{printForm, printTested, printRe
 
 unfoldable pub computing : Unit {0}
 unfolding flatMap order each all select joined ascend follows firstDifference compareLists putInto sorted isKind goodTable testTable kindOf testLetter testLetters
-    termKind compareTerms pairSign signBefore exchangeSign factorSign factorsSign tidy timesTerm isZero keep insert gatherInto gather coefWithin termWithin
-    vectorLettersOf scalarLettersOf vectorLetters scalarLetters within factorInShape partInShape termInShape toBits32 fromBits32 fourBytes fourBytesAt factorsOf isOne
+    termKind compareTerms pairSign signBefore exchangeSign factorSign factorsSign tidy isZero vanishes staying timesTerm keep insert gatherInto gather coefWithin termWithin
+    vectorLettersOf scalarLettersOf vectorLetters scalarLetters lettersFit within factorInShape partInShape termInShape toBits32 fromBits32 fourBytes fourBytesAt factorsOf isOne
     coefField countField bitOf partBit writeTerm writeForm writeInto answerForm formTested stands readLetters readCoef factorsAt readFactors partLetters goodBits testShape
     readTermAt partFits readTerms readFormAt readForm testFactors testTerm testTerms takeForm takeBoth tokenBytes testBytes readLetter readToken readOperands readTree readExpr
-    timesParts dotParts wedgeParts joinedScalars pairTerms pairsOf pairLettersFit pairCoefFits product negateForm sumForms timesForms dotForms wedgeForms tripleForms
+    timesParts dotParts wedgeParts joinedScalars pairTerms pairsOf pairStaying productTerms product negateForm sumForms timesForms dotForms wedgeForms tripleForms
     letterForm constantForm workWith reduced reduceCall factorTree timesFactors timesPart termTree plusTerms leafWith insertTerms insertForm takeInsertion withInserted insertCall factorValue factorsValue partValue termValue termsValue value exprKind exprValue signedByte sixOrLess
     restIsZero goodAssignment assignment valueCall rule1 rule2 rule3 rule4 bracket rule5 sides ruleLetters ruleKind isRule stepKindsFit stepTerms takeStep testStepLetters
     stepInShape stepAt writeStep writeSteps writeLog readStepAt readSteps readLog sameCoef sameTerms sameForm stepsLetters replay takeSteps checkCall takeTwoForms

@@ -12,10 +12,10 @@ use Rattle.specification.specs.Results.{Result, refused, given}
 use Rattle.specification.specs.Lists.{all}
 use Rattle.specification.specs.Values.{Vec, wedge}
 use Rattle.specification.specs.Letters.{vector}
-use Rattle.specification.specs.Terms.{Form, dotOf, wedgeOf, plus}
+use Rattle.specification.specs.Terms.{Form, dotOf, tripleOf, wedgeOf, plus}
 use Rattle.specification.specs.Records.{writeForm, readForm}
 use Rattle.specification.specs.Insertion.{withInserted}
-use Rattle.specification.specs.Rules.{sides}
+use Rattle.specification.specs.Rules.{sides, Step, takeStep}
 use Rattle.specification.specs.Evaluation.{termsValue}
 use Rattle.specification.specs.Logs.{sameCoef, sameForm}
 use Rattle.specification.specs.Decision.{whole, Before}
@@ -33,6 +33,8 @@ data Example : Type 0 where
   inserts : (form : List ℕ) (letter : ℕ) (inserted bytes : List ℕ) → Example
   -- or the number that they are refused with
   insertRefused : (form : List ℕ) (letter : ℕ) (inserted : List ℕ) (number : ℕ) → Example
+  -- a form, a step, and the number that it is refused with
+  stepRefused : (f : Form) (s : Step) (number : ℕ) → Example
   -- two vectors and their wedge
   wedges : (a b c : Vec) → Example
   -- numbers in a row, and what they assign to a letter
@@ -80,6 +82,19 @@ examples =
     (0x01 ∷ 0x01 ∷ 0x15 ∷ 0x00 ∷ 0x00 ∷ 0x00 ∷ 0x02 ∷ 0x02 ∷ 0x03 ∷ 0x03 ∷ 0x04 ∷ 0x04 ∷ 0x05 ∷ []) 9
     -- "5 for a missing letter", also where the form inserted is the empty scalar form
     ∷ insertRefused (0x01 ∷ 0x00 ∷ []) 6 (0x00 ∷ 0x00 ∷ []) 5
+    -- K4: ((a·a)(a·a)a)∧((b·b)a) "was refused 8 although it is zero"
+    ∷ prints (2 ∷ 1 ∷ 1 ∷ 8 ∷ 6 ∷ 6 ∷ 7 ∷ 1 ∷ 0 ∷ 1 ∷ 0 ∷ 7 ∷ 1 ∷ 0 ∷ 1 ∷ 0 ∷ 1 ∷ 0 ∷ 6 ∷ 7 ∷ 1 ∷ 1 ∷ 1 ∷ 1 ∷ 1 ∷ 0 ∷ []) (48 ∷ 10 ∷ [])
+    -- "tested neither for letters nor coefficient": 2147483647a∧2a
+    ∷ prints (1 ∷ 1 ∷ 8 ∷ 6 ∷ 2 ∷ 0x7f ∷ 0xff ∷ 0xff ∷ 0xff ∷ 1 ∷ 0 ∷ 6 ∷ 2 ∷ 0 ∷ 0 ∷ 0 ∷ 2 ∷ 1 ∷ 0 ∷ []) (48 ∷ 10 ∷ [])
+    -- "of a pair giving two terms, each is judged alone": ((d·d)(a∧b))∧((d·d)(a∧c)) is (d·d)(d·d)(abc)a, of eight letters
+    ∷ prints (4 ∷ 1 ∷ 1 ∷ 1 ∷ 1 ∷ 8 ∷ 6 ∷ 7 ∷ 1 ∷ 3 ∷ 1 ∷ 3 ∷ 8 ∷ 1 ∷ 0 ∷ 1 ∷ 1 ∷ 6 ∷ 7 ∷ 1 ∷ 3 ∷ 1 ∷ 3 ∷ 8 ∷ 1 ∷ 0 ∷ 1 ∷ 2 ∷ []) (82 ∷ 56 ∷ 10 ∷ [])
+    -- like terms that cancel have not vanished: 2147483647(a+b)∧2(a+b)
+    ∷ prints (2 ∷ 1 ∷ 1 ∷ 8 ∷ 6 ∷ 2 ∷ 0x7f ∷ 0xff ∷ 0xff ∷ 0xff ∷ 3 ∷ 1 ∷ 0 ∷ 1 ∷ 1 ∷ 6 ∷ 2 ∷ 0 ∷ 0 ∷ 0 ∷ 2 ∷ 3 ∷ 1 ∷ 0 ∷ 1 ∷ 1 ∷ []) (82 ∷ 57 ∷ 10 ∷ [])
+    -- 7 counts every pair: 49, of which 42 stay, in (a+b+c+d+e+f+g)∧(a+b+c+d+e+f+g)
+    ∷ prints (7 ∷ 1 ∷ 1 ∷ 1 ∷ 1 ∷ 1 ∷ 1 ∷ 1 ∷ 8 ∷ 3 ∷ 1 ∷ 0 ∷ 3 ∷ 1 ∷ 1 ∷ 3 ∷ 1 ∷ 2 ∷ 3 ∷ 1 ∷ 3 ∷ 3 ∷ 1 ∷ 4 ∷ 3 ∷ 1 ∷ 5 ∷ 1 ∷ 6 ∷
+    3 ∷ 1 ∷ 0 ∷ 3 ∷ 1 ∷ 1 ∷ 3 ∷ 1 ∷ 2 ∷ 3 ∷ 1 ∷ 3 ∷ 3 ∷ 1 ∷ 4 ∷ 3 ∷ 1 ∷ 5 ∷ 1 ∷ 6 ∷ []) (82 ∷ 55 ∷ 10 ∷ [])
+    -- "Steps in a log still count beforehand": rule 1 with a a a a, times (abc), would vanish
+    ∷ stepRefused (record { kind = vector; terms = [] }) (record { rule = 1; letters = 0 ∷ 0 ∷ 0 ∷ 0 ∷ []; m = plus (tripleOf 0 1 2 ∷ []) [] }) 8
     -- "a∧b is (a2b3−a3b2, a3b1−a1b3, a1b2−a2b1)"
     ∷ wedges (vec (pos 1) (pos 2) (pos 3)) (vec (pos 4) (pos 5) (pos 7)) (vec (negsuc 0) (pos 5) (negsuc 2))
     -- K2, "whole numbers", "letter by letter and component by component"
@@ -124,6 +139,7 @@ exampleHolds (prints input text) = same (printCall input) text
 exampleHolds (isRecord f bytes) = same (writeForm f) bytes && isForm (readForm bytes) f
 exampleHolds (inserts form letter inserted bytes) = hasRecord (withInserted sixVectors form letter inserted) bytes
 exampleHolds (insertRefused form letter inserted n) = isNumber (withInserted sixVectors form letter inserted) n
+exampleHolds (stepRefused f s n) = isNumber (takeStep f s) n
 exampleHolds (wedges a b c) = sameVec (wedge a b) c
 exampleHolds (assigns numbers letter v) = sameVec (whole numbers letter) v
 exampleHolds (balances rule) =

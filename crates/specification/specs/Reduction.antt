@@ -1,14 +1,15 @@
 -- Reduction: an expression worked into a form. Assumes nothing.
-use mathlib.Core.Bool.{Bool, _&&_, _||_}
+use mathlib.Core.Bool.{_&&_, _||_}
 use mathlib.Core.List.{List, [], _∷_, _++_, map, flatMap}
-use Prim.Native.Nat.{ℕ, _+_, _*_}
+use Prim.Native.Nat.{ℕ, _*_}
 use lib.IntN.{ℤ, _*ℤ_}
 use lib.ListN.{length}
 use lib.Dec.{leb, eqb}
 use Rattle.specification.specs.Lists.{all}
 use Rattle.specification.specs.Results.{Result, given, _>>=_, _>>_, require, if_then_else_}
 use Rattle.specification.specs.Letters.{scalar, vector}
-use Rattle.specification.specs.Terms.{Term, Form, dotOf, tripleOf, wedgeOf, plus, minus, timesTerm, negated, keep, gather, within, coefWithin, vectorLetters, scalarLetters}
+use Rattle.specification.specs.Terms.{Term, Form, dotOf, tripleOf, wedgeOf, plus, minus, timesTerm, staying, negated, keep, gather}
+use Rattle.specification.specs.Terms.{lettersFit, termWithin, within, coefWithin}
 use Rattle.specification.specs.Records.{answerForm, formTested}
 use Rattle.specification.specs.Expressions.{Expr, Letter, Constant, Sum, Difference, Negation, Times, Dot, Wedge, Triple, readExpr}
 
@@ -52,22 +53,21 @@ pairTerms parts p = map (timesTerm (joinedScalars (p .0) (p .1))) (parts (p .0 .
 unfoldable pub pairsOf : List Term → List Term → List (Term × Term)
 pairsOf ts us = flatMap (λ t. map (λ u. (t, u)) us) ts
 
--- "a pair with over 6 vector or 2 scalar letters"
-unfoldable pub pairLettersFit : Term × Term → Bool
-pairLettersFit p =
-    leb (vectorLetters (p .0) + vectorLetters (p .1)) 6 && leb (scalarLetters (p .0) + scalarLetters (p .1)) 2
+-- those terms of a pair that its letters do not make vanish: "of a pair giving two terms, each is judged alone"
+unfoldable pub pairStaying : (List ℕ → List ℕ → List Term) → Term × Term → List Term
+pairStaying parts p = staying (pairTerms parts p)
 
--- "a pair's .. coefficient beyond"
-unfoldable pub pairCoefFits : Term × Term → Bool
-pairCoefFits p = coefWithin (p .0 .coef *ℤ p .1 .coef)
+-- those of all pairs
+unfoldable pub productTerms : (parts : List ℕ → List ℕ → List Term) (ts us : List Term) → List Term
+productTerms parts ts us = flatMap (pairStaying parts) (pairsOf ts us)
 
--- 7, 8 and 9 of the pairs, before it is seen whether one vanishes; then gathered
+-- 7 of all pairs, vanishing ones too; 8 of the terms that stay, then 9 of them; then gathered
 unfoldable pub product : (kind : ℕ) (parts : List ℕ → List ℕ → List Term) (f g : Form) → Result Form
 product kind parts f g = do
   require (leb (length (f .terms) * length (g .terms)) 48) 7
-  require (all pairLettersFit (pairsOf (f .terms) (g .terms))) 8
-  require (all pairCoefFits (pairsOf (f .terms) (g .terms))) 9
-  within kind (gather (flatMap (pairTerms parts) (pairsOf (f .terms) (g .terms))))
+  require (all lettersFit (productTerms parts (f .terms) (g .terms))) 8
+  require (all termWithin (productTerms parts (f .terms) (g .terms))) 9
+  within kind (gather (productTerms parts (f .terms) (g .terms)))
 
 -- "negation only turns the signs"
 unfoldable pub negateForm : Form → Form

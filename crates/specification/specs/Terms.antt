@@ -8,7 +8,7 @@ use Prim.Native.Nat.{ℕ, zero, suc, _+_, Ordering}
 use lib.IntN.{ℤ, pos, negsuc, negℤ, natAbs, _+ℤ_, _*ℤ_}
 use lib.ListN.{length}
 use lib.Dec.{ltb, leb, eqb}
-use Rattle.specification.specs.Lists.{thenBy, byOrder, order, isLess, isNotMore, all, ascend, compareLists, sorted}
+use Rattle.specification.specs.Lists.{thenBy, byOrder, order, isLess, isNotMore, all, select, ascend, compareLists, sorted}
 use Rattle.specification.specs.Results.{Result, given, _>>_, require, if_then_else_}
 use Rattle.specification.specs.Letters.{scalar, vector}
 
@@ -78,13 +78,31 @@ unfoldable pub factorsSign : List (List ℕ) → ℤ
 factorsSign [] = pos 1
 factorsSign (f ∷ fs) = factorSign f *ℤ factorsSign fs
 
+-- the sign that all exchanges in a term leave; 0 where two letters of a triple or a wedge are equal
+abbrev pub termSign : Term → ℤ
+termSign t = factorsSign (t .factors) *ℤ exchangeSign (t .part)
+
 -- letters ascend inside each factor and the part, factors ascend, equal ones kept; a vanishing term gets the coefficient 0
 unfoldable pub tidy : Term → Term
 tidy t = record {
-  coef = t .coef *ℤ (factorsSign (t .factors) *ℤ exchangeSign (t .part));
+  coef = t .coef *ℤ termSign t;
   factors = sorted compareLetters (map (sorted order) (t .factors));
   part = sorted order (t .part);
 }
+
+-- the number 0
+unfoldable pub isZero : ℤ → Bool
+isZero (pos zero) = true
+isZero (pos (suc n)) = false
+isZero (negsuc n) = false
+
+-- "equal letters there make the term vanish"
+unfoldable pub vanishes : Term → Bool
+vanishes t = isZero (termSign t)
+
+-- the terms that do not vanish
+unfoldable pub staying : List Term → List Term
+staying ts = select (λ t. not (vanishes t)) ts
 
 -- the same term with another coefficient
 abbrev pub withCoef : ℤ → Term → Term
@@ -107,12 +125,6 @@ abbrev pub negated : Term → Term
 negated t = withCoef (negℤ (t .coef)) t
 
 -- ════ gathering
-
--- the coefficient 0
-unfoldable pub isZero : ℤ → Bool
-isZero (pos zero) = true
-isZero (pos (suc n)) = false
-isZero (negsuc n) = false
 
 -- a term in front of a list, unless its coefficient is 0: "zeros dropped"
 unfoldable pub keep : Term → List Term → List Term
@@ -162,6 +174,10 @@ vectorLetters t = vectorLettersOf (t .factors) + length (t .part)
 unfoldable pub scalarLetters : Term → ℕ
 scalarLetters t = scalarLettersOf (t .factors)
 
+-- "at most 6 vector letters and 2 scalar letters"
+unfoldable pub lettersFit : Term → Bool
+lettersFit t = leb (vectorLetters t) 6 && leb (scalarLetters t) 2
+
 -- 9: a gathered coefficient beyond; 10: more than 48 terms; else the form
 unfoldable pub within : (kind : ℕ) (terms : List Term) → Result Form
 within kind ts = do
@@ -194,9 +210,9 @@ factorNotAfter f g = isNotMore (compareLetters f g)
 abbrev pub termBefore : Term → Term → Bool
 termBefore t u = isLess (compareTerms t u)
 
--- a coefficient not 0 and within, order inside, order of factors, and "at most 6 vector letters and 2 scalar letters"
+-- a coefficient not 0 and within, order inside, order of factors, and letters within the limits
 unfoldable pub termInShape : Term → Bool
 termInShape t =
     not (isZero (t .coef)) && coefWithin (t .coef)
     && all factorInShape (t .factors) && ascend factorNotAfter (t .factors) && partInShape (t .part)
-    && leb (vectorLetters t) 6 && leb (scalarLetters t) 2
+    && lettersFit t

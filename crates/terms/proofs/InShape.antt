@@ -8,7 +8,7 @@ use lib.Dec.{ltb, leb, eqb}
 use lib.ListN.{length, getD, take, drop}
 use borrow.Author.Tests.{lt-ltb, le-ltb, le-leb, lt-leb, ltb-true, ltb-false, eqb-true, eqb-false, eq-eqb, ne-eqb}
 use Rattle.specification.specs.Lists.{order, isNotMore, all, ascend}
-use Rattle.specification.specs.Terms.{isZero, coefWithin, factorInShape, factorNotAfter, partInShape, vectorLettersOf, scalarLettersOf, vectorLetters, scalarLetters, termInShape}
+use Rattle.specification.specs.Terms.{isZero, coefWithin, factorInShape, factorNotAfter, partInShape, vectorLettersOf, scalarLettersOf, lettersFit, termInShape}
 use Rattle.specification.specs.Terms as S
 use Rattle.theory.specs.Order.{nat-laws, compares-less, compares-equal, compares-more}
 use Rattle.terms.specs.declared.types.Part.{Part}
@@ -164,21 +164,20 @@ factors-count (k ∷ ks) =
 -- the tests of a term's shape as they are made
 pub shape-of : (t : S.Term) (zero within factors part letters : Bool) → zero ≡ isZero (t .coef) → within ≡ coefWithin (t .coef)
     → factors ≡ (all factorInShape (t .factors) && ascend factorNotAfter (t .factors)) → part ≡ partInShape (t .part)
-    → letters ≡ (leb (vectorLetters t) 6 && leb (scalarLetters t) 2)
+    → letters ≡ lettersFit t
     → (not zero && (within && (factors && (part && letters)))) ≡ termInShape t
 unfolding termInShape
 shape-of t z w f p l ez ew ef ep el =
     rw (ez, ew, ef, ep, el)
     (in-a-row (not (isZero (t .coef))) (coefWithin (t .coef)) (all factorInShape (t .factors)) (ascend factorNotAfter (t .factors)) (partInShape (t .part))
-    (leb (vectorLetters t) 6) (leb (scalarLetters t) 2))
+    (lettersFit t))
   where
-    in-a-row : (z w a b p u v : Bool) → (z && (w && ((a && b) && (p && (u && v))))) ≡ ((((((z && w) && a) && b) && p) && u) && v)
-    in-a-row false w a b p u v = refl
-    in-a-row true false a b p u v = refl
-    in-a-row true true false b p u v = refl
-    in-a-row true true true false p u v = refl
-    in-a-row true true true true false u v = refl
-    in-a-row true true true true true u v = refl
+    in-a-row : (z w a b p l : Bool) → (z && (w && ((a && b) && (p && l)))) ≡ (((((z && w) && a) && b) && p) && l)
+    in-a-row false w a b p l = refl
+    in-a-row true false a b p l = refl
+    in-a-row true true false b p l = refl
+    in-a-row true true true false p l = refl
+    in-a-row true true true true p l = refl
 
 -- the letters of a term, by its factors and its part
 pub part-few : (p : Part) → length (partOf p) ≤ 2

@@ -1,15 +1,16 @@
 -- What holds of every element of a list: joined, mapped, tested. Assumes nothing.
-use mathlib.Core.Path.{_≡_, subst}
+use mathlib.Core.Path.{_≡_, refl, sym, _∙_, ap, subst}
 use mathlib.Core.Logic.{_⊎_, inl, inr}
-use mathlib.Core.Bool.{Bool}
-use mathlib.Core.List.{List, [], _∷_, _++_, map, flatMap}
+use mathlib.Core.Bool.{Bool, true, false}
+use mathlib.Core.List.{List, [], _∷_, _++_, map, flatMap, append-assoc}
 use Prim.Native.Nat.{ℕ, zero, suc, _<_}
 use native.Mathlib.Nat as N
 use native.Mathlib.Omega.{arith}
 use lib.Dec.{T}
 use lib.ListN.{length, getD}
 use Rattle.algebra.specs.Lists.{tabulated}
-use Rattle.specification.specs.Lists.{all, each}
+use Rattle.specification.specs.Results.{if_then_else_}
+use Rattle.specification.specs.Lists.{all, each, select}
 use Rattle.theory.specs.Tests.{and-both, and-split}
 
 -- every element has the property
@@ -42,6 +43,16 @@ module _ {A : Type 0} where
   pub both-all : (P Q : A → Type 0) (xs : List A) → All P xs → All Q xs → All (λ x. P x × Q x) xs
   both-all P Q [] h k = tt
   both-all P Q (x ∷ xs) h k = ((h .0, k .0), both-all P Q xs (h .1) (k .1))
+
+  -- those that pass a test
+  pub all-select : (P : A → Type 0) (f : A → Bool) (xs : List A) → All P xs → All P (select f xs)
+  unfolding select
+  all-select P f [] h = tt
+  all-select P f (x ∷ xs) h = go (f x) (all-select P f xs (h .1))
+    where
+      go : (b : Bool) → All P (select f xs) → All P (if b then x ∷ select f xs else select f xs)
+      go true rest = (h .0, rest)
+      go false rest = rest
 
   -- at one place
   pub all-at : (P : A → Type 0) (xs : List A) (i : ℕ) (d : A) → All P xs → i < length xs → P (getD xs i d)
@@ -96,6 +107,12 @@ all-unmap P f (x ∷ xs) h = (h .0, all-unmap P f xs (h .1))
 pub all-tabulated : {A : Type 0} (P : A → Type 0) (n : ℕ) (f : ℕ → A) → ((i : ℕ) → i < n → P (f i)) → All P (tabulated n f)
 all-tabulated P zero f h = tt
 all-tabulated P (suc n) f h = (h 0 (omega arith), all-tabulated P n (λ i. f (suc i)) (λ i l. h (suc i) (omega arith)))
+
+-- what the elements of two joined lists give
+pub flatMap-append : {A B : Type 0} (f : A → List B) (xs ys : List A) → flatMap f (xs ++ ys) ≡ flatMap f xs ++ flatMap f ys
+unfolding flatMap
+flatMap-append f [] ys = refl
+flatMap-append f (x ∷ xs) ys = ap (λ (l : List _). f x ++ l) (flatMap-append f xs ys) ∙ sym (append-assoc (f x) (flatMap f xs) (flatMap f ys))
 
 -- what each element gives, one list behind the other
 pub all-flatMap : {A B : Type 0} (P : A → Type 0) (Q : B → Type 0) (f : A → List B) → ((x : A) → P x → All Q (f x)) → (xs : List A) → All P xs → All Q (flatMap f xs)

@@ -3,3 +3,4 @@ pub mod Tidy
 pub mod Weights
 pub mod Coefficients
 pub mod Gathered
+pub mod Staying

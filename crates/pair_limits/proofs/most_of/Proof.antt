@@ -9,7 +9,7 @@ use Rattle.terms.proofs.Arrays.{all-at}
 use Rattle.rows.specs.Rows.{RowValid, runOf}
 use Rattle.rows.proofs.Runs.{run-length}
 use Rattle.pair_limits.specs.Limits.{MostOf}
-use Rattle.pair_limits.proofs.Largest.{most-none, row-size, most-row, most-all}
+use Rattle.pair_limits.proofs.Largest.{most-none, row-size, most-row, from-the-first}
 use native.Mathlib.Omega.{arith}
 use Rattle.pair_limits.proofs.most_of.Statement.{statement}
 use Rattle.pair_limits.proofs.most_of.Tie as tie
@@ -70,7 +70,7 @@ loop-again c =
     )
 
 returns : tie.Need-returns Inv-loop μ-loop
-returns c = most-all _ _ _ (c .loop-test .left) (c .before .loop .inv .1)
+returns c = from-the-first (λ ts. MostOf ts (c .before .loop .m)) _ _ (c .loop-test .left) (c .before .loop .inv .1)
 
 pub most-of-spec : {M : Type 1} → statement M
 most-of-spec =

@@ -10,7 +10,7 @@ use Rattle.algebra.specs.Integers as R
 use Rattle.algebra.specs.Integers.{NonZero, factors-nonzero}
 use Rattle.specification.specs.Results.{if_then_else_}
 use Rattle.specification.specs.Lists.{order, sorted}
-use Rattle.specification.specs.Terms.{Term, compareLetters, exchangeSign, factorSign, factorsSign, tidy}
+use Rattle.specification.specs.Terms.{Term, compareLetters, exchangeSign, factorSign, factorsSign, termSign, tidy}
 use Rattle.theory.specs.Elements.{All}
 use Rattle.theory.specs.Order.{Monomial, monomial, nat-laws, letters-laws}
 use Rattle.theory.specs.Sorting as O
@@ -57,12 +57,16 @@ in-order-map (f ∷ fs) a = λ i. O.sort-asc nat-laws f (a .0 .ascend) i ∷ in-
 pub in-order-factors : (fs : List (List ℕ)) → All FactorInOrder fs → O.Asc letters-laws fs → sorted compareLetters (map (sorted order) fs) ≡ fs
 in-order-factors fs a o = ap (sorted compareLetters) (in-order-map fs a) ∙ O.sort-asc letters-laws fs o
 
+-- nor those of a term in the order of forms
+pub in-order-sign : (t : Term) → InOrder (monomial t) → termSign t ≡ pos 1
+in-order-sign t s = λ i. in-order-signs (t .factors) (s .each) i *ℤ strict-sign (t .part) (s .part) i
+
 -- a term in the order of forms is tidy
 pub in-order-tidy : (t : Term) → InOrder (monomial t) → tidy t ≡ t
 unfolding tidy
 in-order-tidy t s =
     λ i. record {
-      coef = ((λ j. t .coef *ℤ (in-order-signs (t .factors) (s .each) j *ℤ strict-sign (t .part) (s .part) j)) ∙ R.*ℤ-1 (t .coef)) i;
+      coef = (ap (λ (z : ℤ). t .coef *ℤ z) (in-order-sign t s) ∙ R.*ℤ-1 (t .coef)) i;
       factors = in-order-factors (t .factors) (s .each) (s .order) i;
       part = strict-sorted (t .part) (s .part) i;
     }

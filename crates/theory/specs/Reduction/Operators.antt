@@ -33,14 +33,14 @@ use Rattle.theory.specs.Reduction.Products.{Denotes, Bilinear, PartOf, F
 -- ════ the operations are bilinear
 
 -- the left or the right operand is the scalar
-abbrev timesLeft : Vec → Vec → Vec
+abbrev pub timesLeft : Vec → Vec → Vec
 timesLeft a b = a .x • b
 
-abbrev timesRight : Vec → Vec → Vec
+abbrev pub timesRight : Vec → Vec → Vec
 timesRight a b = b .x • a
 
 -- the dot as a vector with 0 in the last two
-abbrev dotOp : Vec → Vec → Vec
+abbrev pub dotOp : Vec → Vec → Vec
 dotOp a b = scalarValue (dot a b)
 
 timesLeft-bilinear : Bilinear timesLeft

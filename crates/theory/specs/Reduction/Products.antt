@@ -1,29 +1,29 @@
 -- Products of forms: for a bilinear operation that the products of vector parts follow, the product of two forms has the operation's value, is in shape, and has letters of the table.
 -- Assumes nothing.
 use mathlib.Core.Path.{_≡_, refl, sym, _∙_, ap, subst}
-use mathlib.Core.List.{List, [], _∷_, _++_, map, flatMap, append-assoc}
-use Prim.Native.Nat.{ℕ, _+_, _*_, _≤_}
-use native.Mathlib.Omega.{arith}
+use mathlib.Core.List.{List, [], _∷_, _++_, map, flatMap}
+use Prim.Native.Nat.{ℕ, _*_, _+_, _≤_}
 use lib.IntN.{ℤ, pos, _*ℤ_}
-use lib.Dec.{T, leb, leb→le}
+use lib.Dec.{T, leb}
 use lib.ListN.{length}
 use Rattle.algebra.specs.Integers as R
 use Rattle.specification.specs.Lists.{all}
 use Rattle.specification.specs.Results.{given}
 use Rattle.specification.specs.Values.{Vec, scalarValue, _+v_, _•_}
 use Rattle.specification.specs.Letters.{vector}
-use Rattle.specification.specs.Terms.{Term, Form, timesTerm, gather, within, vectorLetters, scalarLetters}
-use Rattle.specification.specs.Reduction.{joinedScalars, pairTerms, pairsOf, pairLettersFit, pairCoefFits, product}
+use Rattle.specification.specs.Terms.{Term, Form, timesTerm, staying, gather, lettersFit, termWithin, within}
+use Rattle.specification.specs.Reduction.{joinedScalars, pairTerms, pairsOf, pairStaying, productTerms, product}
 use Rattle.specification.specs.Evaluation.{factorValue, factorsValue, partValue, termValue, termsValue, value}
-use Rattle.theory.specs.Tests.{and-split, required}
-use Rattle.theory.specs.Elements.{All, all-append, both-all, all-T, all-map, all-flatMap}
+use Rattle.theory.specs.Tests.{required}
+use Rattle.theory.specs.Elements.{All, all-append, all-implies, both-all, all-T, all-map, flatMap-append, all-flatMap}
 use Rattle.theory.specs.Order.{monomial}
-use Rattle.theory.specs.Shape.Terms.{OneToThree, kindOfPart, Fits, vectors-append, scalars-append}
+use Rattle.theory.specs.Gathering.Staying.{staying-flatMap, all-staying}
+use Rattle.theory.specs.Shape.Terms.{OneToThree, kindOfPart, Fits, Formed, fits-formed, formed-fits}
 use Rattle.theory.specs.Shape.Forms.{FormInShape, AllFit, Within, within-given, within-in-shape}
-use Rattle.theory.specs.Shape.Bare.{Bare, times-fits}
+use Rattle.theory.specs.Shape.Bare.{Bare}
 use Rattle.theory.specs.Shape.Letters.{Known, FactorKnown, MonomialKnown, AllKnown, times-known, gather-known}
 use Rattle.theory.specs.Values.Vectors.{one-•, zero-•, •-zero, •-•, •-+}
-use Rattle.theory.specs.Values.Terms.{append-value, gather-value}
+use Rattle.theory.specs.Values.Terms.{append-value, gather-value, staying-value}
 
 -- ════ what a form denotes
 
@@ -44,7 +44,7 @@ within-denotes table kind ts f k h known e =
       kindIs = ap (λ (f : Form). f .kind) (w .is);
       inShape = within-in-shape kind ts f k h w;
       known = subst (λ (f : Form). AllKnown table (f .terms)) (sym (w .is)) (gather-known table ts known);
-      valueIs = λ σ. ap (λ (f : Form). termsValue σ (f .terms)) (w .is) ∙ gather-value σ kind ts h;
+      valueIs = λ σ. ap (λ (f : Form). termsValue σ (f .terms)) (w .is) ∙ gather-value σ kind ts (all-implies (λ (t : Term). Fits kind (monomial t)) (Formed kind) (fits-formed kind) ts h);
     }
 
 -- ════ a term without a vector part times a term
@@ -100,24 +100,32 @@ pairs-all P Q ts us h k =
     all-flatMap P (λ (p : Term × Term). P (p .0) × Q (p .1)) (λ (t : Term). map (λ (u : Term). (t, u)) us)
     (λ t ht. all-map Q (λ (p : Term × Term). P (p .0) × Q (p .1)) (λ (u : Term). (t, u)) (λ u hu. (ht, hu)) us k) ts h
 
+-- ════ what stays of a product
+
+-- the terms that stay, of all pairs together
+pub terms-that-stay : (parts : List ℕ → List ℕ → List Term) (ts us : List Term) → productTerms parts ts us ≡ staying (flatMap (pairTerms parts) (pairsOf ts us))
+unfolding productTerms pairStaying
+terms-that-stay parts ts us = staying-flatMap (pairTerms parts) (pairsOf ts us)
+
+-- what holds of the terms of all pairs holds of those that stay
+of-those-that-stay : (parts : List ℕ → List ℕ → List Term) (P : Term → Type 0) (ts us : List Term) → All P (flatMap (pairTerms parts) (pairsOf ts us)) → All P (productTerms parts ts us)
+of-those-that-stay parts P ts us h = subst (All P) (sym (terms-that-stay parts ts us)) (all-staying P (flatMap (pairTerms parts) (pairsOf ts us)) h)
+
 -- ════ limits and letters of a product
 
 part-of : (kind : ℕ) (t : Term) → Fits kind (monomial t) → PartOf kind (t .part)
 part-of kind t h = record { short = h .part; kindIs = h .kindIs }
 
 module _ (op : Vec → Vec → Vec) (parts : List ℕ → List ℕ → List Term) (left right kind : ℕ) (P : Follows op parts left right kind) where
-  pair-fits : (t u : Term) → Fits left (monomial t) → Fits right (monomial u) → T (pairLettersFit (t, u)) → AllFit kind (pairTerms parts (t, u))
-  unfolding pairTerms joinedScalars pairLettersFit vectorLetters scalarLetters
-  pair-fits t u h k l =
-      let w = and-split (leb (vectorLetters t + vectorLetters u) 6) (leb (scalarLetters t + scalarLetters u) 2) l in
-      let v = leb→le (vectorLetters t + vectorLetters u) 6 (w .0) in
-      let s = leb→le (scalarLetters t + scalarLetters u) 2 (w .1) in
-      all-map (Bare kind (length (t .part) + length (u .part))) (λ (x : Term). Fits kind (monomial x)) (timesTerm (joinedScalars t u))
-      (λ x b. times-fits kind kind (length (t .part) + length (u .part)) (joinedScalars t u) x
-      (all-append OneToThree (t .factors) (u .factors) (h .lengths) (k .lengths))
-      (omega (arith, s, scalars-append (t .factors) (u .factors)))
-      (omega (arith, v, vectors-append (t .factors) (u .factors)))
-      (b .part) (b .kindIs) b)
+  pair-formed : (t u : Term) → Fits left (monomial t) → Fits right (monomial u) → All (Formed kind) (pairTerms parts (t, u))
+  unfolding pairTerms joinedScalars timesTerm
+  pair-formed t u h k =
+      all-map (Bare kind (length (t .part) + length (u .part))) (Formed kind) (timesTerm (joinedScalars t u))
+      (λ x b. record {
+        lengths = all-append OneToThree (t .factors ++ u .factors) (x .factors) (all-append OneToThree (t .factors) (u .factors) (h .lengths) (k .lengths)) (b .lengths);
+        part = b .part;
+        kindIs = b .kindIs;
+      })
       (parts (t .part) (u .part)) (P .partsBare (t .part) (u .part) (part-of left t h) (part-of right u k))
 
   pair-known : (table : List ℕ) (t u : Term) → Fits left (monomial t) → Fits right (monomial u) → MonomialKnown table (monomial t) → MonomialKnown table (monomial u)
@@ -129,14 +137,19 @@ module _ (op : Vec → Vec → Vec) (parts : List ℕ → List ℕ → List Term
       (record { factors = all-append (FactorKnown table) (t .factors) (u .factors) (m .factors) (n .factors); part = tt }) known)
       (parts (t .part) (u .part)) (P .partsKnown table (t .part) (u .part) (part-of left t h) (part-of right u k) (m .part) (n .part))
 
-  -- the terms that all pairs make are of the product's kind, and within the limits
-  pub product-fits : (ts us : List Term) → AllFit left ts → AllFit right us → T (all pairLettersFit (pairsOf ts us)) → AllFit kind (flatMap (pairTerms parts) (pairsOf ts us))
+  -- the terms that all pairs make are of the product's kind
+  pairs-formed : (ts us : List Term) → AllFit left ts → AllFit right us → All (Formed kind) (flatMap (pairTerms parts) (pairsOf ts us))
+  pairs-formed ts us h k =
+      all-flatMap (λ (p : Term × Term). Fits left (monomial (p .0)) × Fits right (monomial (p .1))) (Formed kind) (pairTerms parts)
+      (λ p b. pair-formed (p .0) (p .1) (b .0) (b .1)) (pairsOf ts us)
+      (pairs-all (λ (t : Term). Fits left (monomial t)) (λ (t : Term). Fits right (monomial t)) ts us h k)
+
+  -- those that stay and pass the test of their letters are within the limits
+  pub product-fits : (ts us : List Term) → AllFit left ts → AllFit right us → T (all lettersFit (productTerms parts ts us)) → AllFit kind (productTerms parts ts us)
   product-fits ts us h k l =
-      let Both : Term × Term → Type 0 = λ p. Fits left (monomial (p .0)) × Fits right (monomial (p .1)) in
-      all-flatMap (λ (p : Term × Term). Both p × T (pairLettersFit p)) (λ (t : Term). Fits kind (monomial t)) (pairTerms parts)
-      (λ p b. pair-fits (p .0) (p .1) (b .0 .0) (b .0 .1) (b .1)) (pairsOf ts us)
-      (both-all Both (λ (p : Term × Term). T (pairLettersFit p)) (pairsOf ts us)
-      (pairs-all (λ (t : Term). Fits left (monomial t)) (λ (t : Term). Fits right (monomial t)) ts us h k) (all-T pairLettersFit (pairsOf ts us) l))
+      all-implies (λ (t : Term). Formed kind t × T (lettersFit t)) (λ (t : Term). Fits kind (monomial t)) (λ t b. formed-fits kind t (b .0) (b .1)) (productTerms parts ts us)
+      (both-all (Formed kind) (λ (t : Term). T (lettersFit t)) (productTerms parts ts us)
+      (of-those-that-stay parts (Formed kind) ts us (pairs-formed ts us h k)) (all-T lettersFit (productTerms parts ts us) l))
 
 -- ════ the value of a product
 
@@ -180,19 +193,12 @@ module _ (op : Vec → Vec → Vec) (L : Bilinear op) where
         ∙ (λ i. pair-value σ t u h (k .0) i +v row-value σ t us h (k .1) i)
         ∙ sym (L .sumRight (termValue σ t) (termValue σ u) (termsValue σ us))
 
-    flatMap-append : (ps qs : List (Term × Term)) → flatMap (pairTerms parts) (ps ++ qs) ≡ flatMap (pairTerms parts) ps ++ flatMap (pairTerms parts) qs
-    unfolding flatMap
-    flatMap-append [] qs = refl
-    flatMap-append (p ∷ ps) qs =
-        ap (λ (l : List Term). pairTerms parts p ++ l) (flatMap-append ps qs)
-        ∙ sym (append-assoc (pairTerms parts p) (flatMap (pairTerms parts) ps) (flatMap (pairTerms parts) qs))
-
     pairs-value : (σ : ℕ → Vec) (ts us : List Term) → AllFit left ts → AllFit right us
         → termsValue σ (flatMap (pairTerms parts) (pairsOf ts us)) ≡ op (termsValue σ ts) (termsValue σ us)
     unfolding pairsOf row flatMap termsValue
     pairs-value σ [] us h k = sym (zero-left (termsValue σ us))
     pairs-value σ (t ∷ ts) us h k =
-        ap (termsValue σ) (flatMap-append (row t us) (pairsOf ts us))
+        ap (termsValue σ) (flatMap-append (pairTerms parts) (row t us) (pairsOf ts us))
         ∙ append-value σ (flatMap (pairTerms parts) (row t us)) (flatMap (pairTerms parts) (pairsOf ts us))
         ∙ (λ i. row-value σ t us (h .0) k i +v pairs-value σ ts us (h .1) k i)
         ∙ sym (L .sumLeft (termValue σ t) (termsValue σ ts) (termsValue σ us))
@@ -206,10 +212,10 @@ module _ (op : Vec → Vec → Vec) (L : Bilinear op) where
     unfolding product value
     product-denotes table f g r small h k m n e =
         let pairs : List (Term × Term) = pairsOf (f .terms) (g .terms) in
-        let terms : List Term = flatMap (pairTerms parts) pairs in
+        let terms : List Term = productTerms parts (f .terms) (g .terms) in
         let w₁ = required (leb (length (f .terms) * length (g .terms)) 48) 7 _ r e in
-        let w₂ = required (all pairLettersFit pairs) 8 _ r (w₁ .1) in
-        let w₃ = required (all pairCoefFits pairs) 9 _ r (w₂ .1) in
+        let w₂ = required (all lettersFit terms) 8 _ r (w₁ .1) in
+        let w₃ = required (all termWithin terms) 9 _ r (w₂ .1) in
         let Left : Term → Type 0 = λ t. Fits left (monomial t) × MonomialKnown table (monomial t) in
         let Right : Term → Type 0 = λ t. Fits right (monomial t) × MonomialKnown table (monomial t) in
         let Both : Term × Term → Type 0 = λ p. Left (p .0) × Right (p .1) in
@@ -217,7 +223,13 @@ module _ (op : Vec → Vec → Vec) (L : Bilinear op) where
         (both-all (λ (t : Term). Fits left (monomial t)) (λ (t : Term). MonomialKnown table (monomial t)) (f .terms) h m)
         (both-all (λ (t : Term). Fits right (monomial t)) (λ (t : Term). MonomialKnown table (monomial t)) (g .terms) k n) in
         let fit : AllFit kind terms = product-fits op parts left right kind P (f .terms) (g .terms) h k (w₂ .0) in
-        let known : AllKnown table terms = all-flatMap Both (λ (t : Term). MonomialKnown table (monomial t)) (pairTerms parts)
-        (λ p b. pair-known op parts left right kind P table (p .0) (p .1) (b .0 .0) (b .1 .0) (b .0 .1) (b .1 .1)) pairs both in
+        let known : AllKnown table terms = of-those-that-stay parts (λ (t : Term). MonomialKnown table (monomial t)) (f .terms) (g .terms)
+        (all-flatMap Both (λ (t : Term). MonomialKnown table (monomial t)) (pairTerms parts)
+        (λ p b. pair-known op parts left right kind P table (p .0) (p .1) (b .0 .0) (b .1 .0) (b .0 .1) (b .1 .1)) pairs both) in
         let d : Denotes table r kind (λ σ. termsValue σ terms) = within-denotes table kind terms r small fit known (w₃ .1) in
-        record { kindIs = d .kindIs; inShape = d .inShape; known = d .known; valueIs = λ σ. d .valueIs σ ∙ pairs-value σ (f .terms) (g .terms) h k }
+        record { kindIs = d .kindIs; inShape = d .inShape; known = d .known; valueIs = λ σ. d .valueIs σ ∙ stays σ ∙ pairs-value σ (f .terms) (g .terms) h k }
+      where
+        stays : (σ : ℕ → Vec) → termsValue σ (productTerms parts (f .terms) (g .terms)) ≡ termsValue σ (flatMap (pairTerms parts) (pairsOf (f .terms) (g .terms)))
+        stays σ =
+            ap (termsValue σ) (terms-that-stay parts (f .terms) (g .terms))
+            ∙ staying-value σ kind (flatMap (pairTerms parts) (pairsOf (f .terms) (g .terms))) (pairs-formed op parts left right kind P (f .terms) (g .terms) h k)

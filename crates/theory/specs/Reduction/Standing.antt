@@ -1,32 +1,32 @@
 -- Insertion step by step: what of a form's tree stands as it is, and the rest worked factor by factor, part and term. Assumes nothing.
 use mathlib.Core.Path.{_≡_, refl, sym, _∙_, ap, subst}
-use mathlib.Core.Bool.{Bool, true, false, _&&_, _||_}
+use mathlib.Core.Bool.{Bool, true, false, not, _&&_, _||_}
 use mathlib.Core.List.{List, [], _∷_, _++_, flatMap, append-nil, append-assoc}
 use Prim.Native.Nat.{ℕ, zero, suc, _+_, _≤_}
 use native.Mathlib.Omega.{arith}
 use lib.IntN.{ℤ, pos, negsuc, _*ℤ_}
-use lib.Dec.{T, ltb, leb, eqb, le→leb, eqb-refl}
+use lib.Dec.{T, ltb, leb, eqb, eqb-refl}
 use lib.ListN.{length, take, drop, take-append-drop}
 use lib.Seq.{take-length, drop-length}
 use Rattle.algebra.specs.Integers as R
 use Rattle.algebra.specs.Integers.{NonZero}
-use Rattle.specification.specs.Results.{Result, refused, given, _>>=_, if_then_else_}
-use Rattle.specification.specs.Lists.{all, ascend}
+use Rattle.specification.specs.Results.{Result, refused, given, _>>=_, _>>_, require, if_then_else_}
+use Rattle.specification.specs.Lists.{all, select, ascend}
 use Rattle.specification.specs.Letters.{scalar, vector}
-use Rattle.specification.specs.Terms.{Term, Form, plus, termKind, timesTerm, keep, isZero, gather, coefWithin, within}
-use Rattle.specification.specs.Terms.{vectorLettersOf, scalarLettersOf, vectorLetters, scalarLetters, factorInShape, partInShape, termInShape}
+use Rattle.specification.specs.Terms.{Term, Form, plus, termKind, timesTerm, isZero, vanishes, staying, keep, gather, coefWithin, within}
+use Rattle.specification.specs.Terms.{vectorLettersOf, scalarLettersOf, vectorLetters, scalarLetters, lettersFit, termWithin, factorInShape, partInShape, termInShape}
 use Rattle.specification.specs.Records.{partFits}
 use Rattle.specification.specs.Expressions.{Expr, Constant, Sum, Times}
-use Rattle.specification.specs.Reduction.{timesParts, dotParts, wedgeParts, joinedScalars, pairTerms, pairsOf, pairLettersFit, pairCoefFits, product}
+use Rattle.specification.specs.Reduction.{timesParts, dotParts, wedgeParts, joinedScalars, pairTerms, pairsOf, pairStaying, productTerms, product}
 use Rattle.specification.specs.Reduction.{sumForms, timesForms, dotForms, wedgeForms, tripleForms, letterForm, constantForm, workWith}
 use Rattle.specification.specs.Insertion.{factorTree, timesFactors, timesPart, termTree, plusTerms, leafWith}
-use Rattle.theory.specs.Tests.{is-true, and-both, and-split, passes}
+use Rattle.theory.specs.Tests.{is-true, and-split, passes}
 use Rattle.theory.specs.Elements.{All, all-split, T-all}
 use Rattle.theory.specs.Order.{letters-laws}
 use Rattle.theory.specs.Sorting as O
-use Rattle.theory.specs.Gathering.Tidy.{FactorInOrder}
+use Rattle.theory.specs.Gathering.Tidy.{FactorInOrder, in-order-sign}
 use Rattle.theory.specs.Gathering.Gathered.{gather-again}
-use Rattle.theory.specs.Shape.Terms.{kindOfPart, OneToThree, term-opens, term-closes, factors-in-shape, part-in-shape, vectors-append, scalars-append}
+use Rattle.theory.specs.Shape.Terms.{kindOfPart, OneToThree, term-opens, letters-close, term-closes, factors-in-shape, part-in-shape, vectors-append, scalars-append}
 use Rattle.theory.specs.Shape.Forms.{FormInShape, form-gathered, form-within}
 use Rattle.theory.specs.Shape.Bare.{shapes}
 
@@ -162,30 +162,25 @@ term-within t h =
     let s = term-in-shape t h in
     ap (within (termKind t)) (gather-again (t ∷ []) (form-gathered f s)) ∙ form-within f s
 
--- two terms whose pair makes one term in shape, with their letters and coefficients
-module _ (parts : List ℕ → List ℕ → List Term) (left right : ℕ) (t u v : Term) (makes : pairTerms parts (t, u) ≡ v ∷ [])
-    (vectors : vectorLetters t + vectorLetters u ≡ vectorLetters v) (scalars : scalarLetters t + scalarLetters u ≡ scalarLetters v)
-    (coefs : t .coef *ℤ u .coef ≡ v .coef) (shape : T (termInShape v)) where
-  letters-fit : T (pairLettersFit (t, u))
-  unfolding pairLettersFit vectorLetters scalarLetters
-  letters-fit =
-      let s = term-opens v shape in
-      and-both (leb (vectorLetters t + vectorLetters u) 6) (leb (scalarLetters t + scalarLetters u) 2)
-      (le→leb (vectorLetters t + vectorLetters u) 6 (omega (arith, vectors, s .fits .vectors)))
-      (le→leb (scalarLetters t + scalarLetters u) 2 (omega (arith, scalars, s .fits .scalars)))
+-- a term in shape stays
+stays-in-shape : (t : Term) → T (termInShape t) → staying (t ∷ []) ≡ t ∷ []
+unfolding staying select vanishes isZero
+stays-in-shape t h = ap (λ (z : ℤ). if not (isZero z) then t ∷ [] else []) (in-order-sign t (term-opens t h .inOrder))
 
-  coef-fits : T (pairCoefFits (t, u))
-  unfolding pairCoefFits
-  coef-fits = subst (λ (k : ℤ). T (coefWithin k)) (sym coefs) (term-opens v shape .within)
-
-  -- the product is that term
-  one-product : product (termKind v) parts (oneTerm left t) (oneTerm right u) ≡ given (oneTerm (termKind v) v)
-  unfolding product pairsOf flatMap
-  one-product =
-      passes (all pairLettersFit ((t, u) ∷ [])) 8 _ (T-all pairLettersFit ((t, u) ∷ []) (letters-fit, tt))
-      ∙ passes (all pairCoefFits ((t, u) ∷ [])) 9 _ (T-all pairCoefFits ((t, u) ∷ []) (coef-fits, tt))
-      ∙ ap (λ (ts : List Term). within (termKind v) (gather (ts ++ []))) makes
-      ∙ term-within v shape
+-- two terms whose pair makes one term in shape: the product is that term
+one-product : (parts : List ℕ → List ℕ → List Term) (left right : ℕ) (t u v : Term) → pairTerms parts (t, u) ≡ v ∷ [] → T (termInShape v)
+    → product (termKind v) parts (oneTerm left t) (oneTerm right u) ≡ given (oneTerm (termKind v) v)
+unfolding product productTerms pairStaying pairsOf flatMap termWithin
+one-product parts left right t u v makes shape =
+    let s = term-opens v shape in
+    (λ i. tested (ap staying makes i ++ []))
+    ∙ (λ i. tested (stays-in-shape v shape i ++ []))
+    ∙ passes (all lettersFit (v ∷ [])) 8 _ (T-all lettersFit (v ∷ []) (letters-close v (s .fits .vectors) (s .fits .scalars), tt))
+    ∙ passes (all termWithin (v ∷ [])) 9 _ (T-all termWithin (v ∷ []) (s .within, tt))
+    ∙ term-within v shape
+  where
+    tested : List Term → Result Form
+    tested ts = require (all lettersFit ts) 8 >> (require (all termWithin ts) 9 >> within (termKind v) (gather ts))
 
 -- a scalar term times a term with the coefficient 1
 times-one : (c : ℤ) (fs gs : List (List ℕ)) (p : List ℕ) → T (termInShape (record { coef = c; factors = fs ++ gs; part = p }))
@@ -194,8 +189,7 @@ times-one : (c : ℤ) (fs gs : List (List ℕ)) (p : List ℕ) → T (termInShap
 unfolding timesForms timesParts pairTerms timesTerm joinedScalars vectorLetters scalarLetters termKind
 times-one c fs gs p h =
     one-product timesParts scalar (kindOfPart p) (scalarTerm c fs) (plus gs p) (record { coef = c; factors = fs ++ gs; part = p })
-    (λ i. record { coef = unit i; factors = append-nil (fs ++ gs) i; part = p } ∷ [])
-    (omega (arith, vectors-append fs gs)) (sym (scalars-append fs gs)) (R.*ℤ-1 c) h
+    (λ i. record { coef = unit i; factors = append-nil (fs ++ gs) i; part = p } ∷ []) h
   where
     unit : (c *ℤ pos 1) *ℤ pos 1 ≡ c
     unit = R.*ℤ-1 (c *ℤ pos 1) ∙ R.*ℤ-1 c
@@ -204,7 +198,7 @@ times-one c fs gs p h =
 
 -- a factor in shape is a term in shape
 one-factor : (f : List ℕ) → T (factorInShape f) → T (termInShape (plus (f ∷ []) []))
-unfolding factorInShape all ascend isZero coefWithin vectorLettersOf scalarLettersOf vectorLetters scalarLetters partInShape termInShape
+unfolding factorInShape all ascend isZero coefWithin vectorLettersOf scalarLettersOf vectorLetters scalarLetters lettersFit partInShape termInShape
 one-factor [] h = absurd h
 one-factor (a ∷ []) h = tt
 one-factor (a ∷ b ∷ []) h = rw (is-true (leb a b) h) tt
@@ -218,7 +212,7 @@ one-factor-in-shape f h = term-in-shape (plus (f ∷ []) []) (one-factor f h)
 
 -- a part in shape is a term in shape
 one-part : (p : List ℕ) → T (partInShape p) → T (termInShape (plus [] p))
-unfolding all ascend isZero coefWithin vectorLettersOf scalarLettersOf vectorLetters scalarLetters partInShape termInShape
+unfolding all ascend isZero coefWithin vectorLettersOf scalarLettersOf vectorLetters scalarLetters lettersFit partInShape termInShape
 one-part [] h = tt
 one-part (a ∷ []) h = tt
 one-part (a ∷ b ∷ []) h = rw (is-true (ltb a b) h) tt
@@ -228,13 +222,13 @@ dot-stands : (a b : ℕ) → T (leb a b)
     → dotForms (letterForm a vector) (letterForm b vector) ≡ given (oneTerm scalar (plus ((a ∷ b ∷ []) ∷ []) []))
 unfolding letterForm dotForms dotParts pairTerms timesTerm joinedScalars shapes factorInShape
 dot-stands a b h =
-    one-product dotParts vector vector (plus [] (a ∷ [])) (plus [] (b ∷ [])) (plus ((a ∷ b ∷ []) ∷ []) []) refl refl refl refl (one-factor (a ∷ b ∷ []) h)
+    one-product dotParts vector vector (plus [] (a ∷ [])) (plus [] (b ∷ [])) (plus ((a ∷ b ∷ []) ∷ []) []) refl (one-factor (a ∷ b ∷ []) h)
 
 wedge-stands : (a b : ℕ) → T (ltb a b)
     → wedgeForms (letterForm a vector) (letterForm b vector) ≡ given (oneTerm vector (plus [] (a ∷ b ∷ [])))
 unfolding letterForm wedgeForms wedgeParts pairTerms timesTerm joinedScalars shapes partInShape
 wedge-stands a b h =
-    one-product wedgeParts vector vector (plus [] (a ∷ [])) (plus [] (b ∷ [])) (plus [] (a ∷ b ∷ [])) refl refl refl refl (one-part (a ∷ b ∷ []) h)
+    one-product wedgeParts vector vector (plus [] (a ∷ [])) (plus [] (b ∷ [])) (plus [] (a ∷ b ∷ [])) refl (one-part (a ∷ b ∷ []) h)
 
 triple-stands : (a b c : ℕ) → T (ltb a b && ltb b c)
     → tripleForms (letterForm a vector) (letterForm b vector) (letterForm c vector)
@@ -242,7 +236,7 @@ triple-stands : (a b c : ℕ) → T (ltb a b && ltb b c)
 unfolding letterForm tripleForms dotForms dotParts pairTerms timesTerm joinedScalars shapes factorInShape
 triple-stands a b c h =
     ap (λ (r : Result Form). r >>= λ x. dotForms x (letterForm c vector)) (wedge-stands a b (and-split (ltb a b) (ltb b c) h .0))
-    ∙ one-product dotParts vector vector (plus [] (a ∷ b ∷ [])) (plus [] (c ∷ [])) (plus ((a ∷ b ∷ c ∷ []) ∷ []) []) refl refl refl refl
+    ∙ one-product dotParts vector vector (plus [] (a ∷ b ∷ [])) (plus [] (c ∷ [])) (plus ((a ∷ b ∷ c ∷ []) ∷ []) []) refl
     (one-factor (a ∷ b ∷ c ∷ []) h)
 
 letter-alone : (n : ℕ) → letterForm n vector ≡ oneTerm vector (plus [] (n ∷ []))

@@ -13,7 +13,7 @@ use Rattle.specification.specs.Results.{given, if_then_else_}
 use Rattle.specification.specs.Lists.{all, ascend}
 use Rattle.specification.specs.Values.{Vec, scalarValue, _•_}
 use Rattle.specification.specs.Letters.{scalar, vector, goodTable}
-use Rattle.specification.specs.Terms.{Term, Form, plus, termKind, isZero, keep, insert, coefWithin, vectorLettersOf, scalarLettersOf, vectorLetters, scalarLetters, factorInShape, partInShape, termInShape}
+use Rattle.specification.specs.Terms.{Term, Form, plus, termKind, isZero, keep, insert, coefWithin, vectorLettersOf, scalarLettersOf, vectorLetters, scalarLetters, lettersFit, factorInShape, partInShape, termInShape}
 use Rattle.specification.specs.Records.{partFits, testTerms}
 use Rattle.specification.specs.Expressions.{Expr, Letter, Constant, Sum, Difference, Negation, Times, Dot, Wedge, Triple, readExpr}
 use Rattle.specification.specs.Reduction.{letterForm, constantForm, workWith, work, reduced}
@@ -35,7 +35,7 @@ use Rattle.theory.specs.Reduction.Operators.{denotes-as, sum-denotes, ne
 
 -- a letter alone is a form in shape
 pub letter-form : (n kind : ℕ) → FormInShape (letterForm n kind)
-unfolding letterForm all ascend isZero coefWithin vectorLettersOf scalarLettersOf vectorLetters scalarLetters factorInShape partInShape termInShape partFits termKind
+unfolding letterForm all ascend isZero coefWithin vectorLettersOf scalarLettersOf vectorLetters scalarLetters lettersFit factorInShape partInShape termInShape partFits termKind
 letter-form n kind = go (eqb kind scalar)
   where
     go : (b : Bool) → FormInShape (if b then record { kind = scalar; terms = plus ((n ∷ []) ∷ []) [] ∷ [] } else record { kind = vector; terms = plus [] (n ∷ []) ∷ [] })

@@ -13,7 +13,7 @@ use Rattle.algebra.specs.Integers.{NonZero, pos-nonzero, negsuc-nonzero}
 use Rattle.specification.specs.Results.{if_then_else_}
 use Rattle.specification.specs.Lists.{isNotMore, all, ascend, order, putInto, sorted}
 use Rattle.specification.specs.Letters.{scalar, vector}
-use Rattle.specification.specs.Terms.{Term, compareLetters, tidy, isZero, coefWithin, vectorLettersOf, scalarLettersOf, vectorLetters, scalarLetters, factorInShape, partInShape, factorNotAfter, termInShape}
+use Rattle.specification.specs.Terms.{Term, compareLetters, tidy, isZero, coefWithin, vectorLettersOf, scalarLettersOf, vectorLetters, scalarLetters, lettersFit, factorInShape, partInShape, factorNotAfter, termInShape}
 use Rattle.theory.specs.Tests.{and-both, and-split}
 use Rattle.theory.specs.Elements.{All, all-implies, both-all, all-T, T-all}
 use Rattle.theory.specs.Order.{View, vlt, veq, vgt, Monomial, monomial, LtLetters, letters-laws}
@@ -137,6 +137,16 @@ pub record Fits (kind : ℕ) (m : Monomial) : Type 0 where
   pub scalars : scalarLettersOf (m .1) ≤ 2
   pub kindIs : kindOfPart (m .0) ≡ kind
 
+-- a term of a kind, however many letters it has
+pub record Formed (kind : ℕ) (t : Term) : Type 0 where
+  pub lengths : All OneToThree (t .factors)
+  pub part : length (t .part) ≤ 2
+  pub kindIs : kindOfPart (t .part) ≡ kind
+
+-- so is one within the limits
+pub fits-formed : (kind : ℕ) (t : Term) → Fits kind (monomial t) → Formed kind t
+fits-formed kind t h = record { lengths = h .lengths; part = h .part; kindIs = h .kindIs }
+
 -- what the test of a term's shape says
 pub record TermShape (t : Term) : Type 0 where
   pub nonzero : NonZero (t .coef)
@@ -144,27 +154,41 @@ pub record TermShape (t : Term) : Type 0 where
   pub inOrder : InOrder (monomial t)
   pub fits : Fits (kindOfPart (t .part)) (monomial t)
 
--- seven tests, as a term's shape has them
-seven-both : (a b c d e f g : Bool) → T a → T b → T c → T d → T e → T f → T g → T (a && b && c && d && e && f && g)
-seven-both a b c d e f g ta tb tc td te tf tg =
-    and-both (a && b && c && d && e && f) g
-    (and-both (a && b && c && d && e) f (and-both (a && b && c && d) e (and-both (a && b && c) d (and-both (a && b) c (and-both a b ta tb) tc) td) te) tf) tg
+-- what the test of its letters says
+pub letters-open : (t : Term) → T (lettersFit t) → (vectorLettersOf (t .factors) + length (t .part) ≤ 6) × (scalarLettersOf (t .factors) ≤ 2)
+unfolding lettersFit vectorLetters scalarLetters
+letters-open t h =
+    let w = and-split (leb (vectorLetters t) 6) (leb (scalarLetters t) 2) h in (leb→le (vectorLetters t) 6 (w .0), leb→le (scalarLetters t) 2 (w .1))
 
-seven-split : (a b c d e f g : Bool) → T (a && b && c && d && e && f && g) → T a × T b × T c × T d × T e × T f × T g
-seven-split a b c d e f g t =
-    let w₆ = and-split (a && b && c && d && e && f) g t in
-    let w₅ = and-split (a && b && c && d && e) f (w₆ .0) in
+-- and what makes it hold
+pub letters-close : (t : Term) → vectorLettersOf (t .factors) + length (t .part) ≤ 6 → scalarLettersOf (t .factors) ≤ 2 → T (lettersFit t)
+unfolding lettersFit vectorLetters scalarLetters
+letters-close t v s = and-both (leb (vectorLetters t) 6) (leb (scalarLetters t) 2) (le→leb (vectorLetters t) 6 v) (le→leb (scalarLetters t) 2 s)
+
+-- with it a term of a kind is within the limits
+pub formed-fits : (kind : ℕ) (t : Term) → Formed kind t → T (lettersFit t) → Fits kind (monomial t)
+formed-fits kind t h l =
+    let w = letters-open t l in record { lengths = h .lengths; part = h .part; vectors = w .0; scalars = w .1; kindIs = h .kindIs }
+
+-- six tests, as a term's shape has them
+six-both : (a b c d e f : Bool) → T a → T b → T c → T d → T e → T f → T (a && b && c && d && e && f)
+six-both a b c d e f ta tb tc td te tf =
+    and-both (a && b && c && d && e) f (and-both (a && b && c && d) e (and-both (a && b && c) d (and-both (a && b) c (and-both a b ta tb) tc) td) te) tf
+
+six-split : (a b c d e f : Bool) → T (a && b && c && d && e && f) → T a × T b × T c × T d × T e × T f
+six-split a b c d e f t =
+    let w₅ = and-split (a && b && c && d && e) f t in
     let w₄ = and-split (a && b && c && d) e (w₅ .0) in
     let w₃ = and-split (a && b && c) d (w₄ .0) in
     let w₂ = and-split (a && b) c (w₃ .0) in
     let w₁ = and-split a b (w₂ .0) in
-    (w₁ .0, w₁ .1, w₂ .1, w₃ .1, w₄ .1, w₅ .1, w₆ .1)
+    (w₁ .0, w₁ .1, w₂ .1, w₃ .1, w₄ .1, w₅ .1)
 
 -- what the test says
 pub term-opens : (t : Term) → T (termInShape t) → TermShape t
-unfolding termInShape vectorLetters scalarLetters
+unfolding termInShape
 term-opens t h =
-    let w = seven-split (not (isZero (t .coef))) (coefWithin (t .coef)) (all factorInShape (t .factors)) (ascend factorNotAfter (t .factors)) (partInShape (t .part)) (leb (vectorLetters t) 6) (leb (scalarLetters t) 2) h in
+    let w = six-split (not (isZero (t .coef))) (coefWithin (t .coef)) (all factorInShape (t .factors)) (ascend factorNotAfter (t .factors)) (partInShape (t .part)) (lettersFit t) h in
     let fs = all-T factorInShape (t .factors) (w .2) in
     let p = part-opens (t .part) (w .4) in
     record {
@@ -178,8 +202,8 @@ term-opens t h =
       fits = record {
         lengths = all-implies (λ (f : List ℕ). T (factorInShape f)) OneToThree (λ f h. factor-opens f h .1) (t .factors) fs;
         part = p .1;
-        vectors = leb→le (vectorLetters t) 6 (w .5);
-        scalars = leb→le (scalarLetters t) 2 (w .6);
+        vectors = letters-open t (w .5) .0;
+        scalars = letters-open t (w .5) .1;
         kindIs = refl;
       };
     }
@@ -196,16 +220,15 @@ part-in-shape t s = part-closes (t .part) (s .inOrder .part) (s .fits .part)
 
 -- what makes the test hold
 pub term-closes : (t : Term) → TermShape t → T (termInShape t)
-unfolding termInShape vectorLetters scalarLetters
+unfolding termInShape
 term-closes t s =
-    seven-both (not (isZero (t .coef))) (coefWithin (t .coef)) (all factorInShape (t .factors)) (ascend factorNotAfter (t .factors)) (partInShape (t .part)) (leb (vectorLetters t) 6) (leb (scalarLetters t) 2)
+    six-both (not (isZero (t .coef))) (coefWithin (t .coef)) (all factorInShape (t .factors)) (ascend factorNotAfter (t .factors)) (partInShape (t .part)) (lettersFit t)
     (coef-nonzero (t .coef) (s .nonzero))
     (s .within)
     (T-all factorInShape (t .factors) (factors-in-shape t s))
     (factors-ascend (t .factors) (s .inOrder .order))
     (part-in-shape t s)
-    (le→leb (vectorLetters t) 6 (s .fits .vectors))
-    (le→leb (scalarLetters t) 2 (s .fits .scalars))
+    (letters-close t (s .fits .vectors) (s .fits .scalars))
 
 -- a term in shape has a coefficient within the limit
 pub in-limit : (t : Term) → T (termInShape t) → natAbs (t .coef) ≤ 2147483647

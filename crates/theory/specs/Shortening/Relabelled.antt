@@ -12,7 +12,7 @@ use Rattle.algebra.specs.Integers as R
 use Rattle.algebra.specs.Integers.{NonZero, unit-square, unit-nonzero}
 use Rattle.specification.specs.Results.{if_then_else_}
 use Rattle.specification.specs.Lists.{all, order, sorted}
-use Rattle.specification.specs.Terms.{Term, compareLetters, exchangeSign, factorSign, factorsSign, tidy, withCoef, plus, timesTerm, gather}
+use Rattle.specification.specs.Terms.{Term, compareLetters, exchangeSign, factorSign, factorsSign, termSign, tidy, withCoef, plus, timesTerm, gather}
 use Rattle.theory.specs.Elements.{All, all-implies, all-T}
 use Rattle.theory.specs.Order.{Monomial, monomial, nat-laws, letters-laws}
 use Rattle.theory.specs.Sorting as O
@@ -25,17 +25,13 @@ use Rattle.theory.specs.Rules.Table.{relabel}
 
 -- ════ signs
 
--- the sign that tidying leaves
-unfoldable pub termSign : Term → ℤ
-termSign t = factorsSign (t .factors) *ℤ exchangeSign (t .part)
-
 -- the factors as tidying has them
 abbrev tidied : List (List ℕ) → List (List ℕ)
 tidied fs = sorted compareLetters (map (sorted order) fs)
 
 -- a term that is tidied and does not vanish has the sign 1
 tidy-sign : (t : Term) → NonZero (termSign t) → termSign (tidy t) ≡ pos 1
-unfolding tidy termSign
+unfolding tidy
 tidy-sign t h =
     sym (R.one-*ℤ (termSign (tidy t)))
     ∙ ap (λ (u : Term). u .coef) (in-order-tidy (withCoef (pos 1) (tidy t)) (tidy-in-order (withCoef (pos 1) t) (λ z. h (sym (R.one-*ℤ (termSign t)) ∙ z))))
@@ -88,14 +84,14 @@ module _ (f : ℕ → ℕ) where
     put t = timesTerm m (relabel f t)
 
     sign-put : (t : Term) → termSign t *ℤ termSign (put t) ≡ termSign (tidy t) *ℤ termSign (put (tidy t))
-    unfolding timesTerm tidy termSign
+    unfolding timesTerm tidy
     sign-put t =
         spread t ∙ (λ i. factorsSign (m .factors) *ℤ (both-tidied (t .factors) i *ℤ signs-reordered f (m .part) (reordered-sorted order (t .part)) i))
         ∙ sym (spread (tidy t))
       where
         spread : (t : Term) → termSign t *ℤ termSign (put t) ≡ factorsSign (m .factors) *ℤ (both (t .factors) *ℤ (exchangeSign (t .part) *ℤ exchangeSign (m .part ++ map f (t .part))))
         spread t =
-            unfold timesTerm termSign in
+            unfold timesTerm in
             (ap (λ (z : ℤ). termSign t *ℤ (z *ℤ exchangeSign (m .part ++ map f (t .part)))) (signs-append (m .factors) (map (map f) (t .factors)))
             ∙ regroup (factorsSign (t .factors)) (exchangeSign (t .part)) (factorsSign (m .factors)) (factorsSign (map (map f) (t .factors))) (exchangeSign (m .part ++ map f (t .part))))
 
@@ -111,7 +107,7 @@ module _ (f : ℕ → ℕ) where
 
     -- tidying before changes nothing
     tidy-put : (t : Term) → natAbs (termSign t) ≡ 1 → tidy (put t) ≡ tidy (put (tidy t))
-    unfolding timesTerm tidy termSign
+    unfolding timesTerm tidy
     tidy-put t h =
         λ i. record {
           coef = coefs (m .coef) (t .coef) (termSign t) (termSign (put t)) (termSign (put (tidy t))) (unit-square (termSign t) h)

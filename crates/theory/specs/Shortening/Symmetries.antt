@@ -29,7 +29,7 @@ use Rattle.theory.specs.Gathering.Weights.{scaled}
 use Rattle.theory.specs.Gathering.Coefficients.{coeff}
 use Rattle.theory.specs.Rules.Table.{positions, relabel, by-rule, ruleTerms}
 use Rattle.theory.specs.Replay.Accepted.{sameTerms-eq}
-use Rattle.theory.specs.Shortening.Relabelled.{termSign, unitSigns, added-turned}
+use Rattle.theory.specs.Shortening.Relabelled.{unitSigns, added-turned}
 use Rattle.theory.specs.Shortening.Candidates.{blockSize, inRuleOrder, blockIsFirst}
 
 -- ════ a rule with its letters in blocks
@@ -84,7 +84,7 @@ exchange (suc i) (suc j) = suc (exchange i j)
 
 -- neighbours in the block, and neighbours behind it, turn the sign
 neighbours-turn : (r : ℕ) → T (isRule r) → T (each (ruleLetters r - 1) (λ i. eqb (suc i) (blockSize r) || turns r (negsuc 0) (exchange i)))
-unfolding computing ruleTerms inRuleOrder blockSize turns exchange unitSigns termSign
+unfolding computing ruleTerms inRuleOrder blockSize turns exchange unitSigns
 neighbours-turn = by-rule (λ (r : ℕ). T (each (ruleLetters r - 1) (λ i. eqb (suc i) (blockSize r) || turns r (negsuc 0) (exchange i)))) tt tt tt tt tt
 
 -- the triples of rule 5
@@ -92,7 +92,7 @@ abbrev triples : ℕ → ℕ
 triples i = getD (3 ∷ 4 ∷ 5 ∷ 0 ∷ 1 ∷ 2 ∷ []) i 0
 
 triples-stay : T (turns 5 (pos 1) triples)
-unfolding computing ruleTerms inRuleOrder turns unitSigns termSign
+unfolding computing ruleTerms inRuleOrder turns unitSigns
 triples-stay = tt
 
 -- ════ one exchange

@@ -7,13 +7,13 @@ use lib.IntN as I
 use Rattle.algebra.specs.Integers as R
 use Rattle.specification.specs.Lists.{order, sorted}
 use Rattle.specification.specs.Values.{Vec, scalarValue, _+v_, _•_}
-use Rattle.specification.specs.Terms.{Term, compareLetters, exchangeSign, factorsSign, tidy, negated, insert, gather}
+use Rattle.specification.specs.Terms.{Term, compareLetters, exchangeSign, factorsSign, tidy, staying, negated, insert, gather}
 use Rattle.specification.specs.Evaluation.{factorsValue, partValue, termValue, termsValue}
 use Rattle.theory.specs.Elements.{All, all-implies}
-use Rattle.theory.specs.Order.{Monomial, monomial}
+use Rattle.theory.specs.Order.{Monomial}
 use Rattle.theory.specs.Gathering.Weights.{weight, weigh, weigh-insert, weigh-gather, weigh-tidied}
-use Rattle.theory.specs.Shape.Terms.{Fits}
-use Rattle.theory.specs.Shape.Forms.{AllFit}
+use Rattle.theory.specs.Gathering.Staying.{gather-staying, all-staying}
+use Rattle.theory.specs.Shape.Terms.{Formed}
 use Rattle.theory.specs.Values.Vectors.{by-components, +v-assoc, zero-+v, •-zero, •-•, •-+}
 use Rattle.theory.specs.Values.Exchanges.{factors-sorted, part-sorted}
 
@@ -67,7 +67,7 @@ module _ (σ : ℕ → Vec) where
   -- ════ the theorems
 
   -- a term put in the order of forms has its value
-  pub tidy-value : (kind : ℕ) (t : Term) → Fits kind (monomial t) → termValue σ (tidy t) ≡ termValue σ t
+  pub tidy-value : (kind : ℕ) (t : Term) → Formed kind t → termValue σ (tidy t) ≡ termValue σ t
   unfolding tidy termValue
   tidy-value kind t h =
       let c : ℤ = t .coef in
@@ -91,10 +91,16 @@ module _ (σ : ℕ → Vec) where
       by-components (insert-component (λ v. v .x) first t us) (insert-component (λ v. v .y) second t us) (insert-component (λ v. v .z) third t us)
 
   -- gathering keeps the value
-  pub gather-value : (kind : ℕ) (ts : List Term) → AllFit kind ts → termsValue σ (gather ts) ≡ termsValue σ ts
+  pub gather-value : (kind : ℕ) (ts : List Term) → All (Formed kind) ts → termsValue σ (gather ts) ≡ termsValue σ ts
   gather-value kind ts h =
-      let kept = all-implies (λ (t : Term). Fits kind (monomial t)) (λ (t : Term). termValue σ (tidy t) ≡ termValue σ t) (tidy-value kind) ts h in
+      let kept = all-implies (Formed kind) (λ (t : Term). termValue σ (tidy t) ≡ termValue σ t) (tidy-value kind) ts h in
       by-components (gather-component (λ v. v .x) first ts kept) (gather-component (λ v. v .y) second ts kept) (gather-component (λ v. v .z) third ts kept)
+
+  -- what vanishes has no value
+  pub staying-value : (kind : ℕ) (ts : List Term) → All (Formed kind) ts → termsValue σ (staying ts) ≡ termsValue σ ts
+  staying-value kind ts h =
+      sym (gather-value kind (staying ts) (all-staying (Formed kind) ts h)) ∙ ap (termsValue σ) (gather-staying ts)
+      ∙ gather-value kind ts h
 
   -- joining lists adds their values
   pub append-value : (ts us : List Term) → termsValue σ (ts ++ us) ≡ termsValue σ ts +v termsValue σ us

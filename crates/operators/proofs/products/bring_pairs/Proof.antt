@@ -4,11 +4,13 @@ use mathlib.Core.List.{[]}
 use Prim.Native.Nat.{_*_, _-_, _≤_}
 use denote.Ref.{now}
 use lib.ListN.{length, take}
+use Rattle.specification.specs.Reduction.{productTerms}
 use Rattle.integers.proofs.Machine.{back-is}
 use Rattle.terms.proofs.Arrays.{all-at}
 use Rattle.rows.specs.Rows.{RowValid, runOf}
+use Rattle.pairing.specs.Parts.{partsOf}
 use Rattle.sums.specs.Results.{Brought}
-use Rattle.operators.proofs.Multiplying.{termsOfPairs, pairs-none, pairs-so-far, pairs-light, left-fits, pairs-more, pairs-all}
+use Rattle.operators.proofs.Multiplying.{pairs-none, pairs-so-far, pairs-light, left-fits, pairs-more, pairs-all}
 use native.Mathlib.Omega.{arith}
 use borrow.Author.Needs.{needs}
 use Rattle.operators.proofs.products.bring_pairs.Statement.{statement}
@@ -16,7 +18,7 @@ use Rattle.operators.proofs.products.bring_pairs.Tie as tie
 
 abbrev Inv-loop : tie.InvT-loop
 Inv-loop op n rows coefs m right rights more₀ beside₀ count₀ i₀ more beside count i =
-    (i ≤ n) × Brought (2 * (i * m)) 0 more₀ beside₀ (termsOfPairs op (take i (runOf n rows coefs)) (runOf m right rights)) count more beside
+    (i ≤ n) × Brought (2 * (i * m)) 0 more₀ beside₀ (productTerms (partsOf op) (take i (runOf n rows coefs)) (runOf m right rights)) count more beside
     × (length more ≡ length more₀) × (length beside ≡ length beside₀)
 
 abbrev μ-loop : tie.MeasureT-loop

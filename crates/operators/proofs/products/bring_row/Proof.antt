@@ -9,7 +9,7 @@ use Rattle.terms.specs.Abstraction.{termOf}
 use Rattle.terms.proofs.Arrays.{all-at}
 use Rattle.rows.specs.Rows.{RowValid, runOf}
 use Rattle.sums.specs.Results.{Brought}
-use Rattle.operators.specs.Products.{rowTerms}
+use Rattle.pair_limits.specs.Limits.{rowTerms}
 use Rattle.operators.proofs.Multiplying.{row-none, pair-fits, row-more, row-light, row-all}
 use native.Mathlib.Omega.{arith}
 use borrow.Author.Needs.{needs}

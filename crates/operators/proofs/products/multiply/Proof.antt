@@ -6,7 +6,7 @@ use Rattle.operators.proofs.products.multiply.Statement.{statement}
 use Rattle.operators.proofs.products.multiply.Tie as tie
 
 test-pairs-requires : tie.Need-test-pairs-requires
-test-pairs-requires c κs = let o = c .before .before .pre .0 in (record { kind = _; form = o .leftForm }, record { kind = _; form = o .rightForm })
+test-pairs-requires c κs = record { kind = _; operands = c .before .before .pre .0 }
 
 refuse-requires : tie.Need-refuse-requires
 refuse-requires c κs = search needs

@@ -1,7 +1,7 @@
 -- `operators::products::wedge` meets its contract by the kinds of its operands. Assumes nothing.
 use mathlib.Core.Path.{refl}
 use mathlib.Core.Logic.{inl, inr}
-use Rattle.operators.specs.Products.{Kinds}
+use Rattle.pair_limits.specs.Limits.{Kinds}
 use Rattle.operators.proofs.Multiplying.{wedge-six, wedge-vectors}
 use borrow.Author.Needs.{needs}
 use Rattle.operators.proofs.products.wedge.Statement.{statement}

@@ -15,7 +15,7 @@ one-requires c κs = search needs
 
 returns : tie.Need-returns
 unfolding partOf
-returns c = one-factor _ _ _ _ (c .before .before .dot-number .ensures) (c .before .with-factor .ensures) (c .one .ensures)
+returns c = one-factor _ _ _ _ _ _ (c .before .before .dot-number .ensures) (c .before .with-factor .ensures) (c .one .ensures)
 
 pub dot-alone-spec : {M : Type 1} → statement M
 dot-alone-spec = tie.close (tie.spec dot-number-requires with-factor-requires one-requires returns)

@@ -1,6 +1,6 @@
 use Rattle.specification.specs.Reduction.{dotParts}
 use mathlib.Core.List.{[], _∷_}
-use Rattle.pairing.proofs.Few.{at-nothing, at-letter, at-wedge}
+use Rattle.pairing.proofs.Few.{at-nothing, at-letter, at-wedge, judging}
 use borrow.Author.Needs.{needs}
 use Rattle.pairing.proofs.parts.dot_wedge.Statement.{statement}
 use Rattle.pairing.proofs.parts.dot_wedge.Tie as tie
@@ -24,17 +24,17 @@ dot-wedges-requires : tie.Need-dot-wedges-requires
 dot-wedges-requires c κs = search needs
 
 returns : tie.Need-returns
-unfolding dotParts
+unfolding dotParts judging
 returns c = at-nothing (dotParts ((c .before .before .before .args .a) ∷ (c .before .before .before .args .b) ∷ [])) _ _ (c .before .enum-told .given .1)
     (c .none .ensures)
 
 returns-2 : tie.Need-returns-2
-unfolding dotParts
+unfolding dotParts judging
 returns-2 c = at-letter (dotParts ((c .before .before .before .before .args .a) ∷ (c .before .before .before .before .args .b) ∷ []))
     _ _ _ (c .before .before .q .given .1) (c .triple-alone .ensures)
 
 returns-3 : tie.Need-returns-3
-unfolding dotParts
+unfolding dotParts judging
 returns-3 c = at-wedge (dotParts ((c .before .before .before .before .args .a) ∷ (c .before .before .before .before .args .b) ∷ []))
     _ _ _ _ (c .before .before .q2 .given .1) (c .dot-wedges .ensures)
 

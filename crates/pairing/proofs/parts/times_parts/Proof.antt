@@ -13,7 +13,7 @@ one-requires : tie.Need-one-requires
 one-requires c κs = search needs
 
 returns : tie.Need-returns
-returns c = times-made _ _ _ _ _ (c .before .before .join-parts .ensures) (c .before .alone .ensures) (c .one .ensures)
+returns c = times-made _ _ _ _ _ (c .before .before .before .pre .1) (c .before .before .join-parts .ensures) (c .before .alone .ensures) (c .one .ensures)
 
 pub times-parts-spec : {M : Type 1} → statement M
 times-parts-spec = tie.close (tie.spec join-parts-requires alone-requires one-requires returns)

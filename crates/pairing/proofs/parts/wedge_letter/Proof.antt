@@ -1,6 +1,6 @@
 use Rattle.specification.specs.Reduction.{wedgeParts}
 use mathlib.Core.List.{[], _∷_}
-use Rattle.pairing.proofs.Few.{two-factors, at-nothing, at-letter, at-wedge}
+use Rattle.pairing.proofs.Few.{two-factors, at-nothing, at-letter, at-wedge, judging}
 use borrow.Author.Needs.{needs}
 use Rattle.pairing.proofs.parts.wedge_letter.Statement.{statement}
 use Rattle.pairing.proofs.parts.wedge_letter.Tie as tie
@@ -30,15 +30,15 @@ two-letters-requires : tie.Need-two-letters-requires
 two-letters-requires c κs = search needs
 
 returns : tie.Need-returns
-unfolding wedgeParts
+unfolding wedgeParts judging
 returns c = at-nothing (wedgeParts ((c .before .before .before .args .a) ∷ [])) _ _ (c .before .enum-told .given .1) (c .none .ensures)
 
 returns-2 : tie.Need-returns-2
-unfolding wedgeParts
+unfolding wedgeParts judging
 returns-2 c = at-letter (wedgeParts ((c .before .before .before .before .args .a) ∷ [])) _ _ _ (c .before .before .q .given .1) (c .wedge-alone .ensures)
 
 returns-3 : tie.Need-returns-3
-unfolding wedgeParts
+unfolding wedgeParts judging
 returns-3 c =
     at-wedge (wedgeParts ((c .before .before .before .before .before .before .args .a) ∷ [])) _ _ _ _ (c .before .before .before .before .q2 .given .1)
     (two-factors _ _ _ _ _ _ _ (c .before .before .dot-number .ensures) (c .before .dot-number2 .ensures) (c .two-letters .ensures))

@@ -2,7 +2,7 @@ use Rattle.specification.specs.Reduction.{wedgeParts}
 use Prim.Native.Nat.{ℕ}
 use Rattle.terms.specs.Abstraction.{partOf}
 use mathlib.Core.List.{List}
-use Rattle.pairing.proofs.Few.{at-nothing, at-letter, at-wedge}
+use Rattle.pairing.proofs.Few.{at-nothing, at-letter, at-wedge, judging}
 use borrow.Author.Needs.{needs}
 use Rattle.pairing.proofs.parts.wedge_parts.Statement.{statement}
 use Rattle.pairing.proofs.parts.wedge_parts.Tie as tie
@@ -26,7 +26,7 @@ wedge-wedge-requires : tie.Need-wedge-wedge-requires
 wedge-wedge-requires c κs = search needs
 
 returns : tie.Need-returns
-unfolding wedgeParts
+unfolding wedgeParts judging
 returns c = at-nothing (λ (p : List ℕ). wedgeParts p (partOf (c .before .before .before .args .q))) _ _ (c .before .enum-told .given .1) (c .none .ensures)
 
 returns-2 : tie.Need-returns-2

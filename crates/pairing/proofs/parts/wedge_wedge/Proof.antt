@@ -1,6 +1,6 @@
 use Rattle.specification.specs.Reduction.{wedgeParts}
 use mathlib.Core.List.{[], _∷_}
-use Rattle.pairing.proofs.Few.{two-factors, at-nothing, at-letter, at-wedge}
+use Rattle.pairing.proofs.Few.{two-factors, at-nothing, at-letter, at-wedge, judging}
 use borrow.Author.Needs.{needs}
 use Rattle.pairing.proofs.parts.wedge_wedge.Statement.{statement}
 use Rattle.pairing.proofs.parts.wedge_wedge.Tie as tie
@@ -26,33 +26,25 @@ two-letters-requires c κs = search needs
 enum-known-q-2 : tie.Need-enum-known-q-2
 enum-known-q-2 c = search needs
 
-triple-number-requires : tie.Need-triple-number-requires
-triple-number-requires c κs = search needs
-
-triple-number-requires-2 : tie.Need-triple-number-requires-2
-triple-number-requires-2 c κs = search needs
-
-two-letters-requires-2 : tie.Need-two-letters-requires-2
-two-letters-requires-2 c κs = search needs
+wedge-wedges-requires : tie.Need-wedge-wedges-requires
+wedge-wedges-requires c κs = search needs
 
 returns : tie.Need-returns
-unfolding wedgeParts
+unfolding wedgeParts judging
 returns c = at-nothing (wedgeParts ((c .before .before .before .args .a) ∷ (c .before .before .before .args .b) ∷ [])) _ _ (c .before .enum-told .given .1)
     (c .none .ensures)
 
 returns-2 : tie.Need-returns-2
-unfolding wedgeParts
+unfolding wedgeParts judging
 returns-2 c =
     let w = c .before .before .before .before .before .before in
     at-letter (wedgeParts ((w .args .a) ∷ (w .args .b) ∷ [])) _ _ _ (c .before .before .before .before .q .given .1)
     (two-factors _ _ _ _ _ _ _ (c .before .before .dot-number .ensures) (c .before .dot-number2 .ensures) (c .two-letters .ensures))
 
 returns-3 : tie.Need-returns-3
-unfolding wedgeParts
 returns-3 c =
-    let w = c .before .before .before .before .before .before in
-    at-wedge (wedgeParts ((w .args .a) ∷ (w .args .b) ∷ [])) _ _ _ _ (c .before .before .before .before .q2 .given .1)
-    (two-factors _ _ _ _ _ _ _ (c .before .before .triple-number .ensures) (c .before .triple-number2 .ensures) (c .two-letters2 .ensures))
+    let w = c .before .before .before .before in
+    at-wedge (wedgeParts ((w .args .a) ∷ (w .args .b) ∷ [])) _ _ _ _ (c .before .before .q2 .given .1) (c .wedge-wedges .ensures)
 
 pub wedge-wedge-spec : {M : Type 1} → statement M
 wedge-wedge-spec =
@@ -65,9 +57,7 @@ wedge-wedge-spec =
     dot-number-requires-2
     two-letters-requires
     enum-known-q-2
-    triple-number-requires
-    triple-number-requires-2
-    two-letters-requires-2
+    wedge-wedges-requires
     returns
     returns-2
     returns-3)

@@ -1,7 +1,7 @@
 use mathlib.Core.Path.{_≡_, refl, sym, ap, _∙_}
 use denote.Ref.{now}
 use Rattle.integers.proofs.Machine.{back-is}
-use Rattle.specification.specs.Terms.{isZero, coefWithin, vectorLetters, scalarLetters}
+use Rattle.specification.specs.Terms.{isZero, coefWithin, vectorLetters, scalarLetters, lettersFit}
 use Rattle.terms.specs.Abstraction.{termOf}
 use borrow.Author.Tests.{not-true, not-false}
 use Rattle.terms.proofs.InShape.{shape-of}
@@ -48,7 +48,7 @@ letters-in-shape-requires : tie.Need-letters-in-shape-requires
 letters-in-shape-requires c κs = search needs
 
 returns-5 : tie.Need-returns-5
-unfolding termOf vectorLetters scalarLetters
+unfolding termOf vectorLetters scalarLetters lettersFit
 returns-5 c = sym (sym (shape-of (termOf (record { coef = c .before .before .before .before .before .before .before .before .before .args .c; factors = now (c .before .before .before .before .before .before .before .before .before .args .f); «factor_count» = c .before .before .before .before .before .before .before .before .before .args .n; part = c .before .before .before .before .before .before .before .before .before .args .p })) _ _ _ _ _ (zero (c .before .before .before .before .before .before .before .before)) (small (c .before .before .before .before .before .before)) (c .before .before .before .before .factors-in-shape .ensures) (c .before .before .part-in-shape .ensures) (c .letters-in-shape .ensures)) ∙ rw (c .before .before .before .before .before .before .before .if1 .left, not-false (c .before .before .before .before .before .before .within .result) (c .before .before .before .before .before .if2 .left), not-false (c .before .before .before .before .factors-in-shape .result) (c .before .before .before .if3 .left), not-false (c .before .before .part-in-shape .result) (c .before .if4 .left)))
 
 pub in-shape-spec : {M : Type 1} → statement M
