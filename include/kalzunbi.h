@@ -86,9 +86,10 @@ enum kalzunbi_refusal {
     KALZUNBI_REFUSED_KIND = 6,          /* operands or two forms whose kinds do not fit, a letter of the wrong kind, a step of another kind than the form */
 
     /* the author of the expression; or the sender of the log whose step it is */
-    KALZUNBI_REFUSED_MANY_LETTERS = 8, /* a term of a pair that does not vanish, with over 6 vector letters or over 2 scalar letters; a step's M and
-                                          rule with over 6 vector letters, vanishing or not */
-    KALZUNBI_REFUSED_COEFFICIENT = 9,  /* a coefficient beyond 2147483647 in size */
+    KALZUNBI_REFUSED_MANY_LETTERS = 8, /* a term of a product's pair, one that does not vanish, with over 6 vector letters or over 2 scalar letters; a
+                                          step's M and rule with over 6 vector letters, vanishing or not */
+    KALZUNBI_REFUSED_COEFFICIENT = 9,  /* a coefficient beyond 2147483647 in size: a constant's, that of a term of a product's pair, one that does not
+                                          vanish, a gathered one */
     KALZUNBI_REFUSED_MANY_TERMS = 10,  /* more than 48 terms */
 
     /* the sender of the form or log */

@@ -15,7 +15,7 @@ use Rattle.terms.specs.Valid.{TermValid}
 use Rattle.terms.proofs.Arrays.{all-at}
 use Rattle.rows.specs.Rows.{RowValid, termBy, runOf, SomeForm}
 use Rattle.rows.proofs.Runs.{run-length, run-at}
-use Rattle.sums.proofs.Bringing.{run-holds}
+use Rattle.rows.proofs.Runs.{run-holds}
 
 module _ (n : ℕ) (old : List (List ℕ)) (olds : List ℤ) (s : SomeForm n old olds) where
   -- each row is valid
@@ -31,7 +31,7 @@ module _ (n : ℕ) (old : List (List ℕ)) (olds : List ℤ) (s : SomeForm n old
     term-valid = record {
       counted = m .1;
       inShape = subst (λ (u : S.Term). T (termInShape u)) (sym row-is)
-          (run-holds n old olds (s .form .run .room) (s .form .run .beside) (λ (u : S.Term). T (termInShape u)) i h
+          (run-holds old olds n (s .form .run .room) (s .form .run .beside) (λ (u : S.Term). T (termInShape u)) i h
           (all-T termInShape (runOf n old olds) (s .form .inShape .terms)));
     }
 

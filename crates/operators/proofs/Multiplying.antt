@@ -29,7 +29,7 @@ use Rattle.letters.specs.Tested.{testOf}
 use Rattle.letters.proofs.LetterTests.{test-passed, test-refused}
 use Rattle.rows.specs.declared.Worked.{Worked}
 use Rattle.rows.specs.Rows.{termBy, termsBy, runOf, Run, Light, formBy, RowsGive}
-use Rattle.rows.proofs.Runs.{run-length}
+use Rattle.rows.proofs.Runs.{run-length, run-holds}
 use Rattle.rows.proofs.RowForms.{light-more, rows-refused, rows-as}
 use Rattle.pairing.specs.declared.parts.Few.{Few}
 use Rattle.pairing.specs.declared.parts.Operation.{Operation}
@@ -40,7 +40,7 @@ use Rattle.pair_limits.proofs.Fitting.{kinds-follow, operands-paired}
 use Rattle.gathering.specs.Bringing.{TermBroughtIn}
 use Rattle.sums.specs.Results.{Brought, GatheredRows}
 use Rattle.operators.specs.Products.{PairFits, Pair, PairMade, pairsBound, fewBound, PairsFit}
-use Rattle.sums.proofs.Bringing.{run-taken, run-all, run-holds, brought-none, brought-term, brought-both, brought-as}
+use Rattle.sums.proofs.Bringing.{run-taken, run-all, brought-none, brought-term, brought-both, brought-as}
 
 -- ════ at most two terms brought in
 
@@ -97,7 +97,7 @@ module _ (op : Operation) (t : Term) (m : ℕ) (right : List (List ℕ)) (rights
         left = k;
         right = q .1;
         fits = subst (PairFits op (termOf t)) (sym right-is)
-            (run-holds m right rights (v .room) (v .beside) (PairFits op (termOf t)) j h a);
+            (run-holds right rights m (v .room) (v .beside) (PairFits op (termOf t)) j h a);
       }
 
   -- its terms brought in
@@ -171,7 +171,7 @@ module _ (op : Operation) (n : ℕ) (rows : List (List ℕ)) (coefs : List ℤ) 
   pub left-fits : PairsFit op n (runOf n rows coefs) m us → All (PairFits op (termOf t)) us
   left-fits p =
       subst (λ (x : S.Term). All (PairFits op x) us) (sym left-is)
-      (run-holds n rows coefs (v .room) (v .beside) (λ (x : S.Term). All (PairFits op x) us) i h (p .fits))
+      (run-holds rows coefs n (v .room) (v .beside) (λ (x : S.Term). All (PairFits op x) us) i h (p .fits))
 
   -- their terms brought in
   pub pairs-more : (more₀ : List (List ℕ)) (beside₀ : List ℤ) (count : ℕ) (more : List (List ℕ)) (beside : List ℤ) (s : ℕ) (more' : List (List ℕ))

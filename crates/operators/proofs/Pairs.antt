@@ -1,6 +1,7 @@
 -- The terms of one pair that stay: the scalar parts joined, times what the vector parts make. Assumes nothing.
 use mathlib.Core.Path.{_≡_, refl, ap, sym, subst, _∙_}
 use mathlib.Core.Logic.{_⊎_, inl}
+use mathlib.Core.Bool.{true, false}
 use mathlib.Core.List.{[], _∷_, map}
 use Prim.Native.Nat.{ℕ, zero, suc, _+_, _*_, _≤_, _<_, _^_}
 use native.Mathlib.Nat as N
@@ -22,9 +23,9 @@ use Rattle.tidying.specs.Sorted.{Joined}
 use Rattle.terms.proofs.InShape.{factors-count}
 use Rattle.pairing.specs.declared.parts.Operation.{Operation}
 use Rattle.pairing.specs.declared.parts.Few.{Few}
-use Rattle.pairing.specs.Parts.{partsOf, Small, listOf, FewMade}
+use Rattle.pairing.specs.Parts.{partsOf, isSome, Small, listOf, FewMade}
 use Rattle.pair_limits.specs.Limits.{Paired}
-use Rattle.pair_limits.proofs.Fitting.{paired-staying, paired-letters, paired-coefs}
+use Rattle.pair_limits.proofs.Fitting.{paired-staying, paired-letters, paired-coefs, none-stays, some-stays}
 use Rattle.gathering.specs.Bringing.{Bringable}
 use Rattle.operators.specs.Products.{Scalars, Pair, PairMade}
 
@@ -37,26 +38,26 @@ module _ (op : Operation) (t u : Term) (p : Paired op (termOf t) (termOf u)) (fe
   unfolding termOf
   made-staying = paired-staying op (termOf t) (termOf u) p ∙ ap (map (timesTerm (joinedScalars (termOf t) (termOf u)))) (sym (m .is))
 
-  -- none
-  none-stays : few .count ≡ 0 → pairStaying (partsOf op) (termOf t, termOf u) ≡ []
-  unfolding listOf
-  none-stays e = made-staying ∙ ap (λ (n : ℕ). map (timesTerm (joinedScalars (termOf t) (termOf u))) (map termOf (take n (few .first ∷ few .second ∷ [])))) e
+  -- none, or at least one, by the count
+  count-none : few .count ≡ 0 → isSome (staying (partsOf op (partOf (t .part)) (partOf (u .part)))) ≡ false
+  unfolding listOf isSome
+  count-none e = ap isSome (sym (m .is)) ∙ ap (λ (n : ℕ). isSome (map termOf (take n (few .first ∷ few .second ∷ [])))) e
 
-  -- at least one
-  some-stays : (few .count ≡ 0 → ⊥) → pairStaying (partsOf op) (termOf t, termOf u) ≡ [] → ⊥
-  unfolding listOf
-  some-stays n e = go (few .count) n (sym made-staying ∙ e)
+  count-some : (few .count ≡ 0 → ⊥) → isSome (staying (partsOf op (partOf (t .part)) (partOf (u .part)))) ≡ true
+  unfolding listOf isSome
+  count-some n = ap isSome (sym (m .is)) ∙ go (few .count) n
     where
-      go : (k : ℕ) → (k ≡ 0 → ⊥) → map (timesTerm (joinedScalars (termOf t) (termOf u))) (map termOf (take k (few .first ∷ few .second ∷ []))) ≡ [] → ⊥
-      go zero h q = h refl
-      go (suc k) h q = let l : suc _ ≡ 0 = ap length q in omega (arith, l)
+      go : (k : ℕ) → (k ≡ 0 → ⊥) → isSome (map termOf (take k (few .first ∷ few .second ∷ []))) ≡ true
+      go zero h = absurd (h refl)
+      go (suc k) h = refl
 
 -- ════ a pair of which a term stays
 
 -- it passed the tests
 module _ (op : Operation) (t u : Term) (p : Pair op t u) (few : Few) (m : FewMade (staying (partsOf op (partOf (t .part)) (partOf (u .part)))) few) (n : few .count ≡ 0 → ⊥) where
   one-stays : pairStaying (partsOf op) (termOf t, termOf u) ≡ [] → ⊥
-  one-stays = some-stays op t u (p .fits .paired) few m n
+  unfolding termOf
+  one-stays = some-stays op (termOf t) (termOf u) (p .fits .paired) _ refl (count-some op t u (p .fits .paired) few m n)
 
   pub letters-passed : T (pairLettersFit (termOf t, termOf u))
   letters-passed = subst T (paired-letters op (termOf t) (termOf u) (p .fits .paired) one-stays) (p .fits .letters)
@@ -169,9 +170,9 @@ module _ (op : Operation) (t u : Term) (p : Paired op (termOf t) (termOf u)) (fe
     (m : FewMade (staying (partsOf op (partOf (t .part)) (partOf (u .part)))) few) where
   -- none stays
   pub made-none : few .count ≡ 0 → Counted t → PairMade op t u (record { count = 0; first = t; second = t })
-  unfolding listOf
+  unfolding listOf termOf
   made-none e h =
-      record { is = sym (none-stays op t u p few m e); few = omega arith; first = shape-bringable t h (p .leftShape); second = shape-bringable t h (p .leftShape) }
+      record { is = sym (none-stays op (termOf t) (termOf u) p _ refl (count-none op t u p few m e)); few = omega arith; first = shape-bringable t h (p .leftShape); second = shape-bringable t h (p .leftShape) }
 
   module _ (x : Term) (ex : termOf x ≡ timesTerm (joinedScalars (termOf t) (termOf u)) (termOf (few .first))) where
     -- at most one term

@@ -3,7 +3,7 @@ use mathlib.Core.Path.{_≡_, refl, ap, sym, subst, _∙_}
 use mathlib.Core.Logic.{inl, inr}
 use mathlib.Core.Bool.{Bool, true, false, _&&_}
 use mathlib.Core.List.{List, [], _∷_, _++_, map, flatMap, append-nil}
-use Prim.Native.Nat.{ℕ, suc, _+_, _*_, _-_, _≤_, _<_}
+use Prim.Native.Nat.{ℕ, suc, _+_, _*_, _≤_, _<_}
 use native.Mathlib.Omega.{arith}
 use borrow.Author.Tests.{le-leb, lt-leb}
 use lib.Dec.{T, leb}
@@ -15,7 +15,7 @@ use Rattle.specification.specs.Values.{Vec, wedge}
 use Rattle.specification.specs.Terms.{exchangeSign, staying, timesTerm, lettersFit, termWithin, termInShape}
 use Rattle.specification.specs.Terms as S
 use Rattle.specification.specs.Reduction.{timesParts, dotParts, wedgeParts, joinedScalars, pairsOf, pairStaying, productTerms}
-use Rattle.theory.specs.Tests.{is-true, holds}
+use Rattle.theory.specs.Tests.{is-true, holds, and-true, and-same}
 use Rattle.theory.specs.Elements.{All, all-implies, both-all, all-T, flatMap-append}
 use Rattle.theory.specs.Order.{monomial}
 use Rattle.theory.specs.Signs.{strict-sign}
@@ -30,11 +30,11 @@ use Rattle.theory.specs.Reduction.Pairs.{letters-alike, coefs-alike, stays-by-p
 use Rattle.terms.specs.declared.types.Term.{Term}
 use Rattle.terms.specs.Abstraction.{termOf, Counted}
 use Rattle.rows.specs.Rows.{termBy, runOf, Run, formBy}
+use Rattle.rows.proofs.Runs.{run-holds}
 use Rattle.letters.specs.Tested.{testOf}
 use Rattle.pairing.specs.declared.parts.Operation.{Operation}
 use Rattle.pairing.specs.declared.parts.Operation.the-variants.{Times, Dot, Wedge}
 use Rattle.pairing.specs.Parts.{partsOf, Together, isSome}
-use Rattle.sums.proofs.Bringing.{run-holds}
 use Rattle.pair_limits.specs.declared.Most.{Most}
 use Rattle.pair_limits.specs.declared.Fit.{Fit}
 use Rattle.pair_limits.specs.Limits.{Kinds, Operands, Paired, rowTerms, testPairs, FitOf, MostOf}
@@ -75,13 +75,6 @@ kinds-follow Wedge kind a b k = (
 
 -- ════ a pair
 
-true≢false : true ≡ false → ⊥
-true≢false e = subst T e tt
-
-and-true : (b : Bool) → (b && true) ≡ b
-and-true true = refl
-and-true false = refl
-
 -- where all elements pass alike, and there is one, they pass where it does
 all-alike : (f : S.Term → Bool) (b : Bool) (xs : List S.Term) → All (λ (x : S.Term). f x ≡ b) xs → (xs ≡ [] → ⊥) → all f xs ≡ b
 unfolding all
@@ -91,10 +84,6 @@ all-alike f b (x ∷ y ∷ xs) h n = (λ i. h .0 i && all-alike f b (y ∷ xs) (
   where
     more : y ∷ xs ≡ [] → ⊥
     more e = let l : suc _ ≡ 0 = ap length e in omega (arith, l)
-
-    and-same : (b : Bool) → (b && b) ≡ b
-    and-same true = refl
-    and-same false = refl
 
 module _ (op : Operation) (t u : S.Term) (p : Paired op t u) where
   left-part : PartOf (p .leftKind) (t .part)
@@ -142,18 +131,20 @@ module _ (op : Operation) (t u : S.Term) (p : Paired op t u) where
 
   -- none does
   pub none-stays : (r : Bool) → r ≡ isSome (staying (partsOf op (t .part) (u .part))) → r ≡ false → pairStaying (partsOf op) (t, u) ≡ []
+  unfolding isSome
   none-stays r e h = paired-staying ∙ go (staying (partsOf op (t .part) (u .part))) (sym e ∙ h)
     where
       go : (xs : List S.Term) → isSome xs ≡ false → map (timesTerm (joinedScalars t u)) xs ≡ []
       go [] h = refl
-      go (x ∷ xs) h = absurd (true≢false (unfold isSome in h))
+      go (x ∷ xs) h = absurd (subst T h tt)
 
   -- at least one does
   pub some-stays : (r : Bool) → r ≡ isSome (staying (partsOf op (t .part) (u .part))) → r ≡ true → pairStaying (partsOf op) (t, u) ≡ [] → ⊥
+  unfolding isSome
   some-stays r e h n = go (staying (partsOf op (t .part) (u .part))) (sym e ∙ h) (sym paired-staying ∙ n)
     where
       go : (xs : List S.Term) → isSome xs ≡ true → map (timesTerm (joinedScalars t u)) xs ≡ [] → ⊥
-      go [] h n = true≢false (sym (unfold isSome in h))
+      go [] h n = subst T (sym h) tt
       go (x ∷ xs) h n = let l : suc _ ≡ 0 = ap length n in omega (arith, l)
 
 -- ════ the operands
@@ -186,17 +177,17 @@ operands-paired op kind n rows coefs m right rights o =
 -- what holds of all terms of a run, of the term of a row
 pub at-row : (P : S.Term → Type 0) (n : ℕ) (rows : List (List ℕ)) (coefs : List ℤ) → Run n rows coefs → (i : ℕ) → i < n → (t : Term) (z : ℤ)
     → (termOf t ≡ termBy (getD rows i []) z) × Counted t → z ≡ getD coefs i (pos 0) → All P (runOf n rows coefs) → P (termOf t)
-at-row P n rows coefs v i h t z q e a = subst P (sym (q .0 ∙ ap (termBy (getD rows i [])) e)) (run-holds n rows coefs (v .room) (v .beside) P i h a)
+at-row P n rows coefs v i h t z q e a = subst P (sym (q .0 ∙ ap (termBy (getD rows i [])) e)) (run-holds rows coefs n (v .room) (v .beside) P i h a)
 
 -- ════ pair by pair
 
 -- two tests, the second made only where the first holds
-pub and-second : (a b : Bool) → a ≡ true → b ≡ (a && b)
-and-second a b e = sym (ap (λ (x : Bool). x && b) e)
+pub and-where-true : (a b : Bool) → a ≡ true → b ≡ (a && b)
+and-where-true a b e = sym (ap (λ (x : Bool). x && b) e)
 
 -- and where it does not
-pub and-first : (a b : Bool) → a ≡ false → a ≡ (a && b)
-and-first a b e = e ∙ sym (ap (λ (x : Bool). x && b) e)
+pub and-where-false : (a b : Bool) → a ≡ false → a ≡ (a && b)
+and-where-false a b e = e ∙ sym (ap (λ (x : Bool). x && b) e)
 
 -- no term
 pub fit-none : FitOf [] (record { letters = true; coefs = true })

@@ -41,7 +41,7 @@ pub record SomeOperands (op : Operation) (n : ℕ) (rows : List (List ℕ)) (coe
   pub kind : ℕ
   pub operands : Operands op kind n rows coefs m right rights
 
--- a term of each
+-- a term of each of two such forms
 pub record Paired (op : Operation) (t u : Term) : Type 0 where
   pub kind : ℕ
   pub leftKind : ℕ

@@ -96,7 +96,7 @@ fn coefs_fit(a: Most, b: Most) -> bool
     a.size * b.size <= 2147483647
 }
 
-// Those of both lists of terms.
+// Of two lists of terms together.
 fn both(a: Fit, b: Fit) -> Fit
     ensures { λ r. ⌜ (r .letters ≡ (a .letters && b .letters)) × (r .coefs ≡ (a .coefs && b .coefs)) ⌝ }
 {

@@ -3,17 +3,18 @@ use mathlib.Core.Path.{_≡_, refl, ap, sym, subst, _∙_}
 use mathlib.Core.Logic.{_⊎_, inl, inr}
 use mathlib.Core.Bool.{Bool, true, false, not}
 use mathlib.Core.List.{List, [], _∷_, _++_}
-use Prim.Native.Nat.{ℕ, zero, suc, _<_}
+use Prim.Native.Nat.{ℕ, _<_}
 use native.Mathlib.Omega.{arith}
 use borrow.Author.Tests.{eq-eqb, ne-eqb}
 use lib.Dec.{eqb}
 use lib.IntN.{ℤ, pos, negsuc, _*ℤ_}
-use Rattle.algebra.specs.Integers.{NonZero, one-*ℤ, *ℤ-1}
+use Rattle.algebra.specs.Integers.{one-*ℤ, *ℤ-1}
 use Rattle.specification.specs.Results.{if_then_else_}
 use Rattle.specification.specs.Lists.{select}
 use Rattle.specification.specs.Terms.{pairSign, signBefore, exchangeSign, factorSign, factorsSign, isZero, vanishes, staying, plus, minus}
 use Rattle.specification.specs.Terms as S
 use Rattle.specification.specs.Reduction.{timesParts, wedgeParts}
+use Rattle.theory.specs.Tests.{not-zero}
 use Rattle.theory.specs.Order.{nat-laws}
 use Rattle.theory.specs.Sorting as O
 use Rattle.theory.specs.Signs.{pair-eq}
@@ -140,19 +141,10 @@ unfoldable pub judging : Unit {0}
 unfolding staying select vanishes isZero factorsSign factorSign exchangeSign signBefore
 judging = tt
 
-zero-test : (z : ℤ) → z ≡ pos 0 → true ≡ isZero z
-unfolding isZero
-zero-test z e = sym (ap isZero e)
-
-other-test : (z : ℤ) → NonZero z → false ≡ isZero z
-unfolding isZero
-other-test (pos zero) h = absurd (h refl)
-other-test (pos (suc n)) h = refl
-other-test (negsuc n) h = refl
-
 -- three letters of which two are equal
 pub two-equal : (a b c : ℕ) → (a ≡ b) ⊎ ((a ≡ c) ⊎ (b ≡ c)) → true ≡ isZero (exchangeSign (a ∷ b ∷ c ∷ []))
-two-equal a b c h = zero-test (exchangeSign (a ∷ b ∷ c ∷ [])) (zero-exactly a b c .1 h)
+unfolding isZero
+two-equal a b c h = sym (ap isZero (zero-exactly a b c .1 h))
 
 -- the last two decide where the first is like neither
 pub last-two : (a b c : ℕ) → (a ≡ b → ⊥) → (a ≡ c → ⊥) → eqb b c ≡ isZero (exchangeSign (a ∷ b ∷ c ∷ []))
@@ -164,7 +156,7 @@ last-two a b c h k = go (O.tri nat-laws b c)
     none-equal n (inr (inr e)) = n e
 
     differ : (b ≡ c → ⊥) → eqb b c ≡ isZero (exchangeSign (a ∷ b ∷ c ∷ []))
-    differ n = ne-eqb b c n ∙ other-test (exchangeSign (a ∷ b ∷ c ∷ [])) (λ z. none-equal n (zero-exactly a b c .0 z))
+    differ n = ne-eqb b c n ∙ sym (not-zero (exchangeSign (a ∷ b ∷ c ∷ [])) (λ z. none-equal n (zero-exactly a b c .0 z)))
 
     go : ((b < c) ⊎ (b ≡ c)) ⊎ (c < b) → eqb b c ≡ isZero (exchangeSign (a ∷ b ∷ c ∷ []))
     go (inl (inl l)) = differ (λ e. omega (arith, e, l))
@@ -187,12 +179,16 @@ wedge-judged a b =
 
 -- the sign of two letters is 0 where they are equal
 equal-sign : (a b : ℕ) → isZero (pairSign a b) ≡ eqb a b
+unfolding isZero
 equal-sign a b = go (O.tri nat-laws a b)
   where
+    differ : (a ≡ b → ⊥) → isZero (pairSign a b) ≡ eqb a b
+    differ n = not-zero (pairSign a b) (λ z. n (pair-zero a b z)) ∙ sym (ne-eqb a b n)
+
     go : ((a < b) ⊎ (a ≡ b)) ⊎ (b < a) → isZero (pairSign a b) ≡ eqb a b
-    go (inl (inl l)) = sym (other-test (pairSign a b) (λ z. omega (arith, pair-zero a b z, l))) ∙ sym (ne-eqb a b (λ e. omega (arith, e, l)))
-    go (inl (inr e)) = sym (zero-test (pairSign a b) (pair-eq a b e)) ∙ sym (eq-eqb a b e)
-    go (inr l) = sym (other-test (pairSign a b) (λ z. omega (arith, pair-zero a b z, l))) ∙ sym (ne-eqb a b (λ e. omega (arith, e, l)))
+    go (inl (inl l)) = differ (λ e. omega (arith, e, l))
+    go (inl (inr e)) = ap isZero (pair-eq a b e) ∙ sym (eq-eqb a b e)
+    go (inr l) = differ (λ e. omega (arith, e, l))
 
 -- a term, unless it goes
 stays-unless : (t : S.Term) (gone : Bool) (ts : List S.Term) → vanishes t ≡ gone → (if gone then staying ts else t ∷ staying ts) ≡ staying (t ∷ ts)

@@ -9,7 +9,7 @@ use crate::parts::Operation;
 use crate::parts::vanishing;
 use terms::types::Part;
 
-// A letter dot a vector part: it is in no wedge with it.
+// A letter dot a vector part: what it makes stays unless the letter is in the wedge.
 fn dot_letter_stays(a: u8, q: Part) -> bool
     ensures { λ r. ⌜ r ≡ isSome (staying (dotParts (a ∷ []) (partOf q))) ⌝ }
 {
@@ -53,7 +53,7 @@ fn wedge_letter_stays(a: u8, q: Part) -> bool
     }
 }
 
-// A wedge wedge a wedge: one of two triples has three letters.
+// A wedge wedge a wedge: one of two triples has three different letters.
 fn wedges_stay(a: u8, b: u8, c: u8, d: u8) -> bool
     ensures { λ r. ⌜ r ≡ isSome (staying (wedgeParts (a ∷ b ∷ []) (c ∷ d ∷ []))) ⌝ }
 {

@@ -57,11 +57,11 @@ pairsOf ts us = flatMap (λ t. map (λ u. (t, u)) us) ts
 unfoldable pub pairStaying : (List ℕ → List ℕ → List Term) → Term × Term → List Term
 pairStaying parts p = staying (pairTerms parts p)
 
--- those of all pairs
+-- the terms of all pairs that stay
 unfoldable pub productTerms : (parts : List ℕ → List ℕ → List Term) (ts us : List Term) → List Term
 productTerms parts ts us = flatMap (pairStaying parts) (pairsOf ts us)
 
--- 7 of all pairs, vanishing ones too; 8 of the terms that stay, then 9 of them; then gathered
+-- 7 of all pairs; what vanishes is "tested neither for letters nor coefficient" (document 02, K4): 8 of the terms that stay, then 9 of them; then gathered
 unfoldable pub product : (kind : ℕ) (parts : List ℕ → List ℕ → List Term) (f g : Form) → Result Form
 product kind parts f g = do
   require (leb (length (f .terms) * length (g .terms)) 48) 7

@@ -14,7 +14,6 @@ use Rattle.terms.specs.declared.types.Term.{Term}
 use Rattle.terms.specs.Abstraction.{termOf}
 use Rattle.rows.specs.Rows.{termBy, runOf, Run}
 use Rattle.gathering.specs.Bringing.{BroughtIn, TermBroughtIn}
-use Rattle.gathering.proofs.Inserting.{all-drop}
 use Rattle.rows.proofs.Runs.{run-length, run-at}
 use Rattle.rows.proofs.RowForms.{light-more}
 use Rattle.sums.specs.Results.{Brought}
@@ -29,10 +28,6 @@ module _ (n : ℕ) (rows : List (List ℕ)) (coefs : List ℤ) (hr : n ≤ lengt
   -- all of them
   pub run-all : (i : ℕ) → n ≤ i → take i (runOf n rows coefs) ≡ runOf n rows coefs
   run-all i h = take-all i (runOf n rows coefs) (omega (arith, run-length rows coefs n hr hc))
-
-  -- what holds of all holds at a place
-  pub run-holds : (P : S.Term → Type 0) (i : ℕ) → i < n → All P (runOf n rows coefs) → P (termBy (getD rows i []) (getD coefs i (pos 0)))
-  run-holds P i h a = subst (All P) (run-at rows coefs n hr hc i h) (all-drop P i (runOf n rows coefs) a) .0
 
 -- ════ brought in
 

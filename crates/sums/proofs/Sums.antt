@@ -24,7 +24,8 @@ use Rattle.gathering.specs.Bringing.{coefBound, BroughtIn}
 use Rattle.rows.proofs.RowForms.{light-more, rows-refused, rows-as, run-copied}
 use Rattle.rows.specs.Rows.{SomeForm}
 use Rattle.sums.specs.Results.{Brought, GatheredRows}
-use Rattle.sums.proofs.Bringing.{run-taken, run-all, run-holds, brought-row, brought-both, brought-as}
+use Rattle.rows.proofs.Runs.{run-holds}
+use Rattle.sums.proofs.Bringing.{run-taken, run-all, brought-row, brought-both, brought-as}
 
 -- ════ a form's rows brought in
 
@@ -41,7 +42,7 @@ module _ (m : ℕ) (right : List (List ℕ)) (rights : List ℤ) (f : SomeForm m
 
   row-tidy : tidy (termBy (getD right j []) (getD rights j (pos 0))) ≡ termBy (getD right j []) (getD rights j (pos 0))
   row-tidy =
-      run-holds m right rights (f .form .run .room) (f .form .run .beside) (λ (t : S.Term). tidy t ≡ t) j h
+      run-holds right rights m (f .form .run .room) (f .form .run .beside) (λ (t : S.Term). tidy t ≡ t) j h
       (form-gathered (formBy (f .kind) m right rights) (f .form .inShape) .tidied)
 
   module _ (n : ℕ) (rows₀ : List (List ℕ)) (coefs₀ : List ℤ) (count : ℕ) (rows : List (List ℕ)) (coefs : List ℤ)

@@ -7,7 +7,7 @@ use Prim.Native.Nat.{ℕ, zero, suc, _<_}
 use native.Mathlib.Nat as N
 use native.Mathlib.Omega.{arith}
 use lib.Dec.{T}
-use lib.ListN.{length, getD}
+use lib.ListN.{length, drop, getD}
 use Rattle.algebra.specs.Lists.{tabulated}
 use Rattle.specification.specs.Results.{if_then_else_}
 use Rattle.specification.specs.Lists.{all, each, select}
@@ -53,6 +53,12 @@ module _ {A : Type 0} where
       go : (b : Bool) → All P (select f xs) → All P (if b then x ∷ select f xs else select f xs)
       go true rest = (h .0, rest)
       go false rest = rest
+
+  -- those from a place on
+  pub all-drop : (P : A → Type 0) (i : ℕ) (xs : List A) → All P xs → All P (drop i xs)
+  all-drop P zero xs h = h
+  all-drop P (suc i) [] h = tt
+  all-drop P (suc i) (x ∷ xs) h = all-drop P i xs (h .1)
 
   -- at one place
   pub all-at : (P : A → Type 0) (xs : List A) (i : ℕ) (d : A) → All P xs → i < length xs → P (getD xs i d)

@@ -1,10 +1,13 @@
 -- Tests and results taken apart: a conjunction, a line of a `do` block that did not refuse. Assumes nothing.
 use mathlib.Core.Path.{_≡_, refl, sym, subst}
 use mathlib.Core.Bool.{Bool, true, false, _&&_}
-use Prim.Native.Nat.{ℕ}
+use Prim.Native.Nat.{ℕ, zero, suc}
 use native.Mathlib.Omega.{arith}
 use lib.Dec.{T, eqb, eqb-refl}
+use lib.IntN.{ℤ, pos, negsuc}
+use Rattle.algebra.specs.Integers.{NonZero}
 use Rattle.specification.specs.Results.{Result, refused, given, Test, require, _>>_, _>>=_}
+use Rattle.specification.specs.Terms.{isZero}
 
 -- ════ tests
 
@@ -29,6 +32,28 @@ and-split false b t = absurd t
 pub and-false : (b : Bool) → (b && false) ≡ false
 and-false true = refl
 and-false false = refl
+
+pub and-true : (b : Bool) → (b && true) ≡ b
+and-true true = refl
+and-true false = refl
+
+pub and-same : (b : Bool) → (b && b) ≡ b
+and-same true = refl
+and-same false = refl
+
+-- a number that passes the test of 0
+pub is-zero : (z : ℤ) → T (isZero z) → z ≡ pos 0
+unfolding isZero
+is-zero (pos zero) t = refl
+is-zero (pos (suc n)) t = absurd t
+is-zero (negsuc n) t = absurd t
+
+-- and one that does not
+pub not-zero : (z : ℤ) → NonZero z → isZero z ≡ false
+unfolding isZero
+not-zero (pos zero) h = absurd (h refl)
+not-zero (pos (suc n)) h = refl
+not-zero (negsuc n) h = refl
 
 -- a number passes the test against its equal
 pub eqb-T : (m n : ℕ) → m ≡ n → T (eqb m n)

@@ -2,25 +2,18 @@
 use mathlib.Core.Path.{_≡_, refl, sym, _∙_, ap}
 use mathlib.Core.Bool.{Bool, true, false, not}
 use mathlib.Core.List.{List, [], _∷_, _++_, map, flatMap}
-use Prim.Native.Nat.{zero, suc}
 use lib.Dec.{T}
-use lib.IntN.{ℤ, pos, negsuc, _+ℤ_, _*ℤ_}
+use lib.IntN.{ℤ, pos, _+ℤ_, _*ℤ_}
 use lib.IntN as I
 use Rattle.specification.specs.Results.{if_then_else_}
 use Rattle.specification.specs.Lists.{select}
-use Rattle.specification.specs.Terms.{Term, termSign, tidy, isZero, vanishes, staying, gather}
-use Rattle.theory.specs.Tests.{holds}
+use Rattle.specification.specs.Terms.{Term, termSign, tidy, vanishes, staying, gather}
+use Rattle.theory.specs.Tests.{holds, is-zero}
 use Rattle.theory.specs.Elements.{All, all-select}
 use Rattle.theory.specs.Order.{Monomial, monomial}
 use Rattle.theory.specs.Gathering.Weights.{weight, weigh}
 use Rattle.theory.specs.Gathering.Coefficients.{only}
 use Rattle.theory.specs.Gathering.Gathered.{gather-gathered, gathered-known, gather-coefficient}
-
-is-zero : (z : ℤ) → T (isZero z) → z ≡ pos 0
-unfolding isZero
-is-zero (pos zero) t = refl
-is-zero (pos (suc n)) t = absurd t
-is-zero (negsuc n) t = absurd t
 
 -- what vanishes goes
 pub vanishing-goes : (t : Term) (ts : List Term) → vanishes t ≡ true → staying (t ∷ ts) ≡ staying ts

@@ -1,5 +1,5 @@
--- Pairs of terms: each term of a pair has the pair's letters and the size of its coefficient; and whether it stays, what the vector parts make decides.
--- Assumes nothing.
+-- Pairs of terms: a term that stays passes the tests of letters and coefficient exactly where its pair does; and whether it stays, what the vector parts
+-- make decides. Assumes nothing.
 use mathlib.Core.Path.{_≡_, refl, sym, _∙_, ap, subst}
 use mathlib.Core.Bool.{Bool, _&&_}
 use mathlib.Core.List.{List, [], _∷_, _++_, map, flatMap}

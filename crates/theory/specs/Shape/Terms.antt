@@ -14,7 +14,7 @@ use Rattle.specification.specs.Results.{if_then_else_}
 use Rattle.specification.specs.Lists.{isNotMore, all, ascend, order, putInto, sorted}
 use Rattle.specification.specs.Letters.{scalar, vector}
 use Rattle.specification.specs.Terms.{Term, compareLetters, tidy, isZero, coefWithin, vectorLettersOf, scalarLettersOf, vectorLetters, scalarLetters, lettersFit, factorInShape, partInShape, factorNotAfter, termInShape}
-use Rattle.theory.specs.Tests.{and-both, and-split}
+use Rattle.theory.specs.Tests.{and-both, and-split, not-zero}
 use Rattle.theory.specs.Elements.{All, all-implies, both-all, all-T, T-all}
 use Rattle.theory.specs.Order.{View, vlt, veq, vgt, Monomial, monomial, LtLetters, letters-laws}
 use Rattle.theory.specs.Sorting as O
@@ -54,10 +54,7 @@ nonzero-coef (pos (suc n)) t = pos-nonzero n
 nonzero-coef (negsuc n) t = negsuc-nonzero n
 
 coef-nonzero : (c : ℤ) → NonZero c → T (not (isZero c))
-unfolding isZero
-coef-nonzero (pos zero) h = h refl
-coef-nonzero (pos (suc n)) h = tt
-coef-nonzero (negsuc n) h = tt
+coef-nonzero c h = subst (λ (b : Bool). T (not b)) (sym (not-zero c h)) tt
 
 -- ════ factors and parts
 
