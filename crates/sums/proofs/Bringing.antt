@@ -1,5 +1,5 @@
 -- Terms brought in among rows, one after the other. Assumes nothing.
-use mathlib.Core.Path.{_≡_, refl, ap, sym, subst, _∙_}
+use mathlib.Core.Path.{_≡_, refl, ap, sym, _∙_}
 use mathlib.Core.List.{List, [], _∷_, _++_}
 use Prim.Native.Nat.{ℕ, _+_, _*_, _≤_, _<_}
 use native.Mathlib.Omega.{arith}
@@ -8,7 +8,6 @@ use lib.ListN.{length, take, getD}
 use lib.Seq.{take-add, take-all}
 use Rattle.specification.specs.Terms.{insert, tidy, gatherInto}
 use Rattle.specification.specs.Terms as S
-use Rattle.theory.specs.Elements.{All}
 use Rattle.theory.specs.Gathering.Gathered.{into-join}
 use Rattle.terms.specs.declared.types.Term.{Term}
 use Rattle.terms.specs.Abstraction.{termOf}
