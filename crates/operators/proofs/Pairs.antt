@@ -172,7 +172,8 @@ module _ (op : Operation) (t u : Term) (p : Paired op (termOf t) (termOf u)) (fe
   pub made-none : few .count ≡ 0 → Counted t → PairMade op t u (record { count = 0; first = t; second = t })
   unfolding listOf termOf
   made-none e h =
-      record { is = sym (none-stays op (termOf t) (termOf u) p _ refl (count-none op t u p few m e)); few = omega arith; first = shape-bringable t h (p .leftShape); second = shape-bringable t h (p .leftShape) }
+      let bringable = shape-bringable t h (p .leftShape) in
+      record { is = sym (none-stays op (termOf t) (termOf u) p _ refl (count-none op t u p few m e)); few = omega arith; first = bringable; second = bringable }
 
   module _ (x : Term) (ex : termOf x ≡ timesTerm (joinedScalars (termOf t) (termOf u)) (termOf (few .first))) where
     -- at most one term

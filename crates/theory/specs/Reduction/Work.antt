@@ -13,7 +13,8 @@ use Rattle.specification.specs.Results.{given, if_then_else_}
 use Rattle.specification.specs.Lists.{all, ascend}
 use Rattle.specification.specs.Values.{Vec, scalarValue, _•_}
 use Rattle.specification.specs.Letters.{scalar, vector, goodTable}
-use Rattle.specification.specs.Terms.{Term, Form, plus, termKind, isZero, keep, insert, coefWithin, vectorLettersOf, scalarLettersOf, vectorLetters, scalarLetters, lettersFit, factorInShape, partInShape, termInShape}
+use Rattle.specification.specs.Terms.{Term, Form, plus, termKind, isZero, keep, insert, coefWithin}
+use Rattle.specification.specs.Terms.{vectorLettersOf, scalarLettersOf, vectorLetters, scalarLetters, lettersFit, factorInShape, partInShape, termInShape}
 use Rattle.specification.specs.Records.{partFits, testTerms}
 use Rattle.specification.specs.Expressions.{Expr, Letter, Constant, Sum, Difference, Negation, Times, Dot, Wedge, Triple, readExpr}
 use Rattle.specification.specs.Reduction.{letterForm, constantForm, workWith, work, reduced}

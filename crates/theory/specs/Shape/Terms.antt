@@ -13,7 +13,8 @@ use Rattle.algebra.specs.Integers.{NonZero, pos-nonzero, negsuc-nonzero}
 use Rattle.specification.specs.Results.{if_then_else_}
 use Rattle.specification.specs.Lists.{isNotMore, all, ascend, order, putInto, sorted}
 use Rattle.specification.specs.Letters.{scalar, vector}
-use Rattle.specification.specs.Terms.{Term, compareLetters, tidy, isZero, coefWithin, vectorLettersOf, scalarLettersOf, vectorLetters, scalarLetters, lettersFit, factorInShape, partInShape, factorNotAfter, termInShape}
+use Rattle.specification.specs.Terms.{Term, compareLetters, tidy, isZero, coefWithin, vectorLettersOf, scalarLettersOf}
+use Rattle.specification.specs.Terms.{vectorLetters, scalarLetters, lettersFit, factorInShape, partInShape, factorNotAfter, termInShape}
 use Rattle.theory.specs.Tests.{and-both, and-split, not-zero}
 use Rattle.theory.specs.Elements.{All, all-implies, both-all, all-T, T-all}
 use Rattle.theory.specs.Order.{View, vlt, veq, vgt, Monomial, monomial, LtLetters, letters-laws}
