@@ -6,15 +6,13 @@ use native.Mathlib.Omega.{arith}
 use lib.Dec.{T, leb, leb→le}
 use lib.ListN.{length, getD, take, drop, set, length-append}
 use Rattle.specification.specs.Lists.{joined}
-use Rattle.specification.specs.Results.{given}
 use Rattle.specification.specs.Rules.{ruleLetters, isRule}
-use Rattle.specification.specs.Printing.{lineBytes, printLetter, printForm, printResult, printLetters, printRule, printMultiplier, printStep, printSteps, TextWritten}
+use Rattle.specification.specs.Printing.{nameOf, printForm, printLetters, printRule, printMultiplier, printStep, printSteps, TextWritten}
 use Rattle.theory.specs.Tests.{and-split}
 use Rattle.theory.specs.Elements.{All}
 use Rattle.terms.specs.declared.types.Term.{Term}
-use Rattle.terms.specs.declared.types.Form.{Form}
-use Rattle.terms.specs.Abstraction.{termOf, formOf}
-use Rattle.terms.specs.Valid.{TermValid, FormValid}
+use Rattle.terms.specs.Abstraction.{termOf}
+use Rattle.terms.specs.Valid.{TermValid}
 use Rattle.terms.proofs.Arrays.{rest-at, nothing-left}
 use Rattle.record_writing.specs.Written.{Written}
 use Rattle.record_writing.proofs.Writes.{written-store, written-then}
@@ -23,7 +21,6 @@ use Rattle.rules.specs.Steps.{stepOf}
 use Rattle.theory.specs.Records.Lengths.{letters-few}
 use Rattle.logs.proofs.WrittenLogs.{taken-few, part-written}
 use Rattle.symbols.proofs.Decimals.{decimal-one}
-use Rattle.printing.proofs.Lengths.{text-short}
 use Rattle.printing.proofs.Texts.{single-short, text-written, written-text}
 use Rattle.log_lines.specs.Printed.{StepPrintable}
 
@@ -42,54 +39,57 @@ rule-small rule h = leb→le rule 5 (and-split (leb 1 rule) (leb rule 5) h .1)
 -- ════ its letters
 
 -- the text of the letters from one on
-abbrev pub lettersFrom : List ℕ → ℕ → ℕ → List ℕ
-lettersFrom ls n i = printLetters (drop i (take n ls))
+abbrev pub lettersFrom : (names ls : List ℕ) → ℕ → ℕ → List ℕ
+lettersFrom names ls n i = printLetters names (drop i (take n ls))
 
-module _ (ls : List ℕ) (n i : ℕ) (few : n ≤ length ls) where
+module _ (names ls : List ℕ) (n i : ℕ) (few : n ≤ length ls) where
   -- one more
-  pub letter-next : i < n → lettersFrom ls n i ≡ (32 ∷ printLetter (getD ls i 0) ∷ []) ++ lettersFrom ls n (i + 1)
+  pub letter-next : i < n → lettersFrom names ls n i ≡ (32 ∷ nameOf names (getD ls i 0) ∷ []) ++ lettersFrom names ls n (i + 1)
   unfolding printLetters
   letter-next h = rw (rest-at ls n i 0 few h)
 
   -- none is left
-  pub letters-end : n ≤ i → lettersFrom ls n i ≡ []
+  pub letters-end : n ≤ i → lettersFrom names ls n i ≡ []
   unfolding printLetters
   letters-end h = rw (nothing-left ls n i few h)
 
 -- two bytes each
-letters-long : (ls : List ℕ) → length (printLetters ls) ≡ 2 * length ls
+letters-long : (names ls : List ℕ) → length (printLetters names ls) ≡ 2 * length ls
 unfolding printLetters
-letters-long [] = refl
-letters-long (n ∷ ls) = omega (arith, letters-long ls)
+letters-long names [] = refl
+letters-long names (n ∷ ls) = omega (arith, letters-long names ls)
 
 -- ════ M
 
-module _ (m : Term) (v : TermValid m) where
+module _ (names : List ℕ) (m : Term) (v : TermValid m) where
   -- with its mark and the newline at most 36 bytes
-  pub multiplier-short : length (printMultiplier (termOf m)) ≤ 36
+  pub multiplier-short : length (printMultiplier names (termOf m)) ≤ 36
   unfolding printMultiplier
-  multiplier-short = simp length-append (omega (arith, single-short m v))
+  multiplier-short = simp length-append (omega (arith, single-short names m v))
 
   -- the mark, the term, the newline
   pub multiplier-written : (l o p : List ℕ) (at next : ℕ) → at + 36 ≤ length l → Written l o at (at + 6) (44 ∷ 32 ∷ 77 ∷ 32 ∷ 61 ∷ 32 ∷ [])
-      → Written o p (at + 6) next (printForm (termOf m ∷ [])) → length p ≡ length l → (next < length p) × Written l (set p next 10) at (next + 1) (printMultiplier (termOf m))
+      → Written o p (at + 6) next (printForm names (termOf m ∷ [])) → length p ≡ length l
+      → (next < length p) × Written l (set p next 10) at (next + 1) (printMultiplier names (termOf m))
   unfolding printMultiplier
   multiplier-written l o p at next room mark single kept =
-      let i : next < length p = omega (arith, single .ends, single-short m v) in
-      (i, written-then l p (set p next 10) at next (next + 1) _ (10 ∷ []) (omega arith) (written-then l o p at (at + 6) next _ _ (omega arith) mark single) (written-store p next 10 i))
+      let i : next < length p = omega (arith, single .ends, single-short names m v) in
+      let w = written-then l o p at (at + 6) next _ _ (omega arith) mark single in
+      (i, written-then l p (set p next 10) at next (next + 1) _ (10 ∷ []) (omega arith) w (written-store p next 10 i))
 
 -- ════ a step
 
-module _ (s : Step) where
+module _ (names : List ℕ) (s : Step) where
   -- the rule, its letters, M
   pub step-written : (n : ℕ) (l m o p : List ℕ) (at j k next : ℕ) → n ≡ ruleLetters (s .rule) → at ≤ length l → Written l m at j (printRule (s .rule))
-      → Written m o j k (printLetters (take n (s .letters))) → Written o p k next (printMultiplier (termOf (s .m))) → Written l p at next (printStep (stepOf s))
+      → Written m o j k (printLetters names (take n (s .letters))) → Written o p k next (printMultiplier names (termOf (s .m)))
+      → Written l p at next (printStep names (stepOf s))
   unfolding printStep stepOf
   step-written n l m o p at j k next e h rule letters multiplier =
       rw (← e) (written-then l o p at k next _ _ h (written-then l m o at j k _ _ h rule letters) multiplier)
 
   -- at most 55 bytes
-  pub step-text-short : StepPrintable s → length (printStep (stepOf s)) ≤ 55
+  pub step-text-short : StepPrintable names s → length (printStep names (stepOf s)) ≤ 55
   unfolding printStep stepOf
   step-text-short p =
       let ls = take (ruleLetters (s .rule)) (s .letters) in
@@ -97,49 +97,45 @@ module _ (s : Step) where
       omega (
         arith,
         ap length (rule-is (s .rule) (rule-small (s .rule) (p .valid .rule))),
-        letters-long ls,
+        letters-long names ls,
         taken-few (ruleLetters (s .rule)) (s .letters),
         letters-few (s .rule),
-        multiplier-short (s .m) (p .valid .m),
+        multiplier-short names (s .m) (p .valid .m),
       )
       )
 
 -- letters take two bytes each
-pub letters-short : (n : ℕ) (ls : List ℕ) → length (printLetters (take n ls)) ≤ 2 * n
-letters-short n ls = omega (arith, letters-long (take n ls), taken-few n ls)
+pub letters-short : (names : List ℕ) (n : ℕ) (ls : List ℕ) → length (printLetters names (take n ls)) ≤ 2 * n
+letters-short names n ls = omega (arith, letters-long names (take n ls), taken-few n ls)
 
 -- ════ the steps
 
 -- the text of the steps from one on
-abbrev pub stepsFrom : List Step → ℕ → ℕ → List ℕ
-stepsFrom ss n i = printSteps (map stepOf (drop i (take n ss)))
+abbrev pub stepsFrom : (names : List ℕ) → List Step → ℕ → ℕ → List ℕ
+stepsFrom names ss n i = printSteps names (map stepOf (drop i (take n ss)))
 
-module _ (ss : List Step) (n i : ℕ) (few : n ≤ length ss) where
+module _ (names : List ℕ) (ss : List Step) (n i : ℕ) (few : n ≤ length ss) where
   -- one more
-  pub step-next : (d : Step) → i < n → stepsFrom ss n i ≡ printStep (stepOf (getD ss i d)) ++ stepsFrom ss n (i + 1)
+  pub step-next : (d : Step) → i < n → stepsFrom names ss n i ≡ printStep names (stepOf (getD ss i d)) ++ stepsFrom names ss n (i + 1)
   unfolding printSteps joined
   step-next d h = rw (rest-at ss n i d few h)
 
   -- none is left
-  pub steps-end : n ≤ i → stepsFrom ss n i ≡ []
+  pub steps-end : n ≤ i → stepsFrom names ss n i ≡ []
   unfolding printSteps joined
   steps-end h = rw (nothing-left ss n i few h)
 
 -- at most 55 bytes each
-pub steps-short : (ss : List Step) → All StepPrintable ss → length (printSteps (map stepOf ss)) ≤ 55 * length ss
+pub steps-short : (names : List ℕ) (ss : List Step) → All (StepPrintable names) ss → length (printSteps names (map stepOf ss)) ≤ 55 * length ss
 unfolding printSteps joined
-steps-short [] h = omega arith
-steps-short (s ∷ ss) h = simp length-append (omega (arith, step-text-short s (h .0), steps-short ss (h .1)))
+steps-short names [] h = omega arith
+steps-short names (s ∷ ss) h = simp length-append (omega (arith, step-text-short names s (h .0), steps-short names ss (h .1)))
 
 -- ════ the log
 
--- the line of a form has at most 1393 bytes
-pub line-short : (f : Form) → FormValid f → length (printResult (given (formOf f))) ≤ lineBytes
-unfolding printResult
-line-short f v = simp length-append (omega (arith, text-short (formOf f) (v .inShape)))
-
 -- the line of the first form, those of the steps, and the line of the last form in the bytes behind them
-pub log-written : (first steps last l m o p : List ℕ) (a b c : ℕ) → TextWritten l m a first → Written m o a b steps → b ≤ length o → TextWritten (take (length o - b) (drop b o)) p c last
+pub log-written : (first steps last l m o p : List ℕ) (a b c : ℕ) → TextWritten l m a first → Written m o a b steps → b ≤ length o
+    → TextWritten (take (length o - b) (drop b o)) p c last
     → TextWritten l (take b o ++ (p ++ drop (length o - b) (drop b o))) (b + c) (first ++ steps ++ last)
 log-written first steps last l m o p a b c u v h w =
     let r = take b o ++ (p ++ drop (length o - b) (drop b o)) in

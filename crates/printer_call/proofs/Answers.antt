@@ -12,9 +12,9 @@ use Rattle.specification.specs.Results.{Result, Test, refused, given, _>>_, if_
 use Rattle.specification.specs.Letters.{goodTable, testTable}
 use Rattle.specification.specs.Records.{writeInto}
 use Rattle.specification.specs.Reduction.{reduced}
-use Rattle.specification.specs.Printing.{printTested, printResult, printCall, TextWritten, printAnswer, lineBytes}
+use Rattle.specification.specs.Printing.{alphabet, printTested, printResult, printCall, TextWritten, printAnswer, lineBytes}
 use Rattle.theory.specs.Tests.{given-same, refused≢given}
-use Rattle.theory.specs.Shape.Letters.{table-good}
+use Rattle.theory.specs.Shape.Letters.{table-good, good-short}
 use Rattle.theory.specs.Reduction.Work.{reduction-keeps-value}
 use Rattle.terms.specs.Abstraction.{formOf}
 use Rattle.terms.specs.declared.types.Outcome.{Outcome}
@@ -23,6 +23,7 @@ use Rattle.terms.specs.Valid.{Gives}
 use Rattle.terms.proofs.Outcomes.{worked-given, worked-refused}
 use Rattle.letters.proofs.LetterTests.{test-passed, test-refused}
 use Rattle.symbols.specs.Printable.{Printable}
+use Rattle.symbols.specs.Text.{printLine}
 use Rattle.printing.proofs.Named.{printable}
 use Rattle.records.proofs.Inside.{written-inside}
 use Rattle.printer_call.specs.declared.Printing.{Printing}
@@ -38,11 +39,11 @@ written-as before after n x y e w = subst (TextWritten before after n) e w
 
 -- the form of an expression can be printed
 pub form-printable : (table expr : List ℕ) (c : ℕ) (r : Outcome) → testOf c ≡ testTable table → c ≡ 0 → Gives (reduced table expr) r → r .refusal ≡ 0
-    → Printable (r .form)
+    → Printable alphabet (r .form)
 form-printable table expr c r h z worked e =
     let t : T (goodTable table) = table-good table (sym h ∙ test-passed c z) in
-    printable table t (r .form) (worked .valid e) (reduction-keeps-value table expr (formOf (r .form)) t (worked-given (reduced table expr) r worked e)
-    .lettersTested)
+    printable table alphabet (good-short table t) (r .form) (worked .valid e)
+    (reduction-keeps-value table expr (formOf (r .form)) t (worked-given (reduced table expr) r worked e) .lettersTested)
 
 module _ (table expr : List ℕ) (c : ℕ) (h : testOf c ≡ testTable table) where
   -- the table is refused
@@ -77,9 +78,9 @@ module _ (table expr : List ℕ) (c : ℕ) (h : testOf c ≡ testTable table) wh
       expression-refused n w = written-as before after m _ _ (ap printResult (sym (bad-expression z r worked n))) w
 
       -- of a form
-      pub form-printed : r .refusal ≡ 0 → TextWritten before after m (printResult (given (formOf (r .form))))
+      pub form-printed : r .refusal ≡ 0 → TextWritten before after m (printLine alphabet (formOf (r .form)))
           → TextWritten before after m (printReduced table expr)
-      unfolding printReduced
+      unfolding printReduced printResult
       form-printed e w = written-as before after m _ _ (ap printResult (sym (form-reduced z r worked e))) w
 
 -- ════ all that was read

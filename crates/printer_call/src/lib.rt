@@ -6,6 +6,7 @@ ghost use Rattle.specification.specs.Printing.{printCall, TextWritten, printAns
 ghost use Rattle.printer_call.specs.Answers.{printingOf};
 ghost use Rattle.printer_call.specs.Lines.{printReduced};
 use letters::check_table;
+use printing::ALPHABET;
 use printing::LINE_BYTES;
 use printing::print_line;
 use printing::print_refusal;
@@ -32,7 +33,7 @@ fn print_form(table: &[u8], expression: &[u8], out: &mut [u8]) -> usize
         return print_refusal(out, n);
     }
     let f = w.form;
-    print_line(out, f)
+    print_line(&ALPHABET, out, f)
 }
 
 // The line of all that stands in the input, in memory that is long enough.

@@ -1,27 +1,24 @@
 -- What is printed for what was read, case by case. Assumes nothing.
 use mathlib.Core.Path.{_≡_, refl, sym, subst, _∙_}
 use mathlib.Core.Bool.{Bool, true, false}
-use mathlib.Core.List.{List, [], _∷_, _++_, map}
+use mathlib.Core.List.{List, _++_}
 use Prim.Native.Nat.{ℕ, _+_, _-_, _≤_, _<_}
 use native.Mathlib.Omega.{arith}
 use borrow.Author.Tests.{le-leb, lt-leb}
 use lib.Dec.{T, leb}
 use lib.ListN.{length, getD, take, drop}
 use Rattle.specification.specs.Results.{Result, refused, given}
-use Rattle.specification.specs.Letters.{vector, goodTable, testTable, testLetters}
+use Rattle.specification.specs.Letters.{goodTable, testTable}
 use Rattle.specification.specs.Terms as S
-use Rattle.specification.specs.Records.{testTerm}
-use Rattle.specification.specs.Rules.{testStepLetters}
 use Rattle.specification.specs.Reduction.{reduced}
-use Rattle.specification.specs.Printing.{inputTable, printTested, printResult, printSteps, printLog, linesBytes, TextWritten, PrintedBy, LinesPrintedBy, LinesPrinted}
+use Rattle.specification.specs.Printing.{alphabet, inputTable, printTested, printResult, printSteps, printLog}
+use Rattle.specification.specs.Printing.{linesBytes, TextWritten, PrintedBy, LinesPrintedBy, LinesPrinted}
 use Rattle.specification.specs.Logs.{writeLog}
-use Rattle.theory.specs.Tests.{tested}
-use Rattle.theory.specs.Elements.{All}
-use Rattle.theory.specs.Shape.Letters.{table-good, letters-known, term-known}
+use Rattle.theory.specs.Shape.Letters.{table-good, good-short}
 use Rattle.theory.specs.Reduction.Work.{reduction-keeps-value}
 use Rattle.theory.specs.Records.Logs.{logOf, log-read-back}
-use Rattle.theory.specs.Replay.Accepted.{testSteps, Derives}
-use Rattle.terms.specs.Abstraction.{termOf, formOf}
+use Rattle.theory.specs.Replay.Accepted.{Derives}
+use Rattle.terms.specs.Abstraction.{formOf}
 use Rattle.terms.proofs.Forms.{form-long}
 use Rattle.terms.specs.declared.types.Outcome.{Outcome}
 use Rattle.terms.specs.Valid.{Gives}
@@ -29,8 +26,6 @@ use Rattle.terms.proofs.Outcomes.{worked-given}
 use Rattle.letters.specs.Tested.{testOf}
 use Rattle.records.proofs.Inside.{written-inside}
 use Rattle.letters.proofs.LetterTests.{test-passed}
-use Rattle.rules.specs.declared.steps.Step.{Step}
-use Rattle.rules.specs.Steps.{stepOf, StepValid}
 use Rattle.logs.specs.Steps.{stepsOf}
 use Rattle.logs.proofs.StepRecords.{steps-long}
 use Rattle.checker.specs.Answers.{checkedOf}
@@ -38,31 +33,15 @@ use Rattle.checker.proofs.AcceptedLogs.{answers-derivation}
 use Rattle.shortening.specs.declared.rounds.Derivation.{Derivation}
 use Rattle.shortening.specs.Derived.{Derived}
 use Rattle.symbols.specs.Printable.{Printable}
-use Rattle.printing.proofs.Named.{letters-named, term-named, printable}
+use Rattle.symbols.specs.Text.{printLine}
+use Rattle.printing.proofs.Named.{printable}
 use Rattle.printer_call.specs.declared.Printing.{Printing}
 use Rattle.printer_call.specs.declared.Printing.the-variants.{Printed}
 use Rattle.printer_call.specs.Answers.{printingOf}
 use Rattle.printer_call.specs.Lines.{tableReduced}
 use Rattle.printer_call.proofs.Answers.{bad-table, bad-expression, form-reduced, none-tested, cut-tested, parts-tested}
-use Rattle.log_lines.specs.Printed.{StepPrintable, StepsPrintable}
-
--- ════ what can be printed
-
-module _ (table : List ℕ) (good : T (goodTable table)) where
-  -- steps in shape whose letters passed their test
-  steps-printable : (ss : List Step) → All StepValid ss → testSteps table (map stepOf ss) ≡ given tt → All StepPrintable ss
-  unfolding testSteps testStepLetters stepOf
-  steps-printable [] v e = tt
-  steps-printable (s ∷ ss) v e =
-      let w = tested (testStepLetters table (stepOf s)) (testSteps table (map stepOf ss)) tt e in
-      let u = tested (testLetters table vector (stepOf s .letters)) (testTerm table (termOf (s .m))) tt (w .0) in (
-        record {
-          valid = v .0;
-          letters = letters-named table good vector (stepOf s .letters) (letters-known table vector (stepOf s .letters) (u .0));
-          m = term-named table good (s .m) (term-known table (termOf (s .m)) (u .1));
-        },
-        steps-printable ss (v .1) (w .1),
-      )
+use Rattle.log_lines.specs.Printed.{StepsPrintable}
+use Rattle.log_lines.proofs.Named.{steps-printable}
 
 -- ════ a table and an expression
 
@@ -75,18 +54,13 @@ module _ (table expr : List ℕ) (c : ℕ) (h : testOf c ≡ testTable table) wh
     derives = wd .derives good (reduction-keeps-value table expr (formOf (r .form)) good (worked-given (reduced table expr) r worked e) .lettersTested)
 
     -- form, steps and last form can be printed
-    pub log-printable : Printable (r .form) × StepsPrintable (d .steps) × Printable (d .last)
-    unfolding stepsOf
-    log-printable = (
-      printable table good (r .form) (worked .valid e) (derives .firstTested),
-      record {
-        few = wd .valid .few;
-        long = wd .valid .steps .long;
-        steps = steps-printable table good (take (d .steps .count) (d .steps .steps))
-            (wd .valid .steps .steps) (derives .stepsTested);
-      },
-      printable table good (d .last) (wd .valid .last) (derives .lastTested),
-    )
+    pub log-printable : Printable alphabet (r .form) × StepsPrintable alphabet (d .steps) × Printable alphabet (d .last)
+    log-printable =
+        let many = good-short table good in (
+          printable table alphabet many (r .form) (worked .valid e) (derives .firstTested),
+          steps-printable table alphabet many (d .steps) (wd .valid .steps) (derives .stepsTested),
+          printable table alphabet many (d .last) (wd .valid .last) (derives .lastTested),
+        )
 
   module _ (before after : List ℕ) (m : ℕ) where
     -- what holds by what reduction gives
@@ -107,9 +81,10 @@ module _ (table expr : List ℕ) (c : ℕ) (h : testOf c ≡ testTable table) wh
 
       -- the log is printed
       pub log-printed : (e : r .refusal ≡ 0) (d : Derivation) → Derived table (r .form) d → length (r .form .terms) ≡ 48 → length (d .last .terms) ≡ 48
-          → TextWritten before after m (printResult (given (formOf (r .form))) ++ printSteps (stepsOf (d .steps)) ++ printResult (given (formOf (d .last))))
+          → TextWritten before after m
+          (printLine alphabet (formOf (r .form)) ++ printSteps alphabet (stepsOf (d .steps)) ++ printLine alphabet (formOf (d .last)))
           → PrintedBy (tableReduced table expr) table before after m
-      unfolding PrintedBy printLog checkedOf
+      unfolding PrintedBy printLog printResult checkedOf
       log-printed e d wd places rooms w =
           let counted = steps-long (d .steps) (wd .valid .steps) in
           let ds = derives z r worked e d wd in

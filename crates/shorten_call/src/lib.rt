@@ -1,4 +1,4 @@
-// What the program shorten writes for what it read: the form, the steps that shorten it and the last form in letters, each on a line, or R and the number of the refusal.
+// What the program shorten writes for what it read: the form, the steps that shorten it and the last form in letters, each on a line, or the refusal.
 ghost use Prim.Native.Nat.{_≤_};
 ghost use lib.ListN.{length};
 ghost use Rattle.printer_call.specs.Lines.{tableReduced};
@@ -7,6 +7,7 @@ ghost use Rattle.printer_call.specs.Answers.{printingOf};
 use letters::check_table;
 use log_lines::lines::print_log;
 use printer_call::Printing;
+use printing::ALPHABET;
 use printing::print_refusal;
 use reduction::form_of;
 use shortening::rounds::derive;
@@ -32,7 +33,7 @@ fn print_shortened(table: &[u8], expression: &[u8], out: &mut [u8]) -> usize
     let d = derive(table, f);
     let steps = d.steps;
     let last = d.last;
-    print_log(out, f, steps, last)
+    print_log(&ALPHABET, out, f, steps, last)
 }
 
 // The lines of all that stands in the input, in memory that is long enough.

@@ -16,5 +16,10 @@ pub mod Decision
 pub mod Shortening
 pub mod Auditing
 pub mod Printing
+pub mod Words
+pub mod Text
+pub mod Lines
+pub mod LogTexts
+pub mod Commands
 pub mod Promises
 pub mod Returns

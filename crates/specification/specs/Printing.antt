@@ -18,9 +18,14 @@ use Rattle.specification.specs.Shortening.{Shortest}
 
 -- ════ a form
 
+-- the name of a letter: names in the order of their numbers
+abbrev pub nameOf : (names : List ℕ) (n : ℕ) → ℕ
+nameOf names n = getD names n 0
+
 -- "Letter numbers 0 to 23 print as a to x"
-abbrev pub printLetter : ℕ → ℕ
-printLetter n = 97 + n
+abbrev pub alphabet : List ℕ
+alphabet =
+    97 ∷ 98 ∷ 99 ∷ 100 ∷ 101 ∷ 102 ∷ 103 ∷ 104 ∷ 105 ∷ 106 ∷ 107 ∷ 108 ∷ 109 ∷ 110 ∷ 111 ∷ 112 ∷ 113 ∷ 114 ∷ 115 ∷ 116 ∷ 117 ∷ 118 ∷ 119 ∷ 120 ∷ []
 
 -- a number in decimal, in at most so many digits
 unfoldable pub digits : (most n : ℕ) → List ℕ
@@ -30,19 +35,6 @@ digits (suc most) n = if ltb n 10 then (48 + n) ∷ [] else digits most (n / 10)
 -- a number below 10000000000 in decimal
 unfoldable pub decimal : ℕ → List ℕ
 decimal n = digits 10 n
-
--- a scalar letter `e`, "a dot as `(a.b)`, a triple as `(abc)`"
-unfoldable pub printFactor : List ℕ → List ℕ
-printFactor [] = []
-printFactor (a ∷ []) = printLetter a ∷ []
-printFactor (a ∷ b ∷ []) = 40 ∷ printLetter a ∷ 46 ∷ printLetter b ∷ 41 ∷ []
-printFactor (a ∷ b ∷ c ∷ f) = 40 ∷ printLetter a ∷ printLetter b ∷ printLetter c ∷ 41 ∷ []
-
--- a letter `a`, "a wedge as `(a^b)`"
-unfoldable pub printPart : List ℕ → List ℕ
-printPart [] = []
-printPart (a ∷ []) = printLetter a ∷ []
-printPart (a ∷ b ∷ p) = 40 ∷ printLetter a ∷ 94 ∷ printLetter b ∷ 41 ∷ []
 
 -- nothing is written
 unfoldable pub isNothing : List ℕ → Bool
@@ -57,14 +49,6 @@ printSize k others = if eqb (natAbs k) 1 && not (isNothing others) then [] else 
 unfoldable pub printStar : (before part : List ℕ) → List ℕ
 printStar before part = if isNothing before || isNothing part then [] else 42 ∷ []
 
--- "a term is coefficient, factors, vector part", here without its sign
-unfoldable pub printTerm : Term → List ℕ
-printTerm t =
-    let scalars = joined (map printFactor (t .factors)) in
-    let part = printPart (t .part) in
-    let size = printSize (t .coef) (scalars ++ part) in
-    size ++ scalars ++ printStar (size ++ scalars) part ++ part
-
 -- the sign of the first term is written where it is `-`
 unfoldable pub printFirstSign : ℤ → List ℕ
 printFirstSign (pos n) = []
@@ -75,15 +59,38 @@ unfoldable pub printSign : ℤ → List ℕ
 printSign (pos n) = 43 ∷ []
 printSign (negsuc n) = 45 ∷ []
 
--- terms behind the first
-unfoldable pub printTerms : List Term → List ℕ
-printTerms [] = []
-printTerms (t ∷ ts) = printSign (t .coef) ++ printTerm t ++ printTerms ts
+-- a form with these names of letters
+module _ (names : List ℕ) where
+  -- a scalar letter `e`, "a dot as `(a.b)`, a triple as `(abc)`"
+  unfoldable pub printFactor : List ℕ → List ℕ
+  printFactor [] = []
+  printFactor (a ∷ []) = nameOf names a ∷ []
+  printFactor (a ∷ b ∷ []) = 40 ∷ nameOf names a ∷ 46 ∷ nameOf names b ∷ 41 ∷ []
+  printFactor (a ∷ b ∷ c ∷ f) = 40 ∷ nameOf names a ∷ nameOf names b ∷ nameOf names c ∷ 41 ∷ []
 
--- "The empty form prints 0"
-unfoldable pub printForm : List Term → List ℕ
-printForm [] = 48 ∷ []
-printForm (t ∷ ts) = printFirstSign (t .coef) ++ printTerm t ++ printTerms ts
+  -- a letter `a`, "a wedge as `(a^b)`"
+  unfoldable pub printPart : List ℕ → List ℕ
+  printPart [] = []
+  printPart (a ∷ []) = nameOf names a ∷ []
+  printPart (a ∷ b ∷ p) = 40 ∷ nameOf names a ∷ 94 ∷ nameOf names b ∷ 41 ∷ []
+
+  -- "a term is coefficient, factors, vector part", here without its sign
+  unfoldable pub printTerm : Term → List ℕ
+  printTerm t =
+      let scalars = joined (map printFactor (t .factors)) in
+      let part = printPart (t .part) in
+      let size = printSize (t .coef) (scalars ++ part) in
+      size ++ scalars ++ printStar (size ++ scalars) part ++ part
+
+  -- terms behind the first
+  unfoldable pub printTerms : List Term → List ℕ
+  printTerms [] = []
+  printTerms (t ∷ ts) = printSign (t .coef) ++ printTerm t ++ printTerms ts
+
+  -- "The empty form prints 0"
+  unfoldable pub printForm : List Term → List ℕ
+  printForm [] = 48 ∷ []
+  printForm (t ∷ ts) = printFirstSign (t .coef) ++ printTerm t ++ printTerms ts
 
 -- ════ the printer's call
 
@@ -106,7 +113,7 @@ printTested s = do
 -- the form, or "a refusal R and its decimal number", "each with a newline"
 unfoldable pub printResult : Result Form → List ℕ
 printResult (refused n) = 82 ∷ decimal n ++ 10 ∷ []
-printResult (given f) = printForm (f .terms) ++ 10 ∷ []
+printResult (given f) = printForm alphabet (f .terms) ++ 10 ∷ []
 
 -- the bytes written to standard output
 unfoldable pub printCall : (s : List ℕ) → List ℕ
@@ -119,30 +126,32 @@ printAnswer s memory =
 
 -- ════ the text of a log: the first form, each step, the last form, each on a line
 
--- ` a b c d`
-unfoldable pub printLetters : List ℕ → List ℕ
-printLetters [] = []
-printLetters (n ∷ ns) = 32 ∷ printLetter n ∷ printLetters ns
-
 -- `rule 2:`
 unfoldable pub printRule : ℕ → List ℕ
 printRule rule = 114 ∷ 117 ∷ 108 ∷ 101 ∷ 32 ∷ decimal rule ++ 58 ∷ []
 
--- `, M = 1` and a newline: M as the form of this one term
-unfoldable pub printMultiplier : Term → List ℕ
-printMultiplier m = 44 ∷ 32 ∷ 77 ∷ 32 ∷ 61 ∷ 32 ∷ printForm (m ∷ []) ++ 10 ∷ []
+-- steps with these names of letters
+module _ (names : List ℕ) where
+  -- ` a b c d`
+  unfoldable pub printLetters : List ℕ → List ℕ
+  printLetters [] = []
+  printLetters (n ∷ ns) = 32 ∷ nameOf names n ∷ printLetters ns
 
--- `rule 2: a b c d, M = 1` and a newline
-unfoldable pub printStep : Step → List ℕ
-printStep s = printRule (s .rule) ++ printLetters (s .letters) ++ printMultiplier (s .m)
+  -- `, M = 1` and a newline: M as the form of this one term
+  unfoldable pub printMultiplier : Term → List ℕ
+  printMultiplier m = 44 ∷ 32 ∷ 77 ∷ 32 ∷ 61 ∷ 32 ∷ printForm names (m ∷ []) ++ 10 ∷ []
 
--- the steps, each on its line
-unfoldable pub printSteps : List Step → List ℕ
-printSteps ss = joined (map printStep ss)
+  -- `rule 2: a b c d, M = 1` and a newline
+  unfoldable pub printStep : Step → List ℕ
+  printStep s = printRule (s .rule) ++ printLetters (s .letters) ++ printMultiplier (s .m)
+
+  -- the steps, each on its line
+  unfoldable pub printSteps : List Step → List ℕ
+  printSteps ss = joined (map printStep ss)
 
 -- the line of the first form, those of the steps, that of the last form
 unfoldable pub printLog : Log → List ℕ
-printLog log = printResult (given (log .first)) ++ printSteps (log .steps) ++ printResult (given (log .last))
+printLog log = printResult (given (log .first)) ++ printSteps alphabet (log .steps) ++ printResult (given (log .last))
 
 -- ════ the call of the program shorten, which reads what the printer reads
 

@@ -15,6 +15,7 @@ use Rattle.specification.specs.Logs.{Checked, refusedAt, accepted, atSte
 use Rattle.specification.specs.Terms.{Form}
 use Rattle.specification.specs.Decision as D
 use Rattle.specification.specs.Shortening.{shortenTested, ShortenedTo}
+use Rattle.specification.specs.Text.{textCall, printNamedCall}
 
 -- what is given, or minus the number of the refusal
 unfoldable pub returned : Result ℕ → ℤ
@@ -52,6 +53,20 @@ reduceReturned table expr out = handed (reduceCall table expr out)
 -- the insertion call
 unfoldable pub insertReturned : (table form : List ℕ) (letter : ℕ) (inserted out : List ℕ) → ℤ × List ℕ
 insertReturned table form letter inserted out = handed (insertCall table form letter inserted out)
+
+-- ════ texts
+
+-- three parts of an answer: the number returned, and the memory lent, afterwards
+unfoldable pub handedBoth : {A B : Type 0} → Result ℕ × List A × List B → ℤ × List A × List B
+handedBoth a = (returned (a .0), a .1, a .2)
+
+-- the call that reads a text
+unfoldable pub readTextReturned : (table names s out columns : List ℕ) → ℤ × List ℕ × List ℕ
+readTextReturned table names s out columns = handedBoth (textCall table names s out columns)
+
+-- the call that prints a form with names
+unfoldable pub printReturned : (table names form out : List ℕ) → ℤ × List ℕ
+printReturned table names form out = handed (printNamedCall table names form out)
 
 -- ════ the checker
 

@@ -19,7 +19,7 @@ unfolding decimal digits
 decimal-one n h = rw (lt-ltb n 10 h)
 
 -- more room changes nothing
-digits-same : (most n : ℕ) → n < 10 ^ suc most → digits (suc most) n ≡ digits (suc (suc most)) n
+pub digits-same : (most n : ℕ) → n < 10 ^ suc most → digits (suc most) n ≡ digits (suc (suc most)) n
 unfolding digits
 digits-same zero n h = rw (lt-ltb n 10 h)
 digits-same (suc most) n h =

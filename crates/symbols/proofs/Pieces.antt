@@ -1,16 +1,15 @@
--- The pieces of a term's text: a factor by its number, a vector part, whether anything is written, the coefficient's size, the star, the signs. Assumes nothing.
+-- The pieces of a term's text: a factor by its number, a vector part, whether anything is written, the coefficient's size, star and signs. Assumes nothing.
 use mathlib.Core.Path.{_≡_, refl, ap, sym, _∙_}
 use mathlib.Core.Bool.{Bool, true, false, true≢false, not}
 use mathlib.Core.List.{List, [], _∷_, _++_, map, append-assoc}
-use Prim.Native.Nat.{ℕ, zero, suc, _+_, _-_, _/_, _%_, _<_, _≤_}
+use Prim.Native.Nat.{ℕ, zero, suc, _+_, _<_, _≤_}
 use native.Mathlib.Omega.{arith}
-use lib.Dec.{ltb}
 use lib.IntN.{ℤ, pos, negsuc, natAbs}
 use lib.ListN.{length, take, set}
 use borrow.Author.Tests.{ne-eqb}
-use Rattle.specification.specs.Results.{if_then_else_}
 use Rattle.specification.specs.Lists.{joined}
-use Rattle.specification.specs.Printing.{printLetter, decimal, printFactor, printPart, isNothing, printSize, printStar, printFirstSign, printSign}
+use Rattle.specification.specs.Terms as S
+use Rattle.specification.specs.Printing.{nameOf, decimal, printFactor, printPart, isNothing, printSize, printStar, printFirstSign, printSign}
 use Rattle.integers.specs.Arithmetic.{isNegative}
 use Rattle.terms.specs.declared.factors.Factor.{Factor}
 use Rattle.terms.specs.declared.factors.Factor.the-variants.{Scalar, Dot, Triple}
@@ -21,113 +20,143 @@ use Rattle.terms.specs.Numbers.{lettersOf}
 use Rattle.terms.specs.Abstraction.{factorOf, partOf, termOf}
 use Rattle.record_writing.specs.Written.{Written}
 use Rattle.record_writing.proofs.Writes.{written-none, written-store}
-use Rattle.terms.proofs.Letters.{scalar-is, dot-is, triple-is, nothing-is, letter-is, wedge-is}
+use Rattle.terms.proofs.Letters.{scalar-is, dot-is, triple-is, letters-long, nothing-is, letter-is, wedge-is}
 use Rattle.symbols.specs.Printable.{Printed}
-use Rattle.symbols.specs.Text.{printFactors, printOthers, pairText, isLeftOut, tripleText, StarWritten}
+use Rattle.symbols.specs.Text.{printFactors, pairText, tripleText, otherLetters, isLeftOut, StarWritten}
 
 -- ════ factors
 
 -- the text of a factor, and that its letters have names
-pub record FactorText (k : ℕ) (letters text : List ℕ) : Type 0 where
-  pub is : printFactor (lettersOf k) ≡ text
-  pub names : Printed letters
+pub record FactorText (names : List ℕ) (k : ℕ) (letters text : List ℕ) : Type 0 where
+  pub is : printFactor names (lettersOf k) ≡ text
+  pub named : Printed names letters
 
-module _ (k : ℕ) (f : Factor) (e : factorOf f ≡ lettersOf k) (n : Printed (lettersOf k)) where
+module _ (names : List ℕ) (k : ℕ) (f : Factor) (e : factorOf f ≡ lettersOf k) (n : Printed names (lettersOf k)) where
   -- a scalar letter
-  pub scalar-text : (x : ℕ) → f ≡ Scalar x → FactorText k (x ∷ []) (printLetter x ∷ [])
+  pub scalar-text : (x : ℕ) → f ≡ Scalar x → FactorText names k (x ∷ []) (nameOf names x ∷ [])
   unfolding printFactor
-  scalar-text x h = let q = scalar-is k f e x h in record { is = rw q; names = rw q at n }
+  scalar-text x h = let q = scalar-is k f e x h in record { is = rw q; named = rw q at n }
 
   -- a dot
-  pub dot-text : (x y : ℕ) → f ≡ Dot x y → FactorText k (x ∷ y ∷ []) (pairText x 46 y)
+  pub dot-text : (x y : ℕ) → f ≡ Dot x y → FactorText names k (x ∷ y ∷ []) (pairText names x 46 y)
   unfolding printFactor
-  dot-text x y h = let q = dot-is k f e x y h in record { is = rw q; names = rw q at n }
+  dot-text x y h = let q = dot-is k f e x y h in record { is = rw q; named = rw q at n }
 
   -- a triple
-  pub triple-text : (x y z : ℕ) → f ≡ Triple x y z → FactorText k (x ∷ y ∷ z ∷ []) (tripleText x y z)
+  pub triple-text : (x y z : ℕ) → f ≡ Triple x y z → FactorText names k (x ∷ y ∷ z ∷ []) (tripleText names x y z)
   unfolding printFactor
-  triple-text x y z h = let q = triple-is k f e x y z h in record { is = rw q; names = rw q at n }
+  triple-text x y z h = let q = triple-is k f e x y z h in record { is = rw q; named = rw q at n }
 
 -- ════ vector parts
 
--- no part
-pub nothing-text : (p : Part) → p ≡ Nothing → printPart (partOf p) ≡ []
-unfolding printPart
-nothing-text p e = rw (nothing-is p e)
+module _ (names : List ℕ) (p : Part) where
+  -- no part
+  pub nothing-text : p ≡ Nothing → printPart names (partOf p) ≡ []
+  unfolding printPart
+  nothing-text e = rw (nothing-is p e)
 
--- a letter
-pub letter-text : (p : Part) (x : ℕ) → p ≡ Letter x → printPart (partOf p) ≡ printLetter x ∷ []
-unfolding printPart
-letter-text p x e = rw (letter-is p x e)
+  -- a letter
+  pub letter-text : (x : ℕ) → p ≡ Letter x → printPart names (partOf p) ≡ nameOf names x ∷ []
+  unfolding printPart
+  letter-text x e = rw (letter-is p x e)
 
--- a wedge
-pub wedge-text : (p : Part) (x y : ℕ) → p ≡ Wedge x y → printPart (partOf p) ≡ pairText x 94 y
-unfolding printPart
-wedge-text p x y e = rw (wedge-is p x y e)
+  -- a wedge
+  pub wedge-text : (x y : ℕ) → p ≡ Wedge x y → printPart names (partOf p) ≡ pairText names x 94 y
+  unfolding printPart
+  wedge-text x y e = rw (wedge-is p x y e)
 
--- the letter has a name
-pub letter-named : (p : Part) (x : ℕ) → p ≡ Letter x → Printed (partOf p) → x < 24
-letter-named p x e n = (rw (letter-is p x e) at n) .0
+  -- the letter has a name
+  pub letter-named : (x : ℕ) → p ≡ Letter x → Printed names (partOf p) → x < length names
+  letter-named x e n = (rw (letter-is p x e) at n) .0
 
--- the letters of a wedge have names
-pub wedge-named : (p : Part) (x y : ℕ) → p ≡ Wedge x y → Printed (partOf p) → (x < 24) × (y < 24)
-wedge-named p x y e n = let w : Printed (x ∷ y ∷ []) = rw (wedge-is p x y e) at n in (w .0, w .1 .0)
+  -- the letters of a wedge have names
+  pub wedge-named : (x y : ℕ) → p ≡ Wedge x y → Printed names (partOf p) → (x < length names) × (y < length names)
+  wedge-named x y e n = let w : Printed names (x ∷ y ∷ []) = rw (wedge-is p x y e) at n in (w .0, w .1 .0)
 
 -- ════ as they are stored
 
 -- a letter
-pub letter-stored : (x a : ℕ) (xs : List ℕ) → a ≡ printLetter x → xs ≡ printLetter x ∷ [] → xs ≡ a ∷ []
+pub letter-stored : (x a : ℕ) (xs : List ℕ) → a ≡ x → xs ≡ x ∷ [] → xs ≡ a ∷ []
 letter-stored x a xs p e = e ∙ ap (λ (z : ℕ). z ∷ []) (sym p)
 
 -- a dot or a wedge
-pub pair-stored : (x mark y a b : ℕ) → a ≡ printLetter x → b ≡ printLetter y → pairText x mark y ≡ 40 ∷ a ∷ mark ∷ b ∷ 41 ∷ []
+pub pair-stored : (x mark y a b : ℕ) → a ≡ x → b ≡ y → 40 ∷ x ∷ mark ∷ y ∷ 41 ∷ [] ≡ 40 ∷ a ∷ mark ∷ b ∷ 41 ∷ []
 pair-stored x mark y a b p q = rw (p, q)
 
 -- a triple
-pub triple-stored : (x y z a b c : ℕ) → a ≡ printLetter x → b ≡ printLetter y → c ≡ printLetter z → tripleText x y z ≡ 40 ∷ a ∷ b ∷ c ∷ 41 ∷ []
+pub triple-stored : (x y z a b c : ℕ) → a ≡ x → b ≡ y → c ≡ z → 40 ∷ x ∷ y ∷ z ∷ 41 ∷ [] ≡ 40 ∷ a ∷ b ∷ c ∷ 41 ∷ []
 triple-stored x y z a b c p q r = rw (p, q, r)
 
 -- ════ whether anything is written
 
-factor-there : (k : ℕ) (l : List ℕ) → isNothing (printFactor (lettersOf k) ++ l) ≡ false
-unfolding isNothing printFactor lettersOf
-factor-there k l = go (ltb k 256) (ltb k 65792)
+-- a factor has letters
+factor-there : (k : ℕ) (l : List ℕ) → isNothing (lettersOf k ++ l) ≡ false
+unfolding isNothing
+factor-there k l = go (lettersOf k) (letters-long k .0)
   where
-    go : (a b : Bool)
-        → isNothing (printFactor (if a then k ∷ [] else if b then (k - 256) / 256 ∷ (k - 256) % 256 ∷ [] else (k - 65792) / 65536 ∷ (k - 65792) / 256 % 256 ∷ (k - 65792) % 256 ∷ []) ++ l) ≡ false
-    go true b = refl
-    go false true = refl
-    go false false = refl
+    go : (f : List ℕ) → 1 ≤ length f → isNothing (f ++ l) ≡ false
+    go [] h = absurd (omega arith)
+    go (x ∷ f) h = refl
 
 module _ (t : Term) where
   -- a factor is
-  pub factors-there : 0 < t .«factor_count» → t .«factor_count» ≤ length (t .factors) → false ≡ isNothing (printOthers (termOf t))
-  unfolding printOthers printFactors termOf joined
+  pub factors-there : 0 < t .«factor_count» → t .«factor_count» ≤ length (t .factors) → false ≡ isNothing (otherLetters (termOf t))
+  unfolding otherLetters termOf joined
   factors-there h g = go (t .«factor_count») (t .factors) h g
     where
-      go : (n : ℕ) (f : List ℕ) → 0 < n → n ≤ length f → false ≡ isNothing (joined (map printFactor (map lettersOf (take n f))) ++ printPart (partOf (t .part)))
+      go : (n : ℕ) (f : List ℕ) → 0 < n → n ≤ length f → false ≡ isNothing (joined (map lettersOf (take n f)) ++ partOf (t .part))
       go zero f h g = absurd (omega arith)
       go (suc n) [] h g = absurd (omega arith)
-      go (suc n) (k ∷ f) h g = let rest = joined (map printFactor (map lettersOf (take n f))) in rw append-assoc (sym (factor-there k (rest ++ printPart (partOf (t .part)))))
+      go (suc n) (k ∷ f) h g = let rest = joined (map lettersOf (take n f)) in rw append-assoc (sym (factor-there k (rest ++ partOf (t .part))))
 
-  others-part : t .«factor_count» ≤ 0 → printOthers (termOf t) ≡ printPart (partOf (t .part))
-  unfolding printOthers printFactors termOf joined
-  others-part h = let e : t .«factor_count» ≡ 0 = omega arith in rw e
+  -- without factors, the letters are those of the vector part
+  letters-part : t .«factor_count» ≤ 0 → otherLetters (termOf t) ≡ partOf (t .part)
+  unfolding otherLetters termOf joined
+  letters-part h = let e : t .«factor_count» ≡ 0 = omega arith in rw e
 
-  -- without factors, nothing
-  pub nothing-there : t .«factor_count» ≤ 0 → t .part ≡ Nothing → true ≡ isNothing (printOthers (termOf t))
+  -- then there is nothing
+  pub nothing-there : t .«factor_count» ≤ 0 → t .part ≡ Nothing → true ≡ isNothing (otherLetters (termOf t))
   unfolding isNothing
-  nothing-there h e = rw (others-part h, nothing-text (t .part) e)
+  nothing-there h e = rw (letters-part h, nothing-is (t .part) e)
 
   -- or a letter
-  pub letter-there : (x : ℕ) → t .«factor_count» ≤ 0 → t .part ≡ Letter x → false ≡ isNothing (printOthers (termOf t))
+  pub letter-there : (x : ℕ) → t .«factor_count» ≤ 0 → t .part ≡ Letter x → false ≡ isNothing (otherLetters (termOf t))
   unfolding isNothing
-  letter-there x h e = rw (others-part h, letter-text (t .part) x e)
+  letter-there x h e = rw (letters-part h, letter-is (t .part) x e)
 
   -- or a wedge
-  pub wedge-there : (x y : ℕ) → t .«factor_count» ≤ 0 → t .part ≡ Wedge x y → false ≡ isNothing (printOthers (termOf t))
+  pub wedge-there : (x y : ℕ) → t .«factor_count» ≤ 0 → t .part ≡ Wedge x y → false ≡ isNothing (otherLetters (termOf t))
   unfolding isNothing
-  wedge-there x y h e = rw (others-part h, wedge-text (t .part) x y e)
+  wedge-there x y h e = rw (letters-part h, wedge-is (t .part) x y e)
+
+-- ════ whatever the names, letters tell whether anything is written
+
+module _ (names : List ℕ) where
+  -- of a vector part
+  part-nothing : (p : List ℕ) → isNothing (printPart names p) ≡ isNothing p
+  unfolding isNothing printPart
+  part-nothing [] = refl
+  part-nothing (a ∷ []) = refl
+  part-nothing (a ∷ b ∷ p) = refl
+
+  -- of factors and a vector part
+  others-nothing : (fs : List (List ℕ)) (p : List ℕ) → isNothing (joined (map (printFactor names) fs) ++ printPart names p) ≡ isNothing (joined fs ++ p)
+  unfolding isNothing joined printFactor
+  others-nothing [] p = part-nothing p
+  others-nothing ([] ∷ fs) p = others-nothing fs p
+  others-nothing ((a ∷ []) ∷ fs) p = refl
+  others-nothing ((a ∷ b ∷ []) ∷ fs) p = refl
+  others-nothing ((a ∷ b ∷ c ∷ f) ∷ fs) p = refl
+
+  -- the coefficient's size by the text beside it
+  pub size-by-letters : (t : S.Term) → printSize (t .coef) (printFactors names t ++ printPart names (t .part)) ≡ printSize (t .coef) (otherLetters t)
+  unfolding printSize printFactors otherLetters
+  size-by-letters t = rw (others-nothing (t .factors) (t .part))
+
+  -- the star by the text behind it
+  pub star-by-letters : (before part : List ℕ) → printStar before (printPart names part) ≡ printStar before part
+  unfolding printStar
+  star-by-letters before part = rw (part-nothing part)
 
 -- ════ the coefficient's size
 
@@ -173,7 +202,8 @@ star-none-behind l from at part h = record { is = go }
     go (x ∷ text) e = rw h (written-none l at [] refl)
 
 -- between a text and a part there is one
-pub star-stored : (l : List ℕ) (from at x : ℕ) (part xs : List ℕ) → from < at → at < length l → part ≡ x ∷ xs → StarWritten l (set l at 42) from at (at + 1) part
+pub star-stored : (l : List ℕ) (from at x : ℕ) (part xs : List ℕ) → from < at → at < length l → part ≡ x ∷ xs
+    → StarWritten l (set l at 42) from at (at + 1) part
 unfolding printStar isNothing
 star-stored l from at x part xs h g e = record { is = go }
   where

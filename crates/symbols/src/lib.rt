@@ -2,13 +2,13 @@
 ghost use mathlib.Core.Path.{_≡_};
 ghost use Prim.Native.Nat.{_+_, _-_, _*_, _≤_, _<_};
 ghost use lib.ListN.{length};
-ghost use Rattle.specification.specs.Printing.{printLetter, decimal, printFactor, printPart, isNothing, printSize, printFirstSign, printSign};
+ghost use Rattle.specification.specs.Printing.{nameOf, decimal, printFactor, printPart, isNothing, printSize, printFirstSign, printSign};
 ghost use Rattle.terms.specs.Numbers.{lettersOf};
 ghost use Rattle.terms.specs.Abstraction.{partOf, termOf, Counted};
 ghost use Rattle.terms.specs.Valid.{TermValid};
 ghost use Rattle.record_writing.specs.Written.{Written};
 ghost use Rattle.symbols.specs.Printable.{Printed};
-ghost use Rattle.symbols.specs.Text.{printOthers, isLeftOut, pairText, tripleText, StarWritten};
+ghost use Rattle.symbols.specs.Text.{otherLetters, isLeftOut, pairText, tripleText, StarWritten};
 use integers::is_negative;
 use integers::size;
 use terms::factors::Factor;
@@ -38,75 +38,75 @@ pub fn print_decimal(out: &mut [u8], at: usize, n: u64) -> usize
     next + 1
 }
 
-// The byte of a letter.
-pub fn letter(n: u8) -> u8
-    requires { ⌜ n < 24 ⌝ }
-    ensures { λ r. ⌜ r ≡ printLetter n ⌝ }
+// The name of a letter.
+pub fn letter(names: &[u8], n: u8) -> u8
+    requires { ⌜ n < length (now names) ⌝ }
+    ensures { λ r. ⌜ r ≡ nameOf (now (names .entry)) n ⌝ }
 {
-    97 + n
+    names[n as usize]
 }
 
 // Two letters with a mark between them: a dot or a wedge.
-fn print_pair(out: &mut [u8], at: usize, x: u8, mark: u8, y: u8) -> usize
-    requires { ⌜ (x < 24) × (y < 24) × (at + 5 ≤ length (now out)) ⌝ }
-    ensures { λ r. ⌜ Written (now (out .entry)) (now (out .exit)) at r (pairText x mark y) ⌝ }
+fn print_pair(names: &[u8], out: &mut [u8], at: usize, x: u8, mark: u8, y: u8) -> usize
+    requires { ⌜ (x < length (now names)) × (y < length (now names)) × (at + 5 ≤ length (now out)) ⌝ }
+    ensures { λ r. ⌜ Written (now (out .entry)) (now (out .exit)) at r (pairText (now (names .entry)) x mark y) ⌝ }
 {
     out[at] = 40;
-    out[at + 1] = letter(x);
+    out[at + 1] = letter(names, x);
     out[at + 2] = mark;
-    out[at + 3] = letter(y);
+    out[at + 3] = letter(names, y);
     out[at + 4] = 41;
     at + 5
 }
 
 // Three letters: a triple.
-fn print_triple(out: &mut [u8], at: usize, x: u8, y: u8, z: u8) -> usize
-    requires { ⌜ (x < 24) × (y < 24) × (z < 24) × (at + 5 ≤ length (now out)) ⌝ }
-    ensures { λ r. ⌜ Written (now (out .entry)) (now (out .exit)) at r (tripleText x y z) ⌝ }
+fn print_triple(names: &[u8], out: &mut [u8], at: usize, x: u8, y: u8, z: u8) -> usize
+    requires { ⌜ (x < length (now names)) × (y < length (now names)) × (z < length (now names)) × (at + 5 ≤ length (now out)) ⌝ }
+    ensures { λ r. ⌜ Written (now (out .entry)) (now (out .exit)) at r (tripleText (now (names .entry)) x y z) ⌝ }
 {
     out[at] = 40;
-    out[at + 1] = letter(x);
-    out[at + 2] = letter(y);
-    out[at + 3] = letter(z);
+    out[at + 1] = letter(names, x);
+    out[at + 2] = letter(names, y);
+    out[at + 3] = letter(names, z);
     out[at + 4] = 41;
     at + 5
 }
 
 // A factor.
-pub fn print_factor(out: &mut [u8], at: usize, k: u32) -> usize
-    requires { ⌜ (k < 16843008) × Printed (lettersOf k) × (at + length (printFactor (lettersOf k)) ≤ length (now out)) ⌝ }
-    ensures { λ r. ⌜ Written (now (out .entry)) (now (out .exit)) at r (printFactor (lettersOf k)) ⌝ }
+pub fn print_factor(names: &[u8], out: &mut [u8], at: usize, k: u32) -> usize
+    requires { ⌜ (k < 16843008) × Printed (now names) (lettersOf k) × (at + length (printFactor (now names) (lettersOf k)) ≤ length (now out)) ⌝ }
+    ensures { λ r. ⌜ Written (now (out .entry)) (now (out .exit)) at r (printFactor (now (names .entry)) (lettersOf k)) ⌝ }
 {
     let f = letters_of(k);
     match f {
         Factor::Scalar(x) => {
-            out[at] = letter(x);
+            out[at] = letter(names, x);
             at + 1
         }
-        Factor::Dot(x, y) => print_pair(out, at, x, b'.', y),
-        Factor::Triple(x, y, z) => print_triple(out, at, x, y, z),
+        Factor::Dot(x, y) => print_pair(names, out, at, x, b'.', y),
+        Factor::Triple(x, y, z) => print_triple(names, out, at, x, y, z),
     }
 }
 
 // A vector part.
-pub fn print_part(out: &mut [u8], at: usize, p: Part) -> usize
-    requires { ⌜ Printed (partOf p) × (at + length (printPart (partOf p)) ≤ length (now out)) ⌝ }
-    ensures { λ r. ⌜ Written (now (out .entry)) (now (out .exit)) at r (printPart (partOf p)) ⌝ }
+pub fn print_part(names: &[u8], out: &mut [u8], at: usize, p: Part) -> usize
+    requires { ⌜ Printed (now names) (partOf p) × (at + length (printPart (now names) (partOf p)) ≤ length (now out)) ⌝ }
+    ensures { λ r. ⌜ Written (now (out .entry)) (now (out .exit)) at r (printPart (now (names .entry)) (partOf p)) ⌝ }
 {
     match p {
         Part::Nothing => at,
         Part::Letter(x) => {
-            out[at] = letter(x);
+            out[at] = letter(names, x);
             at + 1
         }
-        Part::Wedge(x, y) => print_pair(out, at, x, b'^', y),
+        Part::Wedge(x, y) => print_pair(names, out, at, x, b'^', y),
     }
 }
 
 // Whether a term has nothing but its coefficient.
 fn is_bare(t: Term) -> bool
     requires { ⌜ Counted t ⌝ }
-    ensures { λ r. ⌜ r ≡ isNothing (printOthers (termOf t)) ⌝ }
+    ensures { λ r. ⌜ r ≡ isNothing (otherLetters (termOf t)) ⌝ }
 {
     if t.factor_count > 0 {
         return false;
@@ -122,7 +122,7 @@ fn is_bare(t: Term) -> bool
 // Whether a coefficient of this size is left out: 1 is, where anything else is written.
 fn is_left_out(n: u64, t: Term) -> bool
     requires { ⌜ Counted t ⌝ }
-    ensures { λ r. ⌜ r ≡ isLeftOut n (printOthers (termOf t)) ⌝ }
+    ensures { λ r. ⌜ r ≡ isLeftOut n (otherLetters (termOf t)) ⌝ }
 {
     if n != 1 {
         return false;
@@ -132,8 +132,8 @@ fn is_left_out(n: u64, t: Term) -> bool
 
 // The size of a term's coefficient, if it is not left out.
 pub fn print_size(out: &mut [u8], at: usize, t: Term) -> usize
-    requires { ⌜ TermValid t × (at + length (printSize (t .coef) (printOthers (termOf t))) ≤ length (now out)) ⌝ }
-    ensures { λ r. ⌜ Written (now (out .entry)) (now (out .exit)) at r (printSize (t .coef) (printOthers (termOf t))) ⌝ }
+    requires { ⌜ TermValid t × (at + length (printSize (t .coef) (otherLetters (termOf t))) ≤ length (now out)) ⌝ }
+    ensures { λ r. ⌜ Written (now (out .entry)) (now (out .exit)) at r (printSize (t .coef) (otherLetters (termOf t))) ⌝ }
 {
     let n = size(t.coef);
     if is_left_out(n, t) {
@@ -145,7 +145,7 @@ pub fn print_size(out: &mut [u8], at: usize, t: Term) -> usize
 // The star before a vector part, if anything stands from a position on.
 pub fn print_star(out: &mut [u8], from: usize, at: usize, p: Part) -> usize
     requires { ⌜ at < length (now out) ⌝ }
-    ensures { λ r. ⌜ StarWritten (now (out .entry)) (now (out .exit)) from at r (printPart (partOf p)) ⌝ }
+    ensures { λ r. ⌜ StarWritten (now (out .entry)) (now (out .exit)) from at r (partOf p) ⌝ }
 {
     if at <= from {
         return at;

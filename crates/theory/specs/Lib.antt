@@ -15,3 +15,4 @@ pub mod Records
 pub mod Replay
 pub mod Shortening
 pub mod Lines
+pub mod Text

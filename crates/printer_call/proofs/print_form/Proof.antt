@@ -1,3 +1,4 @@
+-- `printer_call::print_form` meets its contract, test by test. Assumes nothing.
 use native.Mathlib.Omega.{arith}
 use Rattle.printer_call.proofs.Answers.{table-refused, expression-refused, form-printable, form-printed}
 use borrow.Author.Needs.{needs}
@@ -14,7 +15,9 @@ same-length : tie.Need-same-length
 same-length c = search needs
 
 returns : tie.Need-returns
-returns c = table-refused _ _ _ (c .before .before .before .before .before .check-table .ensures) _ _ _ (c .before .before .before .before .if1 .taken) (c .before .before .print-refusal .ensures)
+returns c =
+    table-refused _ _ _ (c .before .before .before .before .before .check-table .ensures) _ _ _ (c .before .before .before .before .if1 .taken)
+    (c .before .before .print-refusal .ensures)
 
 form-of-requires : tie.Need-form-of-requires
 form-of-requires c κs = search needs
@@ -31,21 +34,25 @@ returns-2 c =
     (c .before .before .before .before .before .before .if1 .left) _ (c .before .before .before .before .before .form-of .ensures)
     (c .before .before .before .before .if2 .taken) (c .before .before .print-refusal2 .ensures)
 
+slice-aggregate-print-line : tie.Need-slice-aggregate-print-line
+slice-aggregate-print-line c = search needs
+
 print-line-requires : tie.Need-print-line-requires
-print-line-requires c κs = (
-  form-printable _ _ _ _ (c .before .before .before .before .before .check-table .ensures) (c .before .before .before .before .if1 .left)
-      (c .before .before .before .form-of .ensures) (c .before .before .if2 .left),
-  (c .before .before .before .before .before .before .before .before .before .pre),
-)
+print-line-requires c κs =
+    let w = c .before .before .before in
+    let v = w .before .before in
+    let p = form-printable _ _ _ _ (v .before .check-table .ensures) (v .if1 .left) (w .before .form-of .ensures) (w .if2 .left) in
+    (p, v .before .before .before .before .before .pre)
 
 same-length-3 : tie.Need-same-length-3
 same-length-3 c = search needs
 
 returns-3 : tie.Need-returns-3
 returns-3 c =
-    form-printed _ _ _ (c .before .before .before .before .before .before .before .before .check-table .ensures) _ _ _
-    (c .before .before .before .before .before .before .before .if1 .left) _ (c .before .before .before .before .before .before .form-of .ensures)
-    (c .before .before .before .before .before .if2 .left) (c .before .before .print-line .ensures)
+    let w = c .before .before .before .before .before .before in
+    let v = w .before .before in
+    form-printed _ _ _ (v .before .check-table .ensures) _ _ _ (v .if1 .left) _ (w .before .form-of .ensures) (w .if2 .left)
+    (c .before .before .print-line .ensures)
 
 pub print-form-spec : {M : Type 1} → statement M
 print-form-spec =
@@ -59,6 +66,7 @@ print-form-spec =
     print-refusal-requires-2
     same-length-2
     returns-2
+    slice-aggregate-print-line
     print-line-requires
     same-length-3
     returns-3)

@@ -12,7 +12,7 @@ use Rattle.printing.proofs.print_single.Statement.{statement}
 use Rattle.printing.proofs.print_single.Tie as tie
 
 -- the sign is written
-signed : (c : tie.After-print-first-sign) → let s = c .before .before .before .before in
+signed : (c : tie.After-print-first-sign) → let s = c .before .before .before .before .before in
     Written (s .args .out .now) (c .print-first-sign .last .0) (s .args .at) (c .print-first-sign .result) (printFirstSign (s .args .t .coef))
 signed c = written-as _ _ _ _ _ _ (ap printFirstSign (sym (back-is (record { sfits = c .before .struct-told .given .0 .1 })))) (c .print-first-sign .ensures)
 
@@ -22,7 +22,7 @@ print-first-sign-requires c κs = search needs
 print-term-requires : tie.Need-print-term-requires
 print-term-requires c κs =
     let w = c .before .before .before in
-    let s = w .before .before .before .before in
+    let s = w .before .before .before .before .before in
     (s .pre .0, omega (arith, s .pre .1, (signed w) .ends, w .print-first-sign .kept .0, first-short (s .args .t .coef)))
 
 same-length : tie.Need-same-length
@@ -31,8 +31,8 @@ same-length c = search needs
 returns : tie.Need-returns
 returns c =
     let w = c .before .before .before .before .before .before in
-    let s = w .before .before .before .before in
-    single-written (s .args .t) _ _ _ _ _ _ (omega (arith, s .pre .1)) (signed w) (c .before .before .print-term .ensures)
+    let s = w .before .before .before .before .before in
+    single-written (s .args .names .now) (s .args .t) _ _ _ _ _ _ (omega (arith, s .pre .1)) (signed w) (c .before .before .print-term .ensures)
 
 pub print-single-spec : {M : Type 1} → statement M
 print-single-spec =

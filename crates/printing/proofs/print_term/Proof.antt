@@ -10,27 +10,29 @@ use Rattle.printing.proofs.print_term.Tie as tie
 
 -- where the function starts, as seen behind the first call
 abbrev from-size : tie.After-print-size → tie.Start
-from-size c = c .before .before .before
+from-size c = c .before .before .before .before
 
 -- each call keeps the length
-factors-kept : (c : tie.After-print-factors) → length (c .print-factors .last .0) ≡ length (from-size (c .before .before .before .before) .args .out .now)
-factors-kept c = c .print-factors .kept .0 ∙ c .before .before .before .before .print-size .kept .0
+factors-kept : (c : tie.After-print-factors) → length (c .print-factors .last .1 .0) ≡ length (from-size (c .before .before .before .before) .args .out .now)
+factors-kept c = c .print-factors .kept .1 .0 ∙ c .before .before .before .before .print-size .kept .0
 
-star-kept : (c : tie.After-print-star) → length (c .print-star .last .0) ≡ length (from-size (c .before .before .before .before .before .before .before .before) .args .out .now)
+star-kept : (c : tie.After-print-star)
+    → length (c .print-star .last .0) ≡ length (from-size (c .before .before .before .before .before .before .before .before) .args .out .now)
 star-kept c = c .print-star .kept .0 ∙ factors-kept (c .before .before .before .before)
 
 print-size-requires : tie.Need-print-size-requires
 unfolding termOf
 print-size-requires c κs =
-    let s = c .before .before in
-    (s .pre .0 .valid, omega (arith, pieces-short (termOf (s .args .t)) (s .pre .0 .valid .inShape), s .pre .1))
+    let s = c .before .before .before in
+    (s .pre .0 .valid, omega (arith, pieces-short (s .args .names .now) (termOf (s .args .t)) (s .pre .0 .valid .inShape), s .pre .1))
 
 print-factors-requires : tie.Need-print-factors-requires
 unfolding termOf
 print-factors-requires c κs =
     let w = c .before .before .before in
     let s = from-size w in
-    (s .pre .0, omega (arith, pieces-short (termOf (s .args .t)) (s .pre .0 .valid .inShape), s .pre .1, w .print-size .kept .0, w .print-size .ensures .ends))
+    let h = pieces-short (s .args .names .now) (termOf (s .args .t)) (s .pre .0 .valid .inShape) in
+    (s .pre .0, omega (arith, h, s .pre .1, w .print-size .kept .0, w .print-size .ensures .ends))
 
 print-star-requires : tie.Need-print-star-requires
 unfolding termOf
@@ -38,7 +40,8 @@ print-star-requires c κs =
     let w = c .before .before .before in
     let v = w .before .before .before .before in
     let s = from-size v in
-    omega (arith, pieces-short (termOf (s .args .t)) (s .pre .0 .valid .inShape), s .pre .1, factors-kept w, v .print-size .ensures .ends, w .print-factors .ensures .ends)
+    let h = pieces-short (s .args .names .now) (termOf (s .args .t)) (s .pre .0 .valid .inShape) in
+    omega (arith, h, s .pre .1, factors-kept w, v .print-size .ensures .ends, w .print-factors .ensures .ends)
 
 print-part-requires : tie.Need-print-part-requires
 unfolding termOf
@@ -47,11 +50,12 @@ print-part-requires c κs =
     let w = x .before .before .before .before in
     let v = w .before .before .before .before in
     let s = from-size v in
-    let r = part-room (termOf (s .args .t)) _ _ _ _ _ _ _ _ (s .pre .0 .valid .inShape) (s .pre .1) (v .print-size .ensures) (w .print-factors .ensures) (x .print-star .ensures) in
+    let r = part-room (s .args .names .now) (termOf (s .args .t)) _ _ _ _ _ _ _ _ (s .pre .0 .valid .inShape) (s .pre .1)
+    (v .print-size .ensures) (w .print-factors .ensures) (x .print-star .ensures) in
     (s .pre .0 .letters .part, omega (arith, r, star-kept x))
 
 same-length : tie.Need-same-length
-same-length c = c .before .before .print-part .kept .0 ∙ star-kept (c .before .before .before .before .before .before)
+same-length c = c .before .before .print-part .kept .1 .0 ∙ star-kept (c .before .before .before .before .before .before)
 
 returns : tie.Need-returns
 unfolding termOf
@@ -60,7 +64,7 @@ returns c =
     let w = x .before .before .before .before in
     let v = w .before .before .before .before in
     let s = from-size v in
-    term-written (termOf (s .args .t)) _ _ _ _ _ _ _ _ (s .pre .0 .valid .inShape) (s .pre .1)
+    term-written (s .args .names .now) (termOf (s .args .t)) _ _ _ _ _ _ _ _ (s .pre .0 .valid .inShape) (s .pre .1)
     (v .print-size .ensures) (w .print-factors .ensures) (x .print-star .ensures) _ _ (c .before .before .print-part .ensures)
 
 pub print-term-spec : {M : Type 1} → statement M

@@ -17,28 +17,30 @@ use Rattle.printing.proofs.print_terms.Statement.{statement}
 use Rattle.printing.proofs.print_terms.Tie as tie
 
 abbrev Inv-loop : tie.InvT-loop
-Inv-loop out₀ at f n next₀ i₀ out next i = (1 ≤ i) × (next + 29 * (n - i) ≤ length out) × UnderWay out₀ out at next (termsFrom (f .terms) n 1) (termsFrom (f .terms) n i)
+Inv-loop names out₀ at f n next₀ i₀ out next i =
+    (1 ≤ i) × (next + 29 * (n - i) ≤ length out) × UnderWay out₀ out at next (termsFrom names (f .terms) n 1) (termsFrom names (f .terms) n i)
 
 abbrev μ-loop : tie.MeasureT-loop
-μ-loop out₀ at f n next₀ i₀ out next i = n - i
+μ-loop names out₀ at f n next₀ i₀ out next i = n - i
 
 -- there are 48 places
-places : (c : tie.Start Inv-loop μ-loop) → length (c .args .t3 .terms) ≡ 48
-places c = sym (length-map (c .args .t3 .terms) _) ∙ c .good .1 .1 .0 .1 .1 .1 .1 .0 .1 .0 .1
+places : (c : tie.Start Inv-loop μ-loop) → length (c .args .t4 .terms) ≡ 48
+places c = sym (length-map (c .args .t4 .terms) _) ∙ c .good .1 .1 .1 .0 .1 .1 .1 .1 .0 .1 .0 .1
 
 -- so that the terms are among them
-few : (c : tie.Start Inv-loop μ-loop) → c .args .t3 .count ≤ length (c .args .t3 .terms)
+few : (c : tie.Start Inv-loop μ-loop) → c .args .t4 .count ≤ length (c .args .t4 .terms)
 few c = omega (arith, places c, c .pre .0 .valid .few)
 
 -- the term of a turn
 abbrev term : tie.At-loop Inv-loop μ-loop → Term
-term c = getD (c .before .before .args .t3 .terms) (c .loop .i) noTerm
+term c = getD (c .before .before .before .args .t4 .terms) (c .loop .i) noTerm
 
 -- it can be printed
-printed : (c : tie.After-struct-told Inv-loop μ-loop) → TermPrintable (term (c .before .before .before .before))
+printed : (c : tie.After-struct-told Inv-loop μ-loop) → let l = c .before .before .before .before in
+    TermPrintable (l .before .before .before .args .names .now) (term l)
 printed c =
-    let s = c .before .before .before .before .before .before in
-    term-printable (s .args .t3) _ noTerm (s .pre .0) (few s) (c .before .before .before .loop-test .taken)
+    let s = c .before .before .before .before .before .before .before in
+    term-printable (s .args .names .now) (s .args .t4) _ noTerm (s .pre .0) (few s) (c .before .before .before .loop-test .taken)
 
 -- its sign is written
 signed : (c : tie.After-print-sign Inv-loop μ-loop) → let l = c .before .before .before .before .before in
@@ -46,13 +48,13 @@ signed : (c : tie.After-print-sign Inv-loop μ-loop) → let l = c .before .befo
 signed c = written-as _ _ _ _ _ _ (ap printSign (sym (back-is (record { sfits = c .before .struct-told .given .0 .1 })))) (c .print-sign .ensures)
 
 loop-holds : tie.Need-loop-holds Inv-loop μ-loop
-loop-holds c = (omega arith, c .before .pre .1, begins _ _ _)
+loop-holds c = (omega arith, c .before .before .pre .1, begins _ _ _)
 
 mul-t : tie.Need-mul-t Inv-loop μ-loop
-mul-t c = omega (arith, c .before .before .before .pre .0 .valid .few)
+mul-t c = omega (arith, c .before .before .before .before .pre .0 .valid .few)
 
 element-copy-out-t : tie.Need-element-copy-out-t Inv-loop μ-loop
-element-copy-out-t c = omega (arith, c .before .before .before .pre .0 .valid .few)
+element-copy-out-t c = omega (arith, c .before .before .before .before .pre .0 .valid .few)
 
 print-sign-requires : tie.Need-print-sign-requires Inv-loop μ-loop
 print-sign-requires c κs = omega (arith, c .before .before .before .before .loop .inv .1)
@@ -61,10 +63,11 @@ print-term-requires : tie.Need-print-term-requires Inv-loop μ-loop
 print-term-requires c κs =
     let w = c .before .before .before in
     let l = w .before .before .before .before .before in
-    (printed (w .before), omega (arith, l .loop .inv .1, w .before .before .before .before .loop-test .taken, (signed w) .ends, w .print-sign .kept .0, later-short (term l .coef)))
+    let i = w .before .before .before .before .loop-test .taken in
+    (printed (w .before), omega (arith, l .loop .inv .1, i, (signed w) .ends, w .print-sign .kept .0, later-short (term l .coef)))
 
 add-i : tie.Need-add-i Inv-loop μ-loop
-add-i c = omega (arith, c .before .before .before .before .before .before .before .before .before .before .before .before .before .pre .0 .valid .few)
+add-i c = omega (arith, c .before .before .before .before .before .before .before .before .before .before .before .before .before .before .pre .0 .valid .few)
 
 loop-less : tie.Need-loop-less Inv-loop μ-loop
 loop-less c = omega arith
@@ -73,21 +76,21 @@ loop-again : tie.Need-loop-again Inv-loop μ-loop
 loop-again c =
     let w = c .before .before .before .before .before .before in
     let l = w .before .before .before .before .before in
-    let s = l .before .before in
+    let s = l .before .before .before in
     let i = w .before .before .before .before .loop-test .taken in
-    let h = signed-short (term l) (printed (w .before) .valid) in
+    let h = signed-short (s .args .names .now) (term l) (printed (w .before) .valid) in
     let r : l .loop .next + 29 ≤ length (l .loop .out) = omega (arith, l .loop .inv .1, i) in
     let e = written-then _ _ _ _ _ _ _ _ (omega arith) (signed w) (c .before .before .print-term .ensures) in (
       omega arith,
-      omega (arith, l .loop .inv .1, i, e .ends, h, c .before .before .print-term .kept .0, w .print-sign .kept .0),
-      goes-on _ _ _ _ _ _ _ _ _ _ (term-next _ _ _ noTerm (few s) i) (omega arith) (l .loop .inv .2) e,
+      omega (arith, l .loop .inv .1, i, e .ends, h, c .before .before .print-term .kept .1 .0, w .print-sign .kept .0),
+      goes-on _ _ _ _ _ _ _ _ _ _ (term-next _ _ _ _ noTerm (few s) i) (omega arith) (l .loop .inv .2) e,
     )
 
 same-length : tie.Need-same-length Inv-loop μ-loop
 same-length c = c .before .loop .inv .2 .kept
 
 returns : tie.Need-returns Inv-loop μ-loop
-returns c = let w = c .before in ended _ _ _ _ _ _ (terms-end _ _ _ noTerm (few (w .before .before)) (c .loop-test .left)) (w .loop .inv .2)
+returns c = let w = c .before in ended _ _ _ _ _ _ (terms-end _ _ _ _ noTerm (few (w .before .before .before)) (c .loop-test .left)) (w .loop .inv .2)
 
 pub print-terms-spec : {M : Type 1} → statement M
 print-terms-spec =

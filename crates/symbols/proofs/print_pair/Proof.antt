@@ -51,8 +51,8 @@ same-length c = search needs
 
 returns : tie.Need-returns
 returns c =
-    written-stores _ _ _ _ (40 ∷ c .before .letter .result ∷ c .before .before .before .args .mark ∷ c .letter2 .result ∷ 41 ∷ []) _
-    (pair-stored _ _ _ _ _ (c .before .letter .ensures) (c .letter2 .ensures)) (c .before .before .before .pre .2) refl (simp towards-suc)
+    written-stores _ _ _ _ (40 ∷ c .before .letter .result ∷ c .before .before .before .before .args .mark ∷ c .letter2 .result ∷ 41 ∷ []) _
+    (pair-stored _ _ _ _ _ (c .before .letter .ensures) (c .letter2 .ensures)) (c .before .before .before .before .pre .2) refl (simp towards-suc)
 
 pub print-pair-spec : {M : Type 1} → statement M
 print-pair-spec =

@@ -10,7 +10,7 @@ use Rattle.integers.proofs.Machine.{back-is}
 use Rattle.record_writing.proofs.Writes.{written-none}
 use Rattle.record_writing.proofs.Terms.{coef-size}
 use Rattle.terms.specs.Abstraction.{termOf}
-use Rattle.symbols.specs.Text.{printOthers}
+use Rattle.symbols.specs.Text.{otherLetters}
 use Rattle.symbols.proofs.Pieces.{size-left-out, size-decimal}
 use Rattle.symbols.proofs.Progress.{written-as}
 use Rattle.symbols.proofs.print_size.Statement.{statement}
@@ -37,7 +37,7 @@ print-decimal-requires : tie.Need-print-decimal-requires
 print-decimal-requires c κs =
     let w = c .before .before in
     let s = w .before .before .before .before in
-    let e = size-decimal (s .args .t .coef) (w .before .size .result) (printOthers (termOf (s .args .t))) (w .is-left-out .result) (sized (w .before))
+    let e = size-decimal (s .args .t .coef) (w .before .size .result) (otherLetters (termOf (s .args .t))) (w .is-left-out .result) (sized (w .before))
     (w .is-left-out .ensures) (c .before .if1 .left) in
     (omega (arith, sized (w .before), coef-size (s .args .t) (s .pre .0)), omega (arith, ap length e, s .pre .1))
 
@@ -47,7 +47,8 @@ same-length c = search needs
 returns-2 : tie.Need-returns-2
 returns-2 c =
     let w = c .before .before .before .before .before in
-    written-as _ _ _ _ _ _ (size-decimal _ _ _ _ (sized (w .before)) (w .is-left-out .ensures) (c .before .before .before .before .if1 .left)) (c .before .before .print-decimal .ensures)
+    written-as _ _ _ _ _ _ (size-decimal _ _ _ _ (sized (w .before)) (w .is-left-out .ensures) (c .before .before .before .before .if1 .left))
+    (c .before .before .print-decimal .ensures)
 
 pub print-size-spec : {M : Type 1} → statement M
 print-size-spec =

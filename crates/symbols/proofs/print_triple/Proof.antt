@@ -55,8 +55,8 @@ same-length c = search needs
 returns : tie.Need-returns
 returns c =
     written-stores _ _ _ _ (40 ∷ c .before .before .letter .result ∷ c .before .letter2 .result ∷ c .letter3 .result ∷ 41 ∷ []) _
-    (triple-stored _ _ _ _ _ _ (c .before .before .letter .ensures) (c .before .letter2 .ensures) (c .letter3 .ensures)) (c .before .before .before .before .pre .3)
-    refl (simp towards-suc)
+    (triple-stored _ _ _ _ _ _ (c .before .before .letter .ensures) (c .before .letter2 .ensures) (c .letter3 .ensures))
+    (c .before .before .before .before .before .pre .3) refl (simp towards-suc)
 
 pub print-triple-spec : {M : Type 1} → statement M
 print-triple-spec =

@@ -183,7 +183,7 @@ one-product parts left right t u v makes shape =
     tested ts = require (all lettersFit ts) 8 >> (require (all termWithin ts) 9 >> within (termKind v) (gather ts))
 
 -- a scalar term times a term with the coefficient 1
-times-one : (c : ℤ) (fs gs : List (List ℕ)) (p : List ℕ) → T (termInShape (record { coef = c; factors = fs ++ gs; part = p }))
+pub times-one : (c : ℤ) (fs gs : List (List ℕ)) (p : List ℕ) → T (termInShape (record { coef = c; factors = fs ++ gs; part = p }))
     → timesForms (oneTerm scalar (scalarTerm c fs)) (oneTerm (kindOfPart p) (plus gs p))
     ≡ given (oneTerm (kindOfPart p) (record { coef = c; factors = fs ++ gs; part = p }))
 unfolding timesForms timesParts pairTerms timesTerm joinedScalars vectorLetters scalarLetters termKind
@@ -218,19 +218,19 @@ one-part (a ∷ []) h = tt
 one-part (a ∷ b ∷ []) h = rw (is-true (ltb a b) h) tt
 one-part (a ∷ b ∷ c ∷ p) h = absurd h
 
-dot-stands : (a b : ℕ) → T (leb a b)
+pub dot-stands : (a b : ℕ) → T (leb a b)
     → dotForms (letterForm a vector) (letterForm b vector) ≡ given (oneTerm scalar (plus ((a ∷ b ∷ []) ∷ []) []))
 unfolding letterForm dotForms dotParts pairTerms timesTerm joinedScalars shapes factorInShape
 dot-stands a b h =
     one-product dotParts vector vector (plus [] (a ∷ [])) (plus [] (b ∷ [])) (plus ((a ∷ b ∷ []) ∷ []) []) refl (one-factor (a ∷ b ∷ []) h)
 
-wedge-stands : (a b : ℕ) → T (ltb a b)
+pub wedge-stands : (a b : ℕ) → T (ltb a b)
     → wedgeForms (letterForm a vector) (letterForm b vector) ≡ given (oneTerm vector (plus [] (a ∷ b ∷ [])))
 unfolding letterForm wedgeForms wedgeParts pairTerms timesTerm joinedScalars shapes partInShape
 wedge-stands a b h =
     one-product wedgeParts vector vector (plus [] (a ∷ [])) (plus [] (b ∷ [])) (plus [] (a ∷ b ∷ [])) refl (one-part (a ∷ b ∷ []) h)
 
-triple-stands : (a b c : ℕ) → T (ltb a b && ltb b c)
+pub triple-stands : (a b c : ℕ) → T (ltb a b && ltb b c)
     → tripleForms (letterForm a vector) (letterForm b vector) (letterForm c vector)
     ≡ given (oneTerm scalar (plus ((a ∷ b ∷ c ∷ []) ∷ []) []))
 unfolding letterForm tripleForms dotForms dotParts pairTerms timesTerm joinedScalars shapes factorInShape
@@ -324,7 +324,7 @@ ascend-front (f ∷ []) gs a = (tt, tt)
 ascend-front (f ∷ h ∷ fs) gs a = (a .0, ascend-front (h ∷ fs) gs (a .1))
 
 -- a term in shape without its last factors and its part
-front-closes : (c : ℤ) (fs gs : List (List ℕ)) (p : List ℕ) → T (termInShape (record { coef = c; factors = fs ++ gs; part = p }))
+pub front-closes : (c : ℤ) (fs gs : List (List ℕ)) (p : List ℕ) → T (termInShape (record { coef = c; factors = fs ++ gs; part = p }))
     → T (termInShape (scalarTerm c fs))
 front-closes c fs gs p h =
     let s = term-opens (record { coef = c; factors = fs ++ gs; part = p }) h in
@@ -358,7 +358,7 @@ unfolding frontOf termKind
 front-in-shape k t h = term-in-shape (frontOf k t) (front-shape k t h)
 
 -- a constant that is not 0 is itself
-constant-stands : (c : ℤ) → NonZero c → T (coefWithin c) → constantForm c ≡ given (oneTerm scalar (scalarTerm c []))
+pub constant-stands : (c : ℤ) → NonZero c → T (coefWithin c) → constantForm c ≡ given (oneTerm scalar (scalarTerm c []))
 unfolding constantForm keep isZero
 constant-stands (pos zero) h w = absurd (h refl)
 constant-stands (pos (suc n)) h w = passes (coefWithin (pos (suc n))) 9 _ w

@@ -16,19 +16,20 @@ use Rattle.log_lines.proofs.lines.print_multiplier.Tie as tie
 
 -- where the function starts, as seen behind the call
 abbrev from-single : tie.After-print-single → tie.Start
-from-single c = c .before .before .before
+from-single c = c .before .before .before .before
 
 -- the call keeps the length
-kept : (c : tie.After-print-single) → length (c .print-single .last .0) ≡ length (from-single c .args .out .now)
-kept c = c .print-single .kept .0 ∙ simp length-set
+kept : (c : tie.After-print-single) → length (c .print-single .last .1 .0) ≡ length (from-single c .args .out .now)
+kept c = c .print-single .kept .1 .0 ∙ simp length-set
 
 -- what stands behind it
 written : (c : tie.After-print-single) → let s = from-single c in
-    (c .print-single .result < length (c .print-single .last .0))
-    × Written (s .args .out .now) (set (c .print-single .last .0) (c .print-single .result) 10) (s .args .at) (c .print-single .result + 1) (printMultiplier (termOf (s .args .m)))
+    (c .print-single .result < length (c .print-single .last .1 .0))
+    × Written (s .args .out .now) (set (c .print-single .last .1 .0) (c .print-single .result) 10) (s .args .at) (c .print-single .result + 1)
+    (printMultiplier (s .args .names .now) (termOf (s .args .m)))
 written c =
     let s = from-single c in
-    multiplier-written (s .args .m) (s .pre .0 .valid) _ _ _ _ _ (s .pre .1)
+    multiplier-written (s .args .names .now) (s .args .m) (s .pre .0 .valid) _ _ _ _ _ (s .pre .1)
     (written-stores _ _ _ _ (44 ∷ 32 ∷ 77 ∷ 32 ∷ 61 ∷ 32 ∷ []) _ refl (omega (arith, s .pre .1)) refl (simp towards-suc))
     (c .print-single .ensures)
     (kept c)
@@ -70,7 +71,7 @@ add-print-single : tie.Need-add-print-single
 add-print-single c = search needs
 
 print-single-requires : tie.Need-print-single-requires
-print-single-requires c κs = let s = c .before .before in (s .pre .0, simp length-set (omega (arith, s .pre .1)))
+print-single-requires c κs = let s = c .before .before .before in (s .pre .0, simp length-set (omega (arith, s .pre .1)))
 
 slice-write-out-7 : tie.Need-slice-write-out-7
 slice-write-out-7 c = written (c .before .before) .0
