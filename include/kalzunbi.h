@@ -2,7 +2,7 @@
  * library and nothing else.
  *
  * A call answers with one signed number: 0 or more where it gives something, minus the number of the refusal otherwise; for a log the step is told too.
- * The numbers stand below with their names. docs/FORMAT.md explains expressions, forms and logs byte by byte.
+ * The numbers stand below with their names. docs/FORMAT.md explains expressions, forms and logs byte by byte, and the text of a formula.
  *
  * What the caller owes:
  * - A pointer and the length behind it belong together: so many elements (not bytes) from there on are one object, readable, and writable where the
@@ -11,8 +11,8 @@
  * - Bytes need no alignment; an int64_t has its own, 8.
  * - Memory is lent for the time of the call. Nothing is kept: there is no state, no heap and no file, so threads may call at the same time as long as
  *   none writes what another reads.
- * - The calling thread has 32 kB of its stack left for a value or a decision, 64 kB for a check, an insertion or a shortening, 128 kB for a
- *   reduction.
+ * - The calling thread has 32 kB of its stack left for a value, a decision or a printing, 64 kB for a check, an insertion, a shortening or an audit,
+ *   128 kB for a reduction, 256 kB for the reading of a text.
  *
  * An example, a program as it stands. tests/c_calls.sh compiles and runs it.
  *
@@ -69,23 +69,25 @@
 extern "C" {
 #endif
 
-/* The refusals, and by whose doing. 1 comes first, then 2, then contents. A refused call leaves all memory as it was. */
+/* The refusals, and by whose doing. 1 comes first, then 2, then contents. A refused call leaves all memory as it was; only the column of a refused text is
+ * written. */
 enum kalzunbi_refusal {
     /* the caller */
-    KALZUNBI_REFUSED_TABLE = 1,       /* a table of 0 or over 24 bytes, or a byte above 1 */
+    KALZUNBI_REFUSED_TABLE = 1,       /* a table of 0 or over 24 bytes, or a byte above 1; names that are not one for each of its letters, that are no
+                                         letters a to z or A to Z, or one of them twice */
     KALZUNBI_REFUSED_MEMORY = 2,      /* memory lent that is shorter than required */
     KALZUNBI_REFUSED_ASSIGNMENT = 12, /* an assignment not 3 bytes a letter, out of -6 to 6, or not 0 where it has to be; tested after the form */
 
-    /* the author of the expression */
-    KALZUNBI_REFUSED_LONG_OR_DEEP = 3, /* an expression over 512 bytes, or more than 16 deep */
-    KALZUNBI_REFUSED_TORN = 4,         /* an expression with a byte missing, left over or unknown */
+    /* the author of the expression or the text */
+    KALZUNBI_REFUSED_LONG_OR_DEEP = 3, /* an expression over 512 bytes, or more than 16 deep; a text over 4096 bytes, or parentheses more than 16 deep */
+    KALZUNBI_REFUSED_TORN = 4,         /* an expression with a byte missing, left over or unknown; a text with something missing, or where it may not stand */
     KALZUNBI_REFUSED_MANY_PAIRS = 7,   /* a product of more than 48 pairs of terms, vanishing ones counted */
 
-    /* the author of the expression; or the sender of the form or log whose letter it is, of the two forms to decide, of the log whose step it is */
-    KALZUNBI_REFUSED_ABSENT_LETTER = 5, /* a letter that is not in the table */
+    /* the author of the expression or the text; or the sender of the form or log whose letter it is, of the two forms to decide, of the log whose step it is */
+    KALZUNBI_REFUSED_ABSENT_LETTER = 5, /* a letter that is not in the table, a name that is not declared */
     KALZUNBI_REFUSED_KIND = 6,          /* operands or two forms whose kinds do not fit, a letter of the wrong kind, a step of another kind than the form */
 
-    /* the author of the expression; or the sender of the log whose step it is */
+    /* the author of the expression or the text; or the sender of the log whose step it is */
     KALZUNBI_REFUSED_MANY_LETTERS = 8, /* a term of a product's pair, one that does not vanish, with over 6 vector letters or over 2 scalar letters; a
                                           step's M and rule with over 6 vector letters, vanishing or not */
     KALZUNBI_REFUSED_COEFFICIENT = 9,  /* a coefficient beyond 2147483647 in size: a constant's, that of a term of a product's pair, one that does not
@@ -154,6 +156,40 @@ int64_t kalzunbi_decide(const uint8_t *table, size_t table_length, const uint8_t
 int64_t kalzunbi_reduce(const uint8_t *table, size_t table_length, const uint8_t *expression, size_t expression_length, uint8_t *out,
                         size_t out_length);
 
+/* bytes that the text of a formula has at most */
+#define KALZUNBI_TEXT 4096
+
+/* The form of a formula written as text.
+ *
+ * table: as above.
+ * names: one byte a letter of the table, in its order: a to z or A to Z, none twice.
+ * line: sums of products. + and -, also in front; a product by * or side by side; x.y and x^y; (xyz), exactly three names, a triple; parentheses, nested at
+ *   most 16 deep; whole numbers in decimal, only first in a product or behind *; blanks between all of these. ^ binds closest, then ., then the product,
+ *   then + and -. x^y and x.y take two operands: x^y^z wants parentheses. At most 4096 bytes.
+ * out: at least 770 bytes. The form's record becomes their beginning; the bytes after it stand.
+ * columns: at least 1 number. Where the text is refused, with 3 to 10, the first becomes the column, an index into the line that counts from 0: of what may
+ *   not stand there or does not fit, of the operator that could not be worked (a factor's first byte where it stands side by side, a triple's opening
+ *   parenthesis, a number's first digit); the line's length where something is missing at its end, 4096 for a line that is too long. Nothing else is
+ *   written then. 1 and 2 write nothing. Further numbers stand, and all of them where the text has a form.
+ *
+ * Returns the length of the record, or -1, -2, then -3, -4 or -5 from reading, the first in the line, then -6, -7, -8, -9 or -10 from working. */
+int64_t kalzunbi_read_text(const uint8_t *table, size_t table_length, const uint8_t *names, size_t names_length, const uint8_t *line, size_t line_length,
+                           uint8_t *out, size_t out_length, uint64_t *columns, size_t columns_length);
+
+/* bytes that the text of any form fits into, and the least that the call which prints one takes */
+#define KALZUNBI_LINE 1393
+
+/* The text of a form.
+ *
+ * table, names: as above. form: the record of a form.
+ * out: at least 1393 bytes. The text becomes their beginning, no newline and no 0 behind it; the bytes after it stand.
+ *
+ * Read again with the same table and names, the text gives the form; only that an empty form is one of vectors is lost: it prints as 0.
+ *
+ * Returns the length of the text, or -1, -2, -11, then -5 or -6. */
+int64_t kalzunbi_print(const uint8_t *table, size_t table_length, const uint8_t *names, size_t names_length, const uint8_t *form, size_t form_length,
+                       uint8_t *out, size_t out_length);
+
 /* A form with a vector form for one of its vector letters.
  *
  * table: as above.
@@ -202,6 +238,17 @@ int64_t kalzunbi_check(const uint8_t *table, size_t table_length, const uint8_t 
  * Returns the length of the log, or -1, -2, -11, then -5 or -6. */
 int64_t kalzunbi_shorten(const uint8_t *table, size_t table_length, const uint8_t *form, size_t form_length, uint8_t *out, size_t out_length,
                          uint64_t *steps, size_t steps_length);
+
+/* A form shortened, its log given to the checker, and the log's first and last form decided: the three calls in one.
+ *
+ * table, form, out, steps: as for shortening.
+ * buffer: at least 72 bytes, which stand.
+ * work: at least 55,296 bytes; what is in them afterwards is of no use, unless the call is refused: then they stand.
+ *
+ * Returns the length of the log: the checker accepts it with the number of steps that is reported, and its two forms are equal under every assignment of
+ * integers. Or -1, -2, -11, then -5 or -6. That the three do not agree never comes. */
+int64_t kalzunbi_audit(const uint8_t *table, size_t table_length, const uint8_t *form, size_t form_length, uint8_t *out, size_t out_length,
+                       uint8_t *buffer, size_t buffer_length, uint8_t *work, size_t work_length, uint64_t *steps, size_t steps_length);
 
 #ifdef __cplusplus
 }

@@ -1,5 +1,5 @@
-/* Nanoseconds a call, through the calls for C: one line for each measure of tests/benchmark.gp, in its order, then insertion, the check of logs
- * and shortening, which it has not. The logs are in logs.h, which tests/check_cases.py --header prints, the forms to decide in forms.h, which
+/* Nanoseconds a call, through the calls for C: one line for each measure of tests/benchmark.gp, in its order, then insertion, the check of logs,
+ * shortening and text, which it has not. The logs are in logs.h, which tests/check_cases.py --header prints, the forms to decide in forms.h, which
  * tests/decision_cases.py --header prints, those to shorten in shortening.h, which tests/shortening_cases.py --header prints. */
 #define _POSIX_C_SOURCE 199309L
 #include "kalzunbi.h"
@@ -39,6 +39,16 @@ static void measure_reduction(const char *what, const uint8_t *expression, size_
     double since = now();
     for (int i = 0; i < count; i++)
         returned = kalzunbi_reduce(table, 24, expression, length, out, KALZUNBI_FORM);
+    report(what, returned, expected, since, count);
+}
+
+static void measure_text(const char *what, const char *line, size_t length, int64_t expected, int count)
+{
+    uint64_t columns[1];
+    int64_t returned = 0;
+    double since = now();
+    for (int i = 0; i < count; i++)
+        returned = kalzunbi_read_text(table, 24, (const uint8_t *)"abcdefghijklmnopqrstuvwx", 24, (const uint8_t *)line, length, out, KALZUNBI_FORM, columns, 1);
     report(what, returned, expected, since, count);
 }
 
@@ -194,5 +204,16 @@ int main(void)
     SHORTENING("shortening by rule 1, from 48 terms to 16", rule_1, 16, 1000);
     SHORTENING("shortening of the thesis's form of 24 terms, to 8", thesis_24, 8, 1000);
     SHORTENING("shortening of the thesis's form of 28 terms, to 12", thesis_28, 12, 1000);
+
+#define TEXT(line, expected, count) measure_text("text " line, line, sizeof line - 1, expected, count)
+    TEXT("a^(b^c)", 16, 1000000);
+    TEXT("(m+n+o+p+q+r)(a+b+c+d+e+f+g+h)", 194, 10000);
+    TEXT("(a^b+c^d+e^f+g^h)^(a^b+c^d+e^f+g^h+i^j+k^l)", 322, 10000);
+
+    /* the longest line: 2048 letters with a sign in front of each */
+    static char longest[4096];
+    for (int i = 0; i < 4096; i++)
+        longest[i] = i % 2 ? (char)('a' + i / 2 % 12) : '+';
+    measure_text("text of 4,096 bytes, a sum of 12 letters", longest, 4096, 82, 1000);
     return 0;
 }

@@ -6,7 +6,7 @@
 #include <string.h>
 
 #define MARGIN 16
-#define ROOM 1024
+#define ROOM 1536
 
 /* a to e are vectors, f and g scalars, with numbers from -6 to 6 */
 #define TABLE "01010101010000"
@@ -56,6 +56,15 @@ static struct bytes from(const char *hex)
     memset(b.memory, 0xA5, sizeof b.memory);
     for (b.length = 0; sscanf(hex + 2 * b.length, "%2x", &byte) == 1; b.length++)
         b.memory[MARGIN + b.length] = (uint8_t)byte;
+    return b;
+}
+
+/* the bytes of a text */
+static struct bytes from_text(const char *text)
+{
+    struct bytes b = from("");
+    b.length = strlen(text);
+    memcpy(at(&b), text, b.length);
     return b;
 }
 
@@ -233,6 +242,174 @@ static void reduce_calls(void)
         check(returned == (row->refused < 0 ? row->refused : (int64_t)record.length), "reduce: what is returned, row", (int)i);
         check(same(&out, &record), "reduce: the bytes lent, row", (int)i);
         check(same(&table, &table_before) && same(&expression, &expression_before), "reduce: memory, row", (int)i);
+    }
+}
+
+/* ---- the reading of a text */
+
+/* names for the letters of SMALL and of WIDE */
+#define NAMES "abcdmnp"
+#define WIDE_NAMES "abcdefghijklmnopqrstuvwx"
+#define DEEP "(((((((((((((((("
+#define CLOSED "))))))))))))))))"
+
+struct text_row {
+    const char *table, *names, *line;
+    size_t lent, columns;
+    int64_t refused;
+    uint64_t column;
+    const char *record;
+};
+
+static const struct text_row text_rows[] = {
+    /* the lines that were tried as expressions */
+    {SMALL, NAMES, "b^a", 770, 1, 0, 0, "010121ffffffff0001"},
+    {SMALL, NAMES, "a^a", 770, 1, 0, 0, "0100"},
+    {SMALL, NAMES, "a^(b^c)", 770, 1, 0, 0, "0102140100020115ffffffff01000102"},
+    {SMALL, NAMES, "a^(b^c) + b^(c^a) + c^(a^b)", 771, 2, 0, 0, "0100"},
+    {SMALL, NAMES, "((a^b)^(b^c)).(c^a)-(a.(b^c))(a.(b^c))", 770, 1, 0, 0, "0000"},
+    {SMALL, NAMES, "(b^c)^(a^d)+(c^a)^(b^d)+(a^b)^(c^d)+2(abc)d", 1024, 12, 0, 0, FOUR},
+    {SMALL, NAMES, "-2a.b c^d", 770, 1, 0, 0, "010125fffffffe0100010203"},
+    {WIDE, WIDE_NAMES, "(m+n+o+p+q+r)(a+b+c+d+e+f+g+h)", 770, 1, 0, 0, FORTY_EIGHT},
+    /* a minus in front, numbers, blanks, depth, other names */
+    {SMALL, NAMES, " - 3 * ( c b a ) ", 770, 1, 0, 0, "0001090000000301000102"},
+    {SMALL, NAMES, "46340(46340)", 770, 1, 0, 0, "0001017ffea810"},
+    {SMALL, NAMES, "0", 770, 1, 0, 0, "0000"},
+    {SMALL, NAMES, DEEP "a" CLOSED, 770, 1, 0, 0, "01011000"},
+    {"010001", "zMa", "a^z M", 770, 1, 0, 0, "010123ffffffff01010002"},
+    /* 1 of the table, then 1 of the names: too few, too many, no letter, one twice */
+    {"", "", "a", 0, 0, -1, 0, ""},
+    {"02", "a", "a", 770, 1, -1, 0, ""},
+    {SMALL, "abcdmn", "a", 770, 1, -1, 0, ""},
+    {SMALL, "abcdmnpq", "a", 770, 1, -1, 0, ""},
+    {SMALL, "abcdmn1", "a", 0, 0, -1, 0, ""},
+    {SMALL, "abcdmna", "?", 770, 1, -1, 0, ""},
+    /* 2, before the text: bytes for the record, a number for the column, both */
+    {SMALL, NAMES, "a", 769, 1, -2, 0, ""},
+    {SMALL, NAMES, "a", 770, 0, -2, 0, ""},
+    {SMALL, NAMES, "?", 0, 0, -2, 0, ""},
+    /* 3 */
+    {SMALL, NAMES, DEEP "(a)" CLOSED, 770, 1, -3, 16, ""},
+    /* 4: nothing, something missing, something that may not stand there */
+    {SMALL, NAMES, "", 770, 1, -4, 0, ""},
+    {SMALL, NAMES, "a + ", 770, 3, -4, 4, ""},
+    {SMALL, NAMES, "(a", 770, 1, -4, 2, ""},
+    {SMALL, NAMES, "a^b^c", 770, 1, -4, 3, ""},
+    {SMALL, NAMES, "m2", 770, 1, -4, 1, ""},
+    {SMALL, NAMES, "a*b)", 770, 1, -4, 3, ""},
+    /* 5 */
+    {SMALL, NAMES, "a+z", 770, 1, -5, 2, ""},
+    {SMALL, NAMES, "(abz)", 770, 1, -5, 3, ""},
+    /* 6 to 10 at their operators, operands first, left to right */
+    {SMALL, NAMES, "a+m", 770, 1, -6, 1, ""},
+    {SMALL, NAMES, "a b", 770, 1, -6, 2, ""},
+    {SMALL, NAMES, "(abm)", 770, 1, -6, 0, ""},
+    {SMALL, NAMES, "a+(b+(c+m))", 770, 1, -6, 7, ""},
+    {WIDE, WIDE_NAMES, "(m+n+o+p+q+r+s)(a+b+c+d+e+f+g)", 770, 1, -7, 15, ""},
+    {SMALL, NAMES, "mnp", 770, 1, -8, 2, ""},
+    {SMALL, NAMES, "a+2147483648b", 770, 1, -9, 2, ""},
+    {SMALL, NAMES, "46341*46341", 770, 1, -9, 5, ""},
+    {WIDE, WIDE_NAMES, "(m+n+o+p+q+r)(a+b+c+d+e+f+g+h)+a", 770, 1, -10, 30, ""},
+};
+
+/* the numbers lent for columns, or for steps, before a call */
+#define NUMBERS 16
+
+static void lend_numbers(uint64_t *numbers)
+{
+    for (int k = 0; k < NUMBERS; k++)
+        numbers[k] = UINT64_C(12345678901234567890) + (uint64_t)k;
+}
+
+static void text_calls(void)
+{
+    for (size_t i = 0; i < sizeof text_rows / sizeof *text_rows; i++) {
+        const struct text_row *row = &text_rows[i];
+        struct bytes table = from(row->table), names = from_text(row->names), line = from_text(row->line), record = from(row->record), out = from("");
+        struct bytes table_before = table, names_before = names, line_before = line;
+        uint64_t columns[NUMBERS], expected[NUMBERS];
+        lend_numbers(columns);
+        lend_numbers(expected);
+        if (row->refused < -2)
+            expected[4] = row->column;
+        int64_t returned = kalzunbi_read_text(at(&table), table.length, at(&names), names.length, at(&line), line.length, at(&out), row->lent, columns + 4,
+                                              row->columns);
+        calls++;
+        out.length = record.length;
+        check(returned == (row->refused < 0 ? row->refused : (int64_t)record.length), "text: what is returned, row", (int)i);
+        check(same(&out, &record), "text: the bytes lent, row", (int)i);
+        check(memcmp(columns, expected, sizeof columns) == 0, "text: the numbers lent, row", (int)i);
+        check(same(&table, &table_before) && same(&names, &names_before) && same(&line, &line_before), "text: memory, row", (int)i);
+    }
+}
+
+/* a line of 4096 bytes has a form, one of 4097 has none */
+static void long_texts(void)
+{
+    const uint8_t table = 1, name = 'a';
+    uint8_t line[KALZUNBI_TEXT + 1];
+    for (size_t i = 0; i < sizeof line; i++)
+        line[i] = i % 2 ? '+' : 'a';
+    line[KALZUNBI_TEXT - 1] = ' ';
+    struct bytes record = from("0101110000080000"), out = from("");
+    uint64_t column = 7;
+    int64_t returned = kalzunbi_read_text(&table, 1, &name, 1, line, KALZUNBI_TEXT, at(&out), KALZUNBI_FORM, &column, 1);
+    calls++;
+    out.length = record.length;
+    check(returned == (int64_t)record.length && same(&out, &record) && column == 7, "text: the longest line", KALZUNBI_TEXT);
+    returned = kalzunbi_read_text(&table, 1, &name, 1, line, KALZUNBI_TEXT + 1, at(&out), KALZUNBI_FORM, &column, 1);
+    calls++;
+    check(returned == -KALZUNBI_REFUSED_LONG_OR_DEEP && same(&out, &record) && column == KALZUNBI_TEXT, "text: a line that is too long", KALZUNBI_TEXT + 1);
+}
+
+/* ---- the printing of a form */
+
+struct print_row {
+    const char *table, *names, *form;
+    size_t lent;
+    int64_t refused;
+    const char *text;
+};
+
+static const struct print_row print_rows[] = {
+    {SMALL, NAMES, "0102140100020115ffffffff01000102", 1393, 0, "(a.c)*b-(a.b)*c"},
+    {SMALL, NAMES, FOUR, 1394, 0, "(bcd)*a-(acd)*b+(abd)*c-(abc)*d"},
+    {SMALL, NAMES, "010125fffffffe0100010203", 1536, 0, "-2(a.b)*(c^d)"},
+    {SMALL, NAMES, "0000", 1393, 0, "0"},
+    {SMALL, NAMES, "0100", 1393, 0, "0"},
+    {SMALL, NAMES, "00010180000001", 1393, 0, "-2147483647"},
+    /* other names, in the table's order */
+    {"010101", "wru", "0102140100020115ffffffff01000102", 1393, 0, "(w.u)*r-(w.r)*u"},
+    {"010001", "zMa", "010123ffffffff01010002", 1393, 0, "-M*(z^a)"},
+    /* 1 of the table, then 1 of the names */
+    {"", "", "0000", 0, -1, ""},
+    {"02", "a", "0000", 1393, -1, ""},
+    {SMALL, "abcdmn", "0000", 1393, -1, ""},
+    {SMALL, "abcdmnpq", "0000", 1393, -1, ""},
+    {SMALL, "abcdmn ", "", 0, -1, ""},
+    {SMALL, "abcdmnn", "0000", 1393, -1, ""},
+    /* 2, before the form */
+    {SMALL, NAMES, "0000", 1392, -2, ""},
+    {SMALL, NAMES, "", 0, -2, ""},
+    /* 11, then 5 and 6 */
+    {SMALL, NAMES, "", 1393, -11, ""},
+    {SMALL, NAMES, FOUR "00", 1393, -11, ""},
+    {SMALL, NAMES, "01011007", 1393, -5, ""},
+    {SMALL, NAMES, "01021004" "1007", 1393, -6, ""},
+};
+
+static void print_calls(void)
+{
+    for (size_t i = 0; i < sizeof print_rows / sizeof *print_rows; i++) {
+        const struct print_row *row = &print_rows[i];
+        struct bytes table = from(row->table), names = from_text(row->names), form = from(row->form), text = from_text(row->text), out = from("");
+        struct bytes table_before = table, names_before = names, form_before = form;
+        int64_t returned = kalzunbi_print(at(&table), table.length, at(&names), names.length, at(&form), form.length, at(&out), row->lent);
+        calls++;
+        out.length = text.length;
+        check(returned == (row->refused < 0 ? row->refused : (int64_t)text.length), "print: what is returned, row", (int)i);
+        check(same(&out, &text), "print: the bytes lent, row", (int)i);
+        check(same(&table, &table_before) && same(&names, &names_before) && same(&form, &form_before), "print: memory, row", (int)i);
     }
 }
 
@@ -476,9 +653,9 @@ static void check_calls(void)
         const struct check_row *row = &check_rows[i];
         struct bytes table = from(row->table), log = from(row->log);
         struct bytes table_before = table, log_before = log;
-        uint64_t places[16], expected[16];
-        for (int k = 0; k < 16; k++)
-            places[k] = expected[k] = UINT64_C(12345678901234567890) + (uint64_t)k;
+        uint64_t places[NUMBERS], expected[NUMBERS];
+        lend_numbers(places);
+        lend_numbers(expected);
         if (row->returned == 0)
             memcpy(expected + 4, row->places, sizeof row->places);
         int64_t returned = kalzunbi_check(at(&table), table.length, at(&log), log.length, places + 4, row->lent);
@@ -688,9 +865,9 @@ static void shorten_calls(void)
         const struct shorten_row *row = &shorten_rows[i];
         struct bytes table = from(row->table), form = from(row->form);
         struct bytes table_before = table, form_before = form;
-        uint64_t steps[16], expected[16];
-        for (int k = 0; k < 16; k++)
-            steps[k] = expected[k] = UINT64_C(12345678901234567890) + (uint64_t)k;
+        uint64_t steps[NUMBERS], expected[NUMBERS];
+        lend_numbers(steps);
+        lend_numbers(expected);
         memset(log_memory, 0x5A, sizeof log_memory);
         int64_t returned = kalzunbi_shorten(at(&table), table.length, at(&form), form.length, log_memory + MARGIN, row->out, steps + 4, row->steps);
         calls++;
@@ -703,6 +880,66 @@ static void shorten_calls(void)
             expected[4] = steps[4];
         }
         check(memcmp(steps, expected, sizeof steps) == 0, "shorten: the numbers lent, row", (int)i);
+    }
+}
+
+/* ---- the audit */
+
+struct audit_row {
+    const char *table, *form;
+    size_t out, buffer, work, steps;
+    int64_t refused;
+    int last; /* the terms of the last form */
+};
+
+static const struct audit_row audit_rows[] = {
+    {SMALL, FOUR, 2309, 72, 55296, 1, 0, 0},
+    {SMALL, NEGATED, 3013, 100, 55312, 9, 0, 0},
+    {SMALL, WEDGES, 2309, 72, 55296, 1, 0, 1},
+    {SIX_VECTORS, DOTS, 2309, 72, 55296, 1, 0, 1},
+    {SMALL, TURNED, 2309, 72, 55296, 1, 0, 2},
+    {SMALL, "0000", 2309, 72, 55296, 1, 0, 0},
+    {WIDE, FORTY_EIGHT, 2309, 72, 55296, 1, 0, 48},
+    /* 1, before all others */
+    {"", "0000", 2309, 72, 55296, 1, -1, 0},
+    {"0102", "", 0, 0, 0, 0, -1, 0},
+    /* 2, before contents: the bytes for the log, the buffer, the work memory, the number for the steps, all */
+    {SMALL, FOUR, 2308, 72, 55296, 1, -2, 0},
+    {SMALL, FOUR, 2309, 71, 55296, 1, -2, 0},
+    {SMALL, FOUR, 2309, 72, 55295, 1, -2, 0},
+    {SMALL, FOUR, 2309, 72, 55296, 0, -2, 0},
+    {SMALL, "", 0, 0, 0, 0, -2, 0},
+    /* 11, then 5 and 6 */
+    {SMALL, "", 2309, 72, 55296, 1, -11, 0},
+    {SMALL, FOUR "00", 2309, 72, 55296, 1, -11, 0},
+    {SMALL, "01011007", 2309, 72, 55296, 1, -5, 0},
+    {SMALL, "01021004" "1007", 2309, 72, 55296, 1, -6, 0},
+};
+
+static void audit_calls(void)
+{
+    for (size_t i = 0; i < sizeof audit_rows / sizeof *audit_rows; i++) {
+        const struct audit_row *row = &audit_rows[i];
+        struct bytes table = from(row->table), form = from(row->form), buffer = from("");
+        struct bytes table_before = table, form_before = form, buffer_before = buffer;
+        uint64_t steps[NUMBERS], expected[NUMBERS];
+        lend_numbers(steps);
+        lend_numbers(expected);
+        memset(log_memory, 0x5A, sizeof log_memory);
+        memset(work_memory, 0x5A, sizeof work_memory);
+        int64_t returned = kalzunbi_audit(at(&table), table.length, at(&form), form.length, log_memory + MARGIN, row->out, at(&buffer), row->buffer,
+                                          work_memory + MARGIN, row->work, steps + 4, row->steps);
+        calls++;
+        size_t written = returned < 0 ? 0 : (size_t)returned, used = returned < 0 ? 0 : row->work;
+        check(row->refused ? returned == row->refused : returned > 0 && written <= row->out, "audit: what is returned, row", (int)i);
+        check(all(log_memory, 0, MARGIN, 0x5A) && all(log_memory, MARGIN + written, sizeof log_memory, 0x5A), "audit: the bytes lent, row", (int)i);
+        check(all(work_memory, 0, MARGIN, 0x5A) && all(work_memory, MARGIN + used, sizeof work_memory, 0x5A), "audit: the work memory, row", (int)i);
+        check(same(&table, &table_before) && same(&form, &form_before) && same(&buffer, &buffer_before), "audit: memory, row", (int)i);
+        if (returned > 0) {
+            check_written(&table, &form, log_memory + MARGIN, written, steps[4], row->last, (int)i);
+            expected[4] = steps[4];
+        }
+        check(memcmp(steps, expected, sizeof steps) == 0, "audit: the numbers lent, row", (int)i);
     }
 }
 
@@ -731,11 +968,15 @@ int main(void)
     names();
     value_calls();
     reduce_calls();
+    text_calls();
+    long_texts();
+    print_calls();
     triple_calls();
     insert_calls();
     check_calls();
     decide_calls();
     shorten_calls();
+    audit_calls();
     printf("%d calls, %d differences\n", calls, failures);
     return failures != 0;
 }

@@ -1,13 +1,15 @@
 #!/usr/bin/env python3
 """The calls for C on random and damaged inputs, against the unrelated programs value_cases.py, reduction_cases.py, check_cases.py, decision_cases.py,
-shortening_cases.py and insertion_cases.py.
+shortening_cases.py, insertion_cases.py and text_cases.py.
 
 What is returned and all memory, lent or around what is lent, is compared.
 A form that is given is handed on to the value call, whose numbers must be those of the expression by components. An assignment that is handed over
 must be the first that the unrelated program finds, byte by byte, and tell the two forms apart by the value call. A log that shortening wrote must begin
 with the form taken, be accepted by the unrelated program with the steps reported, have at most as many steps as terms were saved, and end in a form that no
 step shortens; the check call must accept it, and the decision must say of its ends that they are equal. A form with a letter replaced must have the old
-form's value where the letter has the inserted form's: by the value call, or, where that is not in its range, by the unrelated program.
+form's value where the letter has the inserted form's: by the value call, or, where that is not in its range, by the unrelated program. A text that is
+refused must tell its column. The record of a text's form is handed on to the call that prints it, and what that prints must be read to the same record,
+but for the empty form of vectors. What the audit writes must be what shortening writes, and its buffer must stand.
 """
 import argparse
 import collections
@@ -22,6 +24,7 @@ import decision_cases as decisions
 import insertion_cases as insertions
 import reduction_cases as expressions
 import shortening_cases as shortening
+import text_cases as texts
 import value_cases as forms
 
 HOME = pathlib.Path(__file__).resolve().parent.parent
@@ -36,7 +39,7 @@ def load():
     subprocess.run(["gcc", "-shared", "-o", shared, "-Wl,--whole-archive", made, "-Wl,--no-whole-archive"], check=True)
     library = ctypes.CDLL(str(shared))
     for call in (library.kalzunbi_value, library.kalzunbi_reduce, library.kalzunbi_check, library.kalzunbi_decide, library.kalzunbi_shorten,
-                 library.kalzunbi_insert):
+                 library.kalzunbi_insert, library.kalzunbi_read_text, library.kalzunbi_print, library.kalzunbi_audit):
         call.restype = ctypes.c_int64
     return library
 
@@ -197,10 +200,39 @@ def insertion_inputs(chance):
         yield any_table(chance, table), form, letter, inserted, chance.choice((770, 770, 770, 771, 800)) if chance.randrange(20) else chance.randrange(771)
 
 
+def text_inputs(chance):
+    while True:
+        table, names, line = texts.random_text(chance)
+        line = chance.choices((line, damaged(chance, line), any_bytes(chance, 40)), (12, 3, 1))[0]
+        names = names if chance.randrange(20) else damaged(chance, names)
+        out = chance.choice((770, 770, 770, 771, 800)) if chance.randrange(20) else chance.randrange(770)
+        yield any_table(chance, table) if chance.randrange(4) else table, names, line, out, chance.choice((1, 1, 1, 2, 5)) if chance.randrange(20) else 0
+
+
+def printing_inputs(chance):
+    while True:
+        table, names, data = texts.random_printed(chance)
+        data = chance.choices((data, damaged(chance, data), any_bytes(chance, 40)), (12, 3, 1))[0]
+        names = names if chance.randrange(20) else damaged(chance, names)
+        lent = chance.choice((1393, 1393, 1393, 1394, 1500)) if chance.randrange(20) else chance.randrange(1393)
+        yield any_table(chance, table) if chance.randrange(4) else table, names, data, lent
+
+
+def audit_inputs(chance):
+    for table, data, lent, numbers in shortening_inputs(chance):
+        buffer = chance.choice((72, 72, 73)) if chance.randrange(20) else chance.randrange(72)
+        work = chance.choice((55296, 55296, 55400)) if chance.randrange(20) else chance.randrange(55296)
+        yield table, data, lent, buffer, work, numbers
+
+
 # ════ comparing
 
 def bad_table(table):
     return not 1 <= len(table) <= 24 or max(table) > 1
+
+
+def bad_names(table, names):
+    return len(names) != len(table) or len(set(names)) < len(names) or not set(names.decode("latin-1")) <= texts.LETTERS
 
 
 def compare_value(function, table, data, assignment, lent):
@@ -302,6 +334,59 @@ def compare_insert(functions, chance, table, form, letter, inserted, lent):
     return same and returned == len(answer) and target.stands_but_for(answer), "given" if small(value) else "given, by the program"
 
 
+def printed(function, table, names, data):
+    """What the call that prints a form writes, or None."""
+    target = Lent(ctypes.c_uint8, [0xC3] * 1393)
+    returned = call(function, (table, names, data), target)
+    text = bytes(target.first(returned)) if returned and 0 < returned <= 1393 else None
+    return text if text is not None and target.stands_but_for(text) else None
+
+
+def compare_text(functions, table, names, line, lent, numbers):
+    target, columns = Lent(ctypes.c_uint8, [0xC3] * lent), Lent(ctypes.c_uint64, [7777777777777 * i for i in range(numbers)])
+    returned = call(functions.kalzunbi_read_text, (table, names, line), target, columns)
+    what, number, rest = texts.read_text(table, names, line)
+    if (what, number) != ("refused", 1) and (lent < 770 or numbers < 1):
+        what, number, rest = "refused", 2, None
+    if what == "refused":
+        return returned == -number and target.stands_but_for() and columns.stands_but_for([] if rest is None else [rest]), f"R{number}"
+    if not (returned == len(rest) and target.stands_but_for(rest) and columns.stands_but_for()):
+        return False, "given"
+    text, again = texts.text_of(names, rest).encode("latin-1"), Lent(ctypes.c_uint8, [0xC3] * 770)
+    same = printed(functions.kalzunbi_print, table, names, rest) == text
+    back = call(functions.kalzunbi_read_text, (table, names, text), again, Lent(ctypes.c_uint64, [0]))
+    record = rest if rest[1] else bytes(2)
+    return same and back == len(record) and again.stands_but_for(record), "given"
+
+
+def compare_print(function, table, names, data, lent):
+    target = Lent(ctypes.c_uint8, [0xC3] * lent)
+    returned = call(function, (table, names, data), target)
+    try:
+        expressions.demand(not bad_table(table) and not bad_names(table, names), 1)
+        expressions.demand(lent >= 1393, 2)
+        shortening.taken(table, data, 2309)
+    except expressions.Refused as refusal:
+        return returned == -refusal.args[0] and target.stands_but_for(), f"R{refusal.args[0]}"
+    text = texts.text_of(names, data).encode("latin-1")
+    return returned == len(text) and target.stands_but_for(text), "printed"
+
+
+def compare_audit(functions, table, data, lent, buffer, work, numbers):
+    target, counted = Lent(ctypes.c_uint8, [0xC3] * lent), Lent(ctypes.c_uint64, [7777777777777 * i for i in range(numbers)])
+    bytes_lent, memory = Lent(ctypes.c_uint8, [0xC3] * buffer), Lent(ctypes.c_uint8, [0x3C] * work)
+    returned = call(functions.kalzunbi_audit, (table, data), target, bytes_lent, memory, counted)
+    try:
+        shortening.taken(table, data, lent if numbers and buffer >= 72 and work >= 55296 else 0)
+    except expressions.Refused as refusal:
+        stands = all(m.stands_but_for() for m in (target, counted, bytes_lent, memory))
+        return returned == -refusal.args[0] and stands, f"R{refusal.args[0]}"
+    log, steps = Lent(ctypes.c_uint8, [0xC3] * lent), Lent(ctypes.c_uint64, [7777777777777 * i for i in range(numbers)])
+    same = call(functions.kalzunbi_shorten, (table, data), log, steps) == returned
+    same = same and bytes(log.memory) == bytes(target.memory) and bytes(steps.memory) == bytes(counted.memory)
+    return same and bytes_lent.stands_but_for() and memory.stands_but_for(memory.first(work)), "agreed"
+
+
 def main():
     arguments = argparse.ArgumentParser(description=__doc__, formatter_class=argparse.RawDescriptionHelpFormatter)
     arguments.add_argument("count", metavar="COUNT", nargs="?", type=int, default=10000, help="inputs for each call (10000)")
@@ -314,7 +399,10 @@ def main():
             ("check", log_inputs(chance), lambda *x: compare_check(library.kalzunbi_check, *x)),
             ("decide", pair_inputs(chance), lambda *x: compare_decide(library, *x)),
             ("shorten", shortening_inputs(chance), lambda *x: compare_shorten(library, *x)),
-            ("insert", insertion_inputs(chance), lambda *x: compare_insert(library, chance, *x))):
+            ("insert", insertion_inputs(chance), lambda *x: compare_insert(library, chance, *x)),
+            ("read_text", text_inputs(chance), lambda *x: compare_text(library, *x)),
+            ("print", printing_inputs(chance), lambda *x: compare_print(library.kalzunbi_print, *x)),
+            ("audit", audit_inputs(chance), lambda *x: compare_audit(library, *x))):
         answers = collections.Counter()
         for _ in range(count):
             case = next(inputs)
@@ -324,7 +412,7 @@ def main():
                 differences += 1
                 print(name, *(x.hex() if isinstance(x, bytes) else x for x in case), "expected", answer)
         print(f"{name}: {count} cases, " + ", ".join(f"{n} {a}" for a, n in sorted(answers.items(), key=lambda x: (len(x[0]), x[0]))))
-    print(f"{6 * count} cases, {differences} differences")
+    print(f"{9 * count} cases, {differences} differences")
     sys.exit(differences > 0)
 
 

@@ -2,7 +2,7 @@
 use mathlib.Core.Path.{_≡_, refl, sym, _∙_, ap, subst}
 use mathlib.Core.Bool.{Bool, true, false, _&&_, _||_}
 use mathlib.Core.List.{List, [], _∷_, _++_}
-use Prim.Native.Nat.{ℕ, zero, suc, _+_, _≤_, _<_}
+use Prim.Native.Nat.{ℕ, zero, suc, _+_, _-_, _≤_, _<_}
 use native.Mathlib.Omega.{arith}
 use native.Mathlib.Numerals.{add-one}
 use borrow.Author.Tests.{le-leb, lt-leb, lt-ltb, le-ltb}
@@ -13,9 +13,9 @@ use Rattle.specification.specs.Results.{if_then_else_}
 use Rattle.specification.specs.Letters.{scalar, vector}
 use Rattle.specification.specs.Words.{bytes}
 use Rattle.specification.specs.Text.{Placed, refusedAt, placed, isLetter, placeOf, skip, next}
-use Rattle.specification.specs.Lines.{Named, isWordAt, readNames}
+use Rattle.specification.specs.Lines.{Named, isWordAt, readNames, declared, isDeclaration}
 use Rattle.declarations.specs.declared.NameStep.{NameStep}
-use Rattle.declarations.specs.Names.{namedOf, NameTurn}
+use Rattle.declarations.specs.Names.{namedOf, NameTurn, NamesRead}
 
 -- at the end no more names are read
 pub names-end : (most kind : ℕ) (line : List ℕ) (at : ℕ) (n : Named) → length line ≤ at → readNames most kind line at n ≡ placed n
@@ -135,3 +135,64 @@ module _ (line : List ℕ) (at kind : ℕ) (names table : List ℕ) (count : ℕ
                         ∙ (λ i. readNames most kind line after (sym (more names b room) i, sym (more table kind beside) i));
                     few = λ _. omega arith;
                   }
+
+-- ════ the names of a line
+
+-- what is left to be read is the whole; there are at most 24 names
+pub record NamesFrom (line : List ℕ) (x : Placed Named) (names table : List ℕ) (left at kind n : ℕ) : Type 0 where
+  pub same : x ≡ readNames left kind line at (namedOf n names table)
+  pub few : n ≤ 24
+
+-- at first
+pub names-begin : (line names table : List ℕ) (at count : ℕ) → count ≤ 24 → at ≡ skip line 0
+    → NamesFrom line (declared line (namedOf count names table)) names table (length line) at 1 count
+unfolding declared
+names-begin line names table at count h e = record { same = ap (λ (k : ℕ). readNames (length line) 1 line k (namedOf count names table)) (sym e); few = h }
+
+module _ (line : List ℕ) (x : Placed Named) (names table : List ℕ) (left at kind n : ℕ) (h : NamesFrom line x names table left at kind n) (k : 0 < left) (r : NameStep)
+    (names' table' : List ℕ) (t : NameTurn line at kind names table n r names' table') where
+  again : suc (left - 1) ≡ left
+  again = omega arith
+
+  -- a refusal
+  pub names-refused : (r .refusal ≡ 0 → ⊥) → NamesRead x (record { refusal = r .refusal; column = r .column; count = 0 }) names' table'
+  names-refused z = record {
+    refuses = λ _. h .same ∙ ap (λ (j : ℕ). readNames j kind line at (namedOf n names table)) (sym again) ∙ t .refuses z (left - 1);
+    gives = λ e. absurd (z e);
+    few = λ e. absurd (z e);
+  }
+
+  -- one more turn
+  pub names-more : r .refusal ≡ 0 → NamesFrom line x names' table' (left - 1) (r .at) (r .kind) (r .count)
+  names-more z = record {
+    same = h .same ∙ ap (λ (j : ℕ). readNames j kind line at (namedOf n names table)) (sym again) ∙ t .goes z (left - 1);
+    few = t .few z;
+  }
+
+-- all are read
+pub names-done : (line : List ℕ) (x : Placed Named) (names table : List ℕ) (left at kind n : ℕ) → NamesFrom line x names table left at kind n → left ≤ 0
+    → NamesRead x (record { refusal = 0; column = 0; count = n }) names table
+unfolding readNames
+names-done line x names table left at kind n h z =
+    let e : left ≡ 0 = omega arith in
+    record {
+      refuses = λ q. absurd (q refl);
+      gives = λ _. h .same ∙ ap (λ (j : ℕ). readNames j kind line at (namedOf n names table)) e;
+      few = λ _. h .few;
+    }
+
+-- ════ whether a line declares names
+
+module _ (line : List ℕ) (at : ℕ) (w : Bool) (e : at ≡ skip line 0) (hw : w ≡ isWordAt (bytes "vectors") line at) where
+  vectors-is : isWordAt (bytes "vectors") line (skip line 0) ≡ w
+  vectors-is = ap (isWordAt (bytes "vectors") line) (sym e) ∙ sym hw
+
+  -- by the first word
+  pub declares-vectors : w ≡ true → true ≡ isDeclaration line
+  unfolding isDeclaration
+  declares-vectors z = rw (vectors-is ∙ z)
+
+  -- by the other
+  pub declares-scalars : (v : Bool) → w ≡ false → v ≡ isWordAt (bytes "scalars") line at → v ≡ isDeclaration line
+  unfolding isDeclaration
+  declares-scalars v z hv = hv ∙ ap (isWordAt (bytes "scalars") line) e ∙ rw (vectors-is ∙ z)

@@ -103,7 +103,7 @@ module _ (table form s : List ℕ) (values : List ℤ) where
 -- ════ calls that give a form
 
 -- a call's answer is returned with the bytes as the call left them
-answered : (call : Result ℕ × List ℕ) (x b : Result ℕ) (after : List ℕ) (r : ℤ) → _≡_ {A = Result ℕ × List ℕ} (x, after) call → x ≡ b → r ≡ returned b
+pub answered : (call : Result ℕ × List ℕ) (x b : Result ℕ) (after : List ℕ) (r : ℤ) → _≡_ {A = Result ℕ × List ℕ} (x, after) call → x ≡ b → r ≡ returned b
     → _≡_ {A = ℤ × List ℕ} (r, after) (handed call)
 unfolding handed
 answered call x b after r contract p q = rw (← contract, p, q)

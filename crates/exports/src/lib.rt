@@ -2,8 +2,10 @@
 ghost use mathlib.Core.Path.{_≡_};
 ghost use Prim.Native.Nat.{_≤_};
 ghost use lib.ListN.{length};
-ghost use Rattle.specification.specs.Returns.{threeInto, valueReturned, reduceReturned, insertReturned, checkReturned, DecideReturned, ShortenReturned};
+ghost use Rattle.specification.specs.Returns.{threeInto, valueReturned, reduceReturned, insertReturned, checkReturned, DecideReturned, ShortenReturned, AuditReturned, readTextReturned, printReturned};
 ghost use Rattle.evaluation.specs.Vectors.{vecOf};
+use audit::Verdict;
+use audit::audit;
 use checker::Checked;
 use checker::check;
 use decision::Decision;
@@ -11,9 +13,13 @@ use decision::decide;
 use evaluation::Valued;
 use evaluation::value;
 use evaluation::vectors::Vector;
+use formula_call::FormulaRead;
+use formula_call::read_formula;
 use insertion::Inserted;
 use insertion::insert;
 use letters::check_table;
+use named_printing::print_named;
+use printer_call::Printing;
 use reduction::Reduced;
 use reduction::reduce;
 use returning::put_places;
@@ -158,5 +164,67 @@ pub extern "C" fn kalzunbi_shorten(
             written(size)
         }
         Shortening::Refused(m) => refusal(m),
+    }
+}
+
+// A form shortened, its log given to the checker and the log's ends decided: the log in the bytes lent, its steps in the first of the numbers lent.
+// The log's length, or minus 1, 2, 11, 5 or 6. That the three do not agree never comes: the contract says so.
+#[no_mangle]
+pub extern "C" fn kalzunbi_audit(
+    table: &[u8],
+    form: &[u8],
+    out: &mut [u8],
+    buffer: &mut [u8],
+    work: &mut [u8],
+    steps: &mut [u64],
+) -> i64
+    ensures { λ r. ⌜ AuditReturned (now (table .entry)) (now (form .entry)) (now (out .entry)) (now (buffer .entry)) (now (work .entry)) (now (steps .entry)) r (now (out .exit)) (now (buffer .exit)) (now (work .exit)) (now (steps .exit)) ⌝ }
+{
+    let n = check_table(table);
+    if n != 0 {
+        return refusal(n);
+    }
+    if steps.len() < 1 {
+        return refusal(2);
+    }
+    let v = audit(table, form, out, buffer, work);
+    match v {
+        Verdict::Agreed(size, count) => {
+            steps[0] = count as u64;
+            written(size)
+        }
+        Verdict::Refused(m) => refusal(m),
+        Verdict::Apart => 0,
+    }
+}
+
+// The form of a text with names for the table's letters, its record written into the bytes lent: its length, or minus 1, 2, then 3, 4, 5, then 6 to 10.
+// The column of a refused text is written into the first of the numbers lent.
+#[no_mangle]
+pub extern "C" fn kalzunbi_read_text(
+    table: &[u8],
+    names: &[u8],
+    line: &[u8],
+    out: &mut [u8],
+    columns: &mut [u64],
+) -> i64
+    ensures { λ r. ⌜ (r, now (out .exit), now (columns .exit)) ≡ readTextReturned (now (table .entry)) (now (names .entry)) (now (line .entry)) (now (out .entry)) (now (columns .entry)) ⌝ }
+{
+    let r = read_formula(table, names, line, out, columns);
+    match r {
+        FormulaRead::Written(n) => written(n),
+        FormulaRead::Refused(m) => refusal(m),
+    }
+}
+
+// The text of a form with names for the table's letters, written into the bytes lent: its length, or minus 1, 2, 11, 5 or 6.
+#[no_mangle]
+pub extern "C" fn kalzunbi_print(table: &[u8], names: &[u8], form: &[u8], out: &mut [u8]) -> i64
+    ensures { λ r. ⌜ (r, now (out .exit)) ≡ printReturned (now (table .entry)) (now (names .entry)) (now (form .entry)) (now (out .entry)) ⌝ }
+{
+    let r = print_named(table, names, form, out);
+    match r {
+        Printing::Printed(n) => written(n),
+        Printing::Refused(m) => refusal(m),
     }
 }

@@ -8,21 +8,26 @@ use native.Mathlib.Numerals.{add-one}
 use borrow.Author.Tests.{eq-eqb, ne-eqb, le-leb, lt-leb}
 use lib.Dec.{eqb, leb}
 use lib.ListN.{length, getD, take, drop, length-drop, drop-of-length-le}
-use lib.Seq.{drop-cons, drop-drop, getD-drop, getD-take, length-take-le}
+use lib.Seq.{take-all, drop-cons, drop-drop, getD-drop, getD-take, length-take-le}
 use Rattle.specification.specs.Lines.{sameBytes, isWordAt}
 use Rattle.lines.specs.Words.{standsAt}
 
--- fewer bytes are others
-same-shorter : (xs ys : List ℕ) → length xs < length ys → sameBytes xs ys ≡ false
+-- as many bytes, or others
+pub lengths-apart : (xs ys : List ℕ) → (length xs ≡ length ys → ⊥) → sameBytes xs ys ≡ false
 unfolding sameBytes
-same-shorter [] [] h = absurd (omega arith)
-same-shorter [] (y ∷ ys) h = refl
-same-shorter (x ∷ xs) [] h = absurd (omega arith)
-same-shorter (x ∷ xs) (y ∷ ys) h = ap (λ (b : Bool). eqb x y && b) (same-shorter xs ys (omega arith)) ∙ and-none (eqb x y)
+lengths-apart [] [] n = absurd (n refl)
+lengths-apart [] (y ∷ ys) n = refl
+lengths-apart (x ∷ xs) [] n = refl
+lengths-apart (x ∷ xs) (y ∷ ys) n = ap (λ (b : Bool). eqb x y && b) (lengths-apart xs ys (λ e. n (ap suc e))) ∙ and-none (eqb x y)
   where
     and-none : (b : Bool) → (b && false) ≡ false
     and-none true = refl
     and-none false = refl
+
+-- two of one length
+pub same-whole : (a b : List ℕ) → length a ≡ length b → standsAt b a 0 ≡ sameBytes a b
+unfolding standsAt
+same-whole a b e = ap (λ (l : List ℕ). sameBytes l b) (take-all (length b) a (omega (arith, e)))
 
 module _ (word line : List ℕ) (at : ℕ) where
   -- the bytes that have to be the word
@@ -32,7 +37,7 @@ module _ (word line : List ℕ) (at : ℕ) where
   -- the line is too short
   pub word-short : length line - at < length word → false ≡ isWordAt word line at
   unfolding isWordAt
-  word-short h = rw (same-shorter part word (omega (arith, short (length word) (drop at line), length-drop at line)))
+  word-short h = rw (lengths-apart part word (λ e. omega (arith, e, short (length word) (drop at line), length-drop at line)))
     where
       short : (n : ℕ) (l : List ℕ) → length (take n l) ≤ length l
       short zero l = omega arith

@@ -199,3 +199,7 @@ module _ (s : List ℕ) (first : L.Place) (q : Place) (left : ℕ) (h : PassingF
           ∙ h .same;
       inside = n .inside;
     }
+
+-- the line behind the next place
+pub to-next : (s : List ℕ) (p : L.Place) (q r : Place) → Reached s p q → Reached s (toLine (placeOf s q)) r → Reached s (toLine p) r
+to-next s p q r h k = record { is = k .is ∙ ap toLine (h .is); inside = k .inside }

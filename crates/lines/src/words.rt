@@ -2,7 +2,7 @@
 ghost use mathlib.Core.Path.{_≡_};
 ghost use Prim.Native.Nat.{_≤_, _+_};
 ghost use lib.ListN.{length};
-ghost use Rattle.specification.specs.Lines.{isWordAt};
+ghost use Rattle.specification.specs.Lines.{sameBytes, isWordAt};
 ghost use Rattle.lines.specs.Words.{standsAt};
 
 // Whether bytes stand at a position.
@@ -41,4 +41,14 @@ pub fn is_word_at(word: &[u8], line: &[u8], at: usize) -> bool
         return true;
     }
     line[end] == b' '
+}
+
+// Whether two are the same bytes.
+pub fn same_bytes(a: &[u8], b: &[u8]) -> bool
+    ensures { λ r. ⌜ r ≡ sameBytes (now (a .entry)) (now (b .entry)) ⌝ }
+{
+    if a.len() != b.len() {
+        return false;
+    }
+    stands_at(b, a, 0)
 }

@@ -8,7 +8,6 @@ use lib.ListN.{length, set}
 use mir.Syntax.{w64}
 use mir.Val.{toZ}
 use mir.ValLaws.{toZ-pos}
-use Rattle.specification.specs.Shortening.{shorteningBytes}
 use Rattle.specification.specs.Results.{given}
 use Rattle.specification.specs.Returns.{returned, placesInto}
 
@@ -23,7 +22,7 @@ pub cast-negative : {n : ℕ} {r : ℤ} → n < 65536 → r ≡ negℤ (toZ w64 
 cast-negative {n} h e = e ∙ rw (toZ-pos w64 n (omega arith))
 
 -- a length, cast, is what is returned
-pub cast-length : {n : ℕ} → n ≤ shorteningBytes → toZ w64 n ≡ returned (given n)
+pub cast-length : {n : ℕ} → n < 2 ^ 63 → toZ w64 n ≡ returned (given n)
 unfolding returned
 cast-length {n} h = toZ-pos w64 n (omega arith)
 

@@ -1,9 +1,8 @@
 // What the calls for C return: one signed number, at least 0 where something is given, minus the number of the refusal otherwise.
 ghost use mathlib.Core.Path.{_≡_};
-ghost use Prim.Native.Nat.{_≤_};
+ghost use Prim.Native.Nat.{_≤_, _<_, _^_};
 ghost use lib.ListN.{length};
 ghost use Rattle.specification.specs.Results.{given, refused};
-ghost use Rattle.specification.specs.Shortening.{shorteningBytes};
 ghost use Rattle.specification.specs.Returns.{returned, returnedAt, placesInto};
 use integers::neg;
 
@@ -16,7 +15,7 @@ pub fn refusal(n: u8) -> i64
 
 // A length that is returned.
 pub fn written(n: usize) -> i64
-    requires { ⌜ n ≤ shorteningBytes ⌝ }
+    requires { ⌜ n < 2 ^ 63 ⌝ }
     ensures { λ r. ⌜ r ≡ returned (given n) ⌝ }
 {
     n as i64

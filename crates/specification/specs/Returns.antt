@@ -15,6 +15,7 @@ use Rattle.specification.specs.Logs.{Checked, refusedAt, accepted, atSte
 use Rattle.specification.specs.Terms.{Form}
 use Rattle.specification.specs.Decision as D
 use Rattle.specification.specs.Shortening.{shortenTested, ShortenedTo}
+use Rattle.specification.specs.Auditing.{agreed, auditTested, AllAgree}
 use Rattle.specification.specs.Text.{textCall, printNamedCall}
 
 -- what is given, or minus the number of the refusal
@@ -133,3 +134,39 @@ ShortenReturnedBy (given first) table form out steps r out′ steps′ = Shorten
 -- the shortening call with memory for the number of its steps
 unfoldable pub ShortenReturned : (table form out steps : List ℕ) (r : ℤ) (out′ steps′ : List ℕ) → Type 0
 ShortenReturned table form out steps r out′ steps′ = ShortenReturnedBy (shortenAsked table form out steps) table form out steps r out′ steps′
+
+-- ════ the audit
+
+-- 1, then 2 for memory without a place for the steps, then the audit's own tests
+unfoldable pub auditAsked : (table form out buffer work steps : List ℕ) → Result Form
+auditAsked table form out buffer work steps = do
+  testTable table
+  require (leb 1 (length steps)) 2
+  auditTested table form out buffer work
+
+-- a refusal: minus its number, and all lent memory stands
+pub record AuditRefused (n : ℕ) (out buffer work steps : List ℕ) (r : ℤ) (out′ buffer′ work′ steps′ : List ℕ) : Type 0 where
+  pub is : r ≡ returned (refused n)
+  pub outStands : out′ ≡ out
+  pub bufferStands : buffer′ ≡ buffer
+  pub workStands : work′ ≡ work
+  pub stepsStand : steps′ ≡ steps
+
+-- a log on which shortening, the checker and the decision agree: its length, what the audit says of it, and its steps in front of the memory lent for them
+pub record AuditGiven (table form : List ℕ) (first : Form) (out buffer work steps : List ℕ) (r : ℤ) (out′ buffer′ work′ steps′ : List ℕ) : Type 0 where
+  pub size : ℕ
+  pub count : ℕ
+  pub is : r ≡ returned (given size)
+  pub agree : AllAgree table form first (agreed size count) out buffer work out′ buffer′ work′
+  pub stepsWritten : steps′ ≡ count ∷ drop 1 steps
+
+-- one or the other, by the tests; that they do not agree never comes
+unfoldable pub AuditReturnedBy : (tested : Result Form) (table form out buffer work steps : List ℕ) (r : ℤ) (out′ buffer′ work′ steps′ : List ℕ) → Type 0
+AuditReturnedBy (refused n) table form out buffer work steps r out′ buffer′ work′ steps′ = AuditRefused n out buffer work steps r out′ buffer′ work′ steps′
+AuditReturnedBy (given first) table form out buffer work steps r out′ buffer′ work′ steps′ =
+    AuditGiven table form first out buffer work steps r out′ buffer′ work′ steps′
+
+-- the audit with memory for the number of its steps
+unfoldable pub AuditReturned : (table form out buffer work steps : List ℕ) (r : ℤ) (out′ buffer′ work′ steps′ : List ℕ) → Type 0
+AuditReturned table form out buffer work steps r out′ buffer′ work′ steps′ =
+    AuditReturnedBy (auditAsked table form out buffer work steps) table form out buffer work steps r out′ buffer′ work′ steps′

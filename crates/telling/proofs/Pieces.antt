@@ -10,10 +10,10 @@ use lib.IntN.{ℤ, pos, negsuc, natAbs}
 use lib.ListN.{length, getD, take, drop, set, length-append, length-set}
 use lib.Seq.{take-suc-set, take-suc, take-length}
 use Rattle.specification.specs.Printing.{digits}
-use Rattle.specification.specs.Commands.{numeral, signedNumeral, blanks}
+use Rattle.specification.specs.Commands.{numeral, signedNumeral, blanks, Told}
 use Rattle.integers.specs.Arithmetic.{isNegative}
 use Rattle.symbols.proofs.Decimals.{digits-same}
-use Rattle.telling.specs.Told.{Told, Tells}
+use Rattle.telling.specs.Told.{Tells}
 
 -- ════ pieces
 
@@ -29,6 +29,14 @@ tells-as {l} {m} {at} {next} ys e h = subst (Tells l m at next) e h
 -- nothing
 pub tells-nothing : (l : List ℕ) (at : ℕ) → Tells l l at at []
 tells-nothing l at = record { is = λ text h. subst (Told l at) (sym (append-nil text)) h }
+
+-- nothing is told at the beginning
+pub told-nothing : (out : List ℕ) → Told out 0 []
+told-nothing out = record { ends = λ _. refl; stands = λ _. refl; short = λ h. absurd (omega arith) }
+
+-- what is told at the beginning
+pub told-first : {l m : List ℕ} {next : ℕ} {xs : List ℕ} → Tells l m 0 next xs → Told m next xs
+told-first {l} h = h .is [] (told-nothing l)
 
 -- ════ bytes copied
 

@@ -1,8 +1,10 @@
-// The bytes of a text at a position, 0 behind it: blanks passed, letters and digits, the number of a name, numbers in decimal, three names in parentheses.
+// The bytes of a text at a position, 0 behind it: blanks passed, letters and digits, the number of a name, numbers in decimal, three names in parentheses; names
+// that fit a table.
 ghost use mathlib.Core.Path.{_≡_};
 ghost use Prim.Native.Nat.{_<_};
 ghost use lib.ListN.{length, getD};
-ghost use Rattle.specification.specs.Text.{isLetter, isDigit, skip, next, placeOf, isTriple};
+ghost use Rattle.specification.specs.Lists.{all};
+ghost use Rattle.specification.specs.Text.{isLetter, isDigit, skip, next, distinct, goodNames, placeOf, isTriple};
 ghost use Rattle.texts.specs.Numbers.{capped, NumberRead};
 
 // The byte at a position, 0 behind the text.
@@ -75,6 +77,48 @@ pub fn place_of(names: &[u8], b: u8) -> usize
         i += 1;
     }
     i
+}
+
+// Whether all bytes are letters.
+fn all_letters(names: &[u8]) -> bool
+    ensures { λ r. ⌜ r ≡ all isLetter (now (names .entry)) ⌝ }
+{
+    let mut i: usize = 0;
+    while i < names.len() {
+        if !is_letter(names[i]) {
+            return false;
+        }
+        i += 1;
+    }
+    true
+}
+
+// Whether no name stands twice: none is found behind itself.
+fn none_twice(names: &[u8]) -> bool
+    ensures { λ r. ⌜ r ≡ distinct (now (names .entry)) ⌝ }
+{
+    let mut i: usize = 0;
+    while i < names.len() {
+        let rest = &names[i + 1..];
+        if place_of(rest, names[i]) < rest.len() {
+            return false;
+        }
+        i += 1;
+    }
+    true
+}
+
+// Whether names fit a table: as many as it has letters, each a letter, none twice.
+pub fn good_names(names: &[u8], table: &[u8]) -> bool
+    ensures { λ r. ⌜ r ≡ goodNames (now (names .entry)) (now (table .entry)) ⌝ }
+{
+    if names.len() != table.len() {
+        return false;
+    }
+    if !all_letters(names) {
+        return false;
+    }
+    none_twice(names)
 }
 
 // Whether three names and a closing parenthesis stand here.

@@ -1,12 +1,9 @@
 -- `exports::kalzunbi_insert` meets its contract: what the insertion call says is returned. Assumes nothing.
-use native.Mathlib.Nat.{le-trans}
 use native.Mathlib.Omega.{arith}
-use Prim.Native.Nat.{ℕ, _≤_}
+use Prim.Native.Nat.{ℕ}
 use denote.Ref.{now}
 use mathlib.Core.Path.{_∙_}
 use borrow.Author.Needs.{needs}
-use Rattle.specification.specs.Records.{formBytes}
-use Rattle.specification.specs.Shortening.{shorteningBytes}
 use Rattle.integers.proofs.Machine.{back-is}
 use Rattle.forms.proofs.Takers.{bytes-all}
 use Rattle.exports.proofs.Returning.{insert-refused, insert-fits, insert-returned}
@@ -19,18 +16,15 @@ insert-requires c κs = search needs
 enum-known-r : tie.Need-enum-known-r
 enum-known-r c = search needs
 
--- a record is no longer than a log
-within : formBytes ≤ shorteningBytes
-within = omega arith
-
 written-requires : tie.Need-written-requires
 written-requires c κs =
     let s = c .before .before .before .before .before .before .before .before .before .before .before in
-    le-trans
-    (insert-fits _ _ _ _ _ _ _ (c .before .before .before .before .before .insert .ensures) _ (c .before .r .given .1)
-    (bytes-all (now (s .args .form)) (λ (k : ℕ). c .before .before .before .before .before .before .before .before .before .shared-slice-known2 .given k .fits))
-    (bytes-all (now (s .args .inserted)) (λ (k : ℕ). c .before .before .before .before .before .before .before .before .shared-slice-known3 .given k .fits)))
-    within
+    omega (
+      arith,
+      insert-fits _ _ _ _ _ _ _ (c .before .before .before .before .before .insert .ensures) _ (c .before .r .given .1)
+          (bytes-all (now (s .args .form)) (λ (k : ℕ). c .before .before .before .before .before .before .before .before .before .shared-slice-known2 .given k .fits))
+          (bytes-all (now (s .args .inserted)) (λ (k : ℕ). c .before .before .before .before .before .before .before .before .shared-slice-known3 .given k .fits)),
+    )
 
 enum-known-r-2 : tie.Need-enum-known-r-2
 enum-known-r-2 c = search needs

@@ -1,11 +1,7 @@
 -- `exports::kalzunbi_reduce` meets its contract: what the reduction call says is returned. Assumes nothing.
-use native.Mathlib.Nat.{le-trans}
 use native.Mathlib.Omega.{arith}
-use Prim.Native.Nat.{_≤_}
 use mathlib.Core.Path.{_∙_}
 use borrow.Author.Needs.{needs}
-use Rattle.specification.specs.Records.{formBytes}
-use Rattle.specification.specs.Shortening.{shorteningBytes}
 use Rattle.integers.proofs.Machine.{back-is}
 use Rattle.exports.proofs.Returning.{reduce-refused, reduce-short, reduce-returned}
 use Rattle.exports.proofs.kalzunbi_reduce.Statement.{statement}
@@ -17,12 +13,8 @@ reduce-requires c κs = search needs
 enum-known-r : tie.Need-enum-known-r
 enum-known-r c = search needs
 
--- a record is no longer than a log
-within : formBytes ≤ shorteningBytes
-within = omega arith
-
 written-requires : tie.Need-written-requires
-written-requires c κs = le-trans (reduce-short _ _ _ _ _ (c .before .before .before .before .before .reduce .ensures) _ (c .before .r .given .1)) within
+written-requires c κs = omega (arith, reduce-short _ _ _ _ _ (c .before .before .before .before .before .reduce .ensures) _ (c .before .r .given .1))
 
 enum-known-r-2 : tie.Need-enum-known-r-2
 enum-known-r-2 c = search needs

@@ -1,3 +1,4 @@
+use native.Mathlib.Omega.{arith}
 use borrow.Author.Needs.{needs}
 use Rattle.exports.proofs.kalzunbi_shorten.Statement.{statement}
 use Rattle.exports.proofs.kalzunbi_shorten.Tie as tie
@@ -31,7 +32,12 @@ slice-write-steps : tie.Need-slice-write-steps
 slice-write-steps c = search needs
 
 written-requires : tie.Need-written-requires
-written-requires c κs = written-short (c .before .before .before .before .before .shorten .result) _ _ (c .before .s .given .1) (c .before .before .before .before .before .shorten .ensures .1)
+written-requires c κs =
+    omega (
+      arith,
+      written-short (c .before .before .before .before .before .shorten .result) _ _ (c .before .s .given .1)
+          (c .before .before .before .before .before .shorten .ensures .1),
+    )
 
 enum-known-s-2 : tie.Need-enum-known-s-2
 enum-known-s-2 c = search needs

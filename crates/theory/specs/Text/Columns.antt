@@ -12,6 +12,14 @@ use Rattle.specification.specs.Expressions.{Expr, Letter, Constant, Sum, Differ
 use Rattle.specification.specs.Reduction.{negateForm, sumForms, timesForms, dotForms, wedgeForms, tripleForms, letterForm, constantForm, workWith, work}
 use Rattle.specification.specs.Text.{Placed, refusedAt, placed, _>>=_, Tree, leaf, turned, two, three, plain, atColumn, isRefused, blamed, worked}
 
+-- two results that are the same are of the same
+pub placed-same : {A : Type 0} {a b : A} → placed a ≡ placed b → a ≡ b
+placed-same e = cc
+
+-- a refusal is no result
+pub refused≢placed : {A : Type 0} {n c : ℕ} {a : A} → refusedAt n c ≡ placed a → ⊥
+refused≢placed e = let z : _≡_ {A = ℕ} 0 1 = cc in omega arith
+
 -- the result without the column
 unfoldable pub unplaced : {A : Type 0} → Placed A → Result A
 unplaced (refusedAt n c) = refused n

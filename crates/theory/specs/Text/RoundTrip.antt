@@ -20,16 +20,13 @@ use Rattle.theory.specs.Order.{monomial}
 use Rattle.theory.specs.Shape.Terms.{OneToThree, term-opens, in-limit}
 use Rattle.theory.specs.Shape.Forms.{FormInShape}
 use Rattle.theory.specs.Shape.Letters.{Known, known-is, FactorKnown, MonomialKnown, AllKnown}
+use Rattle.theory.specs.Text.Columns.{placed-same}
 use Rattle.theory.specs.Text.Names.{names-count}
 use Rattle.theory.specs.Text.Pieces.{sum-alone}
 use Rattle.theory.specs.Text.Products.{letterExpr, partExpr, withPart, chain, factorsText, Named, NamedFactor, NamedTerm, sized-read}
 use Rattle.theory.specs.Text.Sums.{formExpr, Readable, ends-nothing, ReadsTo, whole-read, form-text-read}
 use Rattle.theory.specs.Text.Forms.{formOf, form-works}
 use Rattle.theory.specs.Text.Lengths.{form-text-short}
-
--- two results that are the same are of the same
-placed-same : {A : Type 0} {a b : A} → placed a ≡ placed b → a ≡ b
-placed-same e = cc
 
 -- a text that is read to a tree which is worked to a form
 pub read-works : (names table s : List ℕ) (e : Expr) (f : Form) → ReadsTo names table s e → work e ≡ given f → textForm names table s ≡ placed f
@@ -38,14 +35,14 @@ read-works names table s e f r w = rw (r .is, r .plainIs, w) refl
 
 module _ (names table : List ℕ) (good : T (goodNames names table)) where
   -- letters of the table have names
-  known-named : (kind : ℕ) (l : List ℕ) → All (Known table kind) l → Named names l
+  pub known-named : (kind : ℕ) (l : List ℕ) → All (Known table kind) l → Named names l
   known-named kind l h = all-implies (Known table kind) (λ (n : ℕ). n < length names) (λ n k. let w = known-is table kind n k .0 in omega (arith, names-count names table good)) l h
 
   factors-named : (fs : List (List ℕ)) → All OneToThree fs → All (FactorKnown table) fs → All (NamedFactor names) fs
   factors-named [] h k = tt
   factors-named (f ∷ fs) h k = ((h .0 .0, known-named _ f (k .0)), factors-named fs (h .1) (k .1))
 
-  term-readable : (t : Term) → T (termInShape t) × MonomialKnown table (monomial t) → Readable names t
+  pub term-readable : (t : Term) → T (termInShape t) × MonomialKnown table (monomial t) → Readable names t
   term-readable t h = record {
     named = record { factors = factors-named (t .factors) (term-opens t (h .0) .fits .lengths) (h .1 .factors); part = known-named vector (t .part) (h .1 .part) };
     small = omega (arith, in-limit t (h .0));

@@ -175,7 +175,7 @@ pub record ReadsTo (names table s : List ℕ) (e : Expr) : Type 0 where
   pub is : readText names table s ≡ placed tree
   pub plainIs : plain tree ≡ e
 
-nothing-left : (s : List ℕ) (b : ℕ) → drop b s ≡ [] → leb (length s) b ≡ true
+pub nothing-left : (s : List ℕ) (b : ℕ) → drop b s ≡ [] → leb (length s) b ≡ true
 nothing-left s b e = is-true (leb (length s) b) (le→leb (length s) b (omega (arith, length-drop b s, ap length e)))
 
 -- where a sum is read and nothing is left
@@ -187,7 +187,7 @@ whole-read names table s e short sharp r = record {
   plainIs = r .plainIs;
 }
 
-form-sharp : (names table s : List ℕ) → T (goodNames names table) → (k : ℤ) (t : Term) (l : List ℕ) → Readable names t → Sharp (printFirstSign k ++ printTerm names t ++ l)
+pub form-sharp : (names table s : List ℕ) → T (goodNames names table) → (k : ℤ) (t : Term) (l : List ℕ) → Readable names t → Sharp (printFirstSign k ++ printTerm names t ++ l)
 unfolding printFirstSign
 form-sharp names table s good (pos n) t l h = unsigned-sharp (printTerm names t) l (term-begins names table s good 15 t (h .named))
 form-sharp names table s good (negsuc n) t l h = refl

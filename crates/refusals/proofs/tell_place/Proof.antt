@@ -1,0 +1,64 @@
+-- `refusals::tell_place` meets its contract, piece by piece. Assumes nothing.
+use Rattle.refusals.specs.Places.{placeText}
+use Rattle.specification.specs.Words.{bytes}
+use native.Mathlib.Omega.{arith}
+use Rattle.telling.proofs.Pieces.{tells-then, told-first}
+use borrow.Author.Needs.{needs}
+use Rattle.refusals.proofs.tell_place.Statement.{statement}
+use Rattle.refusals.proofs.tell_place.Tie as tie
+
+slice-aggregate-put : tie.Need-slice-aggregate-put
+slice-aggregate-put c = search needs
+
+put-requires : tie.Need-put-requires
+put-requires c κs = search needs
+
+put-number-requires : tie.Need-put-number-requires
+put-number-requires c κs = search needs
+
+slice-aggregate-put-2 : tie.Need-slice-aggregate-put-2
+slice-aggregate-put-2 c = search needs
+
+put-requires-2 : tie.Need-put-requires-2
+put-requires-2 c κs = search needs
+
+put-number-requires-2 : tie.Need-put-number-requires-2
+put-number-requires-2 c κs = search needs
+
+slice-aggregate-put-3 : tie.Need-slice-aggregate-put-3
+slice-aggregate-put-3 c = search needs
+
+put-requires-3 : tie.Need-put-requires-3
+put-requires-3 c κs = search needs
+
+add-put-number : tie.Need-add-put-number
+add-put-number c = search needs
+
+put-number-requires-3 : tie.Need-put-number-requires-3
+put-number-requires-3 c κs = search needs
+
+same-length : tie.Need-same-length
+same-length c = search needs
+
+returns : tie.Need-returns
+unfolding placeText bytes
+returns c =
+    told-first (tells-then (tells-then (tells-then (tells-then (tells-then (c .before .before .before .before .before .before .before .before .before .before .before .before .before .before .before .before .before .before .before .before .before .before .before .before .put .ensures) (c .before .before .before .before .before .before .before .before .before .before .before .before .before .before .before .before .before .before .before .before .put-number .ensures)) (c .before .before .before .before .before .before .before .before .before .before .before .before .before .before .before .put2 .ensures))
+    (c .before .before .before .before .before .before .before .before .before .before .before .put-number2 .ensures)) (c .before .before .before .before .before .before .put3 .ensures)) (c .before .before .put-number3 .ensures))
+
+pub tell-place-spec : {M : Type 1} → statement M
+tell-place-spec =
+    tie.close
+    (tie.spec
+    slice-aggregate-put
+    put-requires
+    put-number-requires
+    slice-aggregate-put-2
+    put-requires-2
+    put-number-requires-2
+    slice-aggregate-put-3
+    put-requires-3
+    add-put-number
+    put-number-requires-3
+    same-length
+    returns)

@@ -1,0 +1,218 @@
+-- `refusals::tell_reason` meets its contract, number by number. Assumes nothing.
+use Rattle.specification.specs.Commands.{reason}
+use Rattle.specification.specs.Words.{bytes}
+use mathlib.Core.Path.{sym, ap}
+use Rattle.telling.proofs.Pieces.{tells-as}
+use Rattle.refusals.proofs.Texts.{reason-else}
+use borrow.Author.Needs.{needs}
+use Rattle.refusals.proofs.tell_reason.Statement.{statement}
+use Rattle.refusals.proofs.tell_reason.Tie as tie
+
+slice-aggregate-put : tie.Need-slice-aggregate-put
+slice-aggregate-put c = search needs
+
+put-requires : tie.Need-put-requires
+put-requires c κs = search needs
+
+same-length : tie.Need-same-length
+same-length c = search needs
+
+returns : tie.Need-returns
+unfolding reason bytes
+returns c = tells-as _ (ap reason (sym (c .before .before .before .before .before .if1 .taken))) (c .before .before .put .ensures)
+
+slice-aggregate-put-2 : tie.Need-slice-aggregate-put-2
+slice-aggregate-put-2 c = search needs
+
+put-requires-2 : tie.Need-put-requires-2
+put-requires-2 c κs = search needs
+
+same-length-2 : tie.Need-same-length-2
+same-length-2 c = search needs
+
+returns-2 : tie.Need-returns-2
+unfolding reason bytes
+returns-2 c = tells-as _ (ap reason (sym (c .before .before .before .before .before .if2 .taken))) (c .before .before .put2 .ensures)
+
+slice-aggregate-put-3 : tie.Need-slice-aggregate-put-3
+slice-aggregate-put-3 c = search needs
+
+put-requires-3 : tie.Need-put-requires-3
+put-requires-3 c κs = search needs
+
+same-length-3 : tie.Need-same-length-3
+same-length-3 c = search needs
+
+returns-3 : tie.Need-returns-3
+unfolding reason bytes
+returns-3 c = tells-as _ (ap reason (sym (c .before .before .before .before .before .if3 .taken))) (c .before .before .put3 .ensures)
+
+slice-aggregate-put-4 : tie.Need-slice-aggregate-put-4
+slice-aggregate-put-4 c = search needs
+
+put-requires-4 : tie.Need-put-requires-4
+put-requires-4 c κs = search needs
+
+same-length-4 : tie.Need-same-length-4
+same-length-4 c = search needs
+
+returns-4 : tie.Need-returns-4
+unfolding reason bytes
+returns-4 c = tells-as _ (ap reason (sym (c .before .before .before .before .before .if4 .taken))) (c .before .before .put4 .ensures)
+
+slice-aggregate-put-5 : tie.Need-slice-aggregate-put-5
+slice-aggregate-put-5 c = search needs
+
+put-requires-5 : tie.Need-put-requires-5
+put-requires-5 c κs = search needs
+
+same-length-5 : tie.Need-same-length-5
+same-length-5 c = search needs
+
+returns-5 : tie.Need-returns-5
+unfolding reason bytes
+returns-5 c = tells-as _ (ap reason (sym (c .before .before .before .before .before .if5 .taken))) (c .before .before .put5 .ensures)
+
+slice-aggregate-put-6 : tie.Need-slice-aggregate-put-6
+slice-aggregate-put-6 c = search needs
+
+put-requires-6 : tie.Need-put-requires-6
+put-requires-6 c κs = search needs
+
+same-length-6 : tie.Need-same-length-6
+same-length-6 c = search needs
+
+returns-6 : tie.Need-returns-6
+unfolding reason bytes
+returns-6 c = tells-as _ (ap reason (sym (c .before .before .before .before .before .if6 .taken))) (c .before .before .put6 .ensures)
+
+slice-aggregate-put-7 : tie.Need-slice-aggregate-put-7
+slice-aggregate-put-7 c = search needs
+
+put-requires-7 : tie.Need-put-requires-7
+put-requires-7 c κs = search needs
+
+same-length-7 : tie.Need-same-length-7
+same-length-7 c = search needs
+
+returns-7 : tie.Need-returns-7
+unfolding reason bytes
+returns-7 c = tells-as _ (ap reason (sym (c .before .before .before .before .before .if7 .taken))) (c .before .before .put7 .ensures)
+
+slice-aggregate-put-8 : tie.Need-slice-aggregate-put-8
+slice-aggregate-put-8 c = search needs
+
+put-requires-8 : tie.Need-put-requires-8
+put-requires-8 c κs = search needs
+
+same-length-8 : tie.Need-same-length-8
+same-length-8 c = search needs
+
+returns-8 : tie.Need-returns-8
+unfolding reason bytes
+returns-8 c = tells-as _ (ap reason (sym (c .before .before .before .before .before .if8 .taken))) (c .before .before .put8 .ensures)
+
+slice-aggregate-put-9 : tie.Need-slice-aggregate-put-9
+slice-aggregate-put-9 c = search needs
+
+put-requires-9 : tie.Need-put-requires-9
+put-requires-9 c κs = search needs
+
+same-length-9 : tie.Need-same-length-9
+same-length-9 c = search needs
+
+returns-9 : tie.Need-returns-9
+unfolding reason bytes
+returns-9 c = tells-as _ (ap reason (sym (c .before .before .before .before .before .if9 .taken))) (c .before .before .put9 .ensures)
+
+slice-aggregate-put-10 : tie.Need-slice-aggregate-put-10
+slice-aggregate-put-10 c = search needs
+
+put-requires-10 : tie.Need-put-requires-10
+put-requires-10 c κs = search needs
+
+same-length-10 : tie.Need-same-length-10
+same-length-10 c = search needs
+
+returns-10 : tie.Need-returns-10
+unfolding reason bytes
+returns-10 c = tells-as _ (ap reason (sym (c .before .before .before .before .before .if10 .taken))) (c .before .before .put10 .ensures)
+
+slice-aggregate-put-11 : tie.Need-slice-aggregate-put-11
+slice-aggregate-put-11 c = search needs
+
+put-requires-11 : tie.Need-put-requires-11
+put-requires-11 c κs = search needs
+
+same-length-11 : tie.Need-same-length-11
+same-length-11 c = search needs
+
+returns-11 : tie.Need-returns-11
+unfolding reason bytes
+returns-11 c = tells-as _ (ap reason (sym (c .before .before .before .before .before .if11 .taken))) (c .before .before .put11 .ensures)
+
+slice-aggregate-put-12 : tie.Need-slice-aggregate-put-12
+slice-aggregate-put-12 c = search needs
+
+put-requires-12 : tie.Need-put-requires-12
+put-requires-12 c κs = search needs
+
+same-length-12 : tie.Need-same-length-12
+same-length-12 c = search needs
+
+returns-12 : tie.Need-returns-12
+unfolding bytes
+returns-12 c = tells-as _ (reason-else _ (c .before .before .before .before .before .before .before .before .before .before .before .before .before .before .before .if1 .left) (c .before .before .before .before .before .before .before .before .before .before .before .before .before .before .if2 .left) (c .before .before .before .before .before .before .before .before .before .before .before .before .before .if3 .left) (c .before .before .before .before .before .before .before .before .before .before .before .before .if4 .left) (c .before .before .before .before .before .before .before .before .before .before .before .if5 .left) (c .before .before .before .before .before .before .before .before .before .before .if6 .left) (c .before .before .before .before .before .before .before .before .before .if7 .left) (c .before .before .before .before .before .before .before .before .if8 .left) (c .before .before .before .before .before .before .before .if9 .left) (c .before .before .before .before .before .before .if10 .left) (c .before .before .before .before .before .if11 .left)) (c .before .before .put12 .ensures)
+
+pub tell-reason-spec : {M : Type 1} → statement M
+tell-reason-spec =
+    tie.close
+    (tie.spec
+    slice-aggregate-put
+    put-requires
+    same-length
+    returns
+    slice-aggregate-put-2
+    put-requires-2
+    same-length-2
+    returns-2
+    slice-aggregate-put-3
+    put-requires-3
+    same-length-3
+    returns-3
+    slice-aggregate-put-4
+    put-requires-4
+    same-length-4
+    returns-4
+    slice-aggregate-put-5
+    put-requires-5
+    same-length-5
+    returns-5
+    slice-aggregate-put-6
+    put-requires-6
+    same-length-6
+    returns-6
+    slice-aggregate-put-7
+    put-requires-7
+    same-length-7
+    returns-7
+    slice-aggregate-put-8
+    put-requires-8
+    same-length-8
+    returns-8
+    slice-aggregate-put-9
+    put-requires-9
+    same-length-9
+    returns-9
+    slice-aggregate-put-10
+    put-requires-10
+    same-length-10
+    returns-10
+    slice-aggregate-put-11
+    put-requires-11
+    same-length-11
+    returns-11
+    slice-aggregate-put-12
+    put-requires-12
+    same-length-12
+    returns-12)

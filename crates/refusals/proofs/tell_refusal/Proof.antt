@@ -1,0 +1,76 @@
+-- `refusals::tell_refusal` meets its contract, piece by piece. Assumes nothing.
+use Rattle.refusals.specs.Places.{placeText}
+use Rattle.specification.specs.Commands.{refusalText}
+use Rattle.specification.specs.Words.{bytes}
+use mathlib.Core.Path.{_∙_}
+use native.Mathlib.Omega.{arith}
+use Rattle.telling.proofs.Pieces.{tells-then}
+use borrow.Author.Needs.{needs}
+use Rattle.refusals.proofs.tell_refusal.Statement.{statement}
+use Rattle.refusals.proofs.tell_refusal.Tie as tie
+
+tell-place-requires : tie.Need-tell-place-requires
+tell-place-requires c κs = search needs
+
+slice-aggregate-put : tie.Need-slice-aggregate-put
+slice-aggregate-put c = search needs
+
+put-requires : tie.Need-put-requires
+put-requires c κs = search needs
+
+tell-reason-requires : tie.Need-tell-reason-requires
+tell-reason-requires c κs = search needs
+
+slice-aggregate-put-2 : tie.Need-slice-aggregate-put-2
+slice-aggregate-put-2 c = search needs
+
+put-requires-2 : tie.Need-put-requires-2
+put-requires-2 c κs = search needs
+
+put-requires-3 : tie.Need-put-requires-3
+put-requires-3 c κs = search needs
+
+slice-aggregate-put-3 : tie.Need-slice-aggregate-put-3
+slice-aggregate-put-3 c = search needs
+
+put-requires-4 : tie.Need-put-requires-4
+put-requires-4 c κs = search needs
+
+put-blanks-requires : tie.Need-put-blanks-requires
+put-blanks-requires c κs = search needs
+
+slice-aggregate-put-4 : tie.Need-slice-aggregate-put-4
+slice-aggregate-put-4 c = search needs
+
+put-requires-5 : tie.Need-put-requires-5
+put-requires-5 c κs = search needs
+
+same-length : tie.Need-same-length
+same-length c =
+    c .before .before .put5 .kept .0 ∙ c .before .before .before .before .before .before .before .put-blanks .kept .0 ∙ c .before .before .before .before .before .before .before .before .before .before .before .put4 .kept .0 ∙ c .before .before .before .before .before .before .before .before .before .before .before .before .before .before .before .before .put3 .kept .0 ∙ c .before .before .before .before .before .before .before .before .before .before .before .before .before .before .before .before .before .before .before .before .put2 .kept .0
+    ∙ c .before .before .before .before .before .before .before .before .before .before .before .before .before .before .before .before .before .before .before .before .before .before .before .before .before .tell-reason .kept .0 ∙ c .before .before .before .before .before .before .before .before .before .before .before .before .before .before .before .before .before .before .before .before .before .before .before .before .before .before .before .before .before .put .kept .0 ∙ c .before .before .before .before .before .before .before .before .before .before .before .before .before .before .before .before .before .before .before .before .before .before .before .before .before .before .before .before .before .before .before .before .before .before .tell-place .kept .0
+
+returns : tie.Need-returns
+unfolding refusalText placeText bytes
+returns c =
+    c .before .before .put5 .ensures .is _ (c .before .before .before .before .before .before .before .put-blanks .ensures .is _ (c .before .before .before .before .before .before .before .before .before .before .before .put4 .ensures .is _ (c .before .before .before .before .before .before .before .before .before .before .before .before .before .before .before .before .put3 .ensures .is _ (c .before .before .before .before .before .before .before .before .before .before .before .before .before .before .before .before .before .before .before .before .put2 .ensures .is _
+    (c .before .before .before .before .before .before .before .before .before .before .before .before .before .before .before .before .before .before .before .before .before .before .before .before .before .tell-reason .ensures .is _ (c .before .before .before .before .before .before .before .before .before .before .before .before .before .before .before .before .before .before .before .before .before .before .before .before .before .before .before .before .before .put .ensures .is _ (c .before .before .before .before .before .before .before .before .before .before .before .before .before .before .before .before .before .before .before .before .before .before .before .before .before .before .before .before .before .before .before .before .before .before .tell-place .ensures)))))))
+
+pub tell-refusal-spec : {M : Type 1} → statement M
+tell-refusal-spec =
+    tie.close
+    (tie.spec
+    tell-place-requires
+    slice-aggregate-put
+    put-requires
+    tell-reason-requires
+    slice-aggregate-put-2
+    put-requires-2
+    put-requires-3
+    slice-aggregate-put-3
+    put-requires-4
+    put-blanks-requires
+    slice-aggregate-put-4
+    put-requires-5
+    same-length
+    returns)
