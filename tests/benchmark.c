@@ -214,6 +214,6 @@ int main(void)
     static char longest[4096];
     for (int i = 0; i < 4096; i++)
         longest[i] = i % 2 ? (char)('a' + i / 2 % 12) : '+';
-    measure_text("text of 4,096 bytes, a sum of 12 letters", longest, 4096, 82, 1000);
+    measure_text("text of 4,096 bytes, a sum of 12 letters", longest, 4096, 74, 1000);
     return 0;
 }
