@@ -10,10 +10,12 @@ import subprocess
 import sys
 
 import check_cases
+import decision_cases
 import printer_cases
+import shorten_cases
 import text_cases
 import value_cases as forms
-from reduction_cases import Refused
+from reduction_cases import Refused, demand
 
 REASONS = {
     1: "no name, more than 24 names, or a name twice",
@@ -26,13 +28,16 @@ REASONS = {
     9: "a coefficient beyond 2147483647",
     10: "more than 48 terms",
     11: "not one term",
+    12: "not an assignment of numbers from -6 to 6 to every name",
 }
 AT_STEPS = {
+    1: "a table that is none",
     5: "a letter that is not in the table",
     6: "kinds that do not fit",
     8: "more than 6 vector letters or 2 scalar letters in a term",
     9: "a gathered coefficient beyond 2147483647",
     10: "more than 48 terms",
+    11: "not in the one written shape",
     13: "the last form is not the one reached",
 }
 WORDS = {b"vectors": 1, b"scalars": 0}
@@ -179,7 +184,167 @@ def packed(data):
     return bytes([len(table)]) + table + log
 
 
-ANSWERS = {"reduce": reduced, "check": checked, "pack": packed}
+def unpacked(data):
+    step = 0
+    try:
+        demand(data and len(data) > data[0], 1)
+        table, log = data[1:data[0] + 1], data[data[0] + 1:]
+        demand(1 <= len(table) <= 24 and max(table) <= 1, 1)
+        first, steps, last, _, _ = check_cases.cut_log(log)
+        # the letters of a rule are vectors, as those of a vector part are
+        for step, terms in enumerate([first[1]] + [[(1, (), letters), m] for _, letters, m in steps] + [last[1]]):
+            number = forms.letters_refused(table, terms)
+            demand(number == 0, number)
+    except Refused as refusal:
+        return f"refused {refusal.args[0]} at step {step}: {AT_STEPS[refusal.args[0]]}\n".encode()
+    return log_text("abcdefghijklmnopqrstuvwx"[:len(table)], table, log)
+
+
+# ════ one line behind the names
+
+def only(lines, end):
+    """Nothing is left but empty lines."""
+    if lines:
+        raise Stop(4, lines[0][0], 0, lines[0][1])
+
+
+def value_text(kind, value):
+    return str(value[0]) if kind == 0 else "(" + ", ".join(map(str, value)) + ")"
+
+
+def by_letters(numbers):
+    return [tuple(numbers[i:i + 3]) for i in range(0, len(numbers), 3)]
+
+
+def decided(data):
+    table, names, lines, end = header(data)
+    number, line = lines.pop(0) if lines else end
+    at = line.find(b"=")
+    if at < 0:
+        raise Stop(4, number, len(line), line)
+    sides = []
+    for part, start in ((line[:at], 0), (line[at + 1:], at + 1)):
+        what, first, rest = text_cases.read_text(table, names, part)
+        if what != "form":
+            raise Stop(first, number, start + rest, line)
+        sides.append(forms.read(rest))
+    (kind, left), (other, right) = sides
+    if left and right and kind != other:
+        raise Stop(6, number, at, line)
+    only(lines, end)
+    kind = kind if left else other
+    if all(decision_cases.expanded(left, i) == decision_cases.expanded(right, i) for i in range(3)):
+        return b"holds\n"
+    vectors = by_letters(decision_cases.first_apart(table, left, right)[0])
+    told = ", ".join(f"{chr(name)} = {value_text(k, v)}" for name, k, v in zip(names, table, vectors))
+    both = [value_text(kind, forms.evaluate(side, vectors)) for side in (left, right)]
+    return f"differs\n{told}\nleft = {both[0]}\nright = {both[1]}\n".encode()
+
+
+def assignment(table, names, number, line):
+    """The numbers of the letters, three each."""
+    found, at = {}, past(line, 0)
+
+    def mark(byte):
+        nonlocal at
+        if line[at:at + 1] != byte:
+            raise Stop(4, number, at, line)
+        at = past(line, at + 1)
+
+    def component():
+        nonlocal at
+        minus = line[at:at + 1] == b"-"
+        if minus:
+            at = past(line, at + 1)
+        digit = line[at:at + 1]
+        if not digit.isdigit():
+            raise Stop(4, number, at, line)
+        if digit > b"6" or line[at + 1:at + 2].isdigit():
+            raise Stop(12, number, at, line)
+        at = past(line, at + 1)
+        return -int(digit) if minus else int(digit)
+
+    while True:
+        name = line[at:at + 1]
+        if not name.isalpha():
+            raise Stop(4, number, at, line)
+        if name not in names:
+            raise Stop(5, number, at, line)
+        n = names.index(name)
+        if n in found:
+            raise Stop(12, number, at, line)
+        at = past(line, at + 1)
+        mark(b"=")
+        if table[n]:
+            numbers = []
+            for before in (b"(", b",", b","):
+                mark(before)
+                numbers.append(component())
+            mark(b")")
+            found[n] = numbers
+        else:
+            found[n] = [component(), 0, 0]
+        if at >= len(line):
+            if len(found) < len(table):
+                raise Stop(12, number, at, line)
+            return [x for n in range(len(table)) for x in found[n]]
+        mark(b",")
+
+
+def valued(data):
+    table, names, lines, end = header(data)
+    kind, terms = forms.read(formula(table, names, *(lines.pop(0) if lines else end)))
+    numbers = assignment(table, names, *(lines.pop(0) if lines else end))
+    only(lines, end)
+    return value_text(kind, forms.evaluate(terms, by_letters(numbers))).encode() + b"\n"
+
+
+def one_formula(data):
+    """The table, the names and the record of the one formula."""
+    table, names, lines, end = header(data)
+    form = formula(table, names, *(lines.pop(0) if lines else end))
+    only(lines, end)
+    return table, names, form
+
+
+def shortened(data):
+    """The log of a form from which each step is the only one; where there is more than one, AssertionError."""
+    table, names, form = one_formula(data)
+    kind, terms = check_cases.gathered(forms.read(form))
+    steps, last = shorten_cases.shortened(kind, terms)
+    end = text_cases.text_of(names, shorten_cases.record(kind, last))
+    lines = [step.split(":") for step in steps]
+    renamed = [f"{rule}:{rest.translate({ord('a') + i: chr(name) for i, name in enumerate(names)})}" for rule, rest in lines]
+    head = log_text(names.decode(), table, check_cases.log(form, [], form)).split(b"\n")
+    return b"\n".join([*head[:2], *(line.encode() for line in renamed), (b"scalar ", b"vector ")[kind] + end.encode(), b""])
+
+
+def shortening_fault(data, found):
+    """What is wrong with an answer to `shorten`: the log begins with the form, is accepted, saves a term a step, and no step from its last form leads to fewer terms."""
+    try:
+        table, names, form = one_formula(data)
+    except Stop:
+        return None if found == answer("shorten", data) else "another refusal"
+    try:
+        same, log = log_read(found)
+    except Stop as stop:
+        return f"a text that is refused: {stop.args}"
+    result = check_cases.answer(table, log)
+    if same != table or log_text(names.decode(), table, log) != found or log[:len(form)] != form:
+        return "another text"
+    if result[0] != "accepted":
+        return f"a log that is refused: {result}"
+    last = forms.read(log[result[2]:])
+    if result[3] + len(last[1]) > form[1]:
+        return "steps that save nothing"
+    if next(shorten_cases.steps(*check_cases.gathered(last)), None):
+        return "a step to fewer terms is left"
+    return None
+
+
+ANSWERS = {
+    "reduce": reduced, "decide": decided, "value": valued, "shorten": shortened, "check": checked, "pack": packed, "unpack": unpacked,
+}
 
 
 def first_word(line):
@@ -218,6 +383,14 @@ def random_input(chance):
     return out
 
 
+def declaration(names, table):
+    lines, before = "", None
+    for name, kind in zip(names, table):
+        lines += ("" if kind == before else " scalars" if kind == 0 else " vectors") + " " + name
+        before = kind
+    return lines[1:]
+
+
 def log_text(names, table, log):
     """A log in shape as text."""
     first, steps, last, _, _ = check_cases.cut_log(log)
@@ -225,11 +398,7 @@ def log_text(names, table, log):
     def text(terms):
         return printer_cases.text(terms).translate({ord("a") + i: name for i, name in enumerate(names)})
 
-    lines, before = "", None
-    for name, kind in zip(names, table):
-        lines += ("" if kind == before else " scalars" if kind == 0 else " vectors") + " " + name
-        before = kind
-    lines = [lines[1:], ("scalar ", "vector ")[first[0]] + text(first[1])]
+    lines = [declaration(names, table), ("scalar ", "vector ")[first[0]] + text(first[1])]
     for rule, letters, m in steps:
         lines.append(f"rule {rule}: {' '.join(names[n] for n in letters)}, M = {text([m])}")
     return "\n".join([*lines, ("scalar ", "vector ")[last[0]] + text(last[1]), ""]).encode()
@@ -253,6 +422,79 @@ def random_log_text(chance):
         return text_cases.damaged(chance, data) if chance.random() < 0.35 else data
 
 
+def random_names(chance, table):
+    return chance.sample("abcdefghijklmnopqrstuvwxyzABCDEFGHIJKLMNOPQRSTUVWXYZ", len(table))
+
+
+def random_table(chance):
+    return bytes(chance.choice((0, 1, 1)) for _ in range(chance.randint(1, 6)))
+
+
+def a_formula(chance, table, names):
+    return text_cases.random_formula(chance, table, "".join(names).encode(), chance.choice([0, 0, 0, 0.03]), chance.randint(1, 6))[0]
+
+
+def random_sides(chance):
+    """Two formulas, now and then alike or nearly so."""
+    table = random_table(chance)
+    names = random_names(chance, table)
+    left = a_formula(chance, table, names)
+    right = chance.choice([left, f"{left}-{left}+{left}", a_formula(chance, table, names), f"{left}+{chance.choice(names)}", "0"])
+    sign = chance.choice([" = ", "=", " =  "]) if chance.random() < 0.95 else ""
+    return f"{declaration(names, table)}\n{left}{sign}{right}\n".encode()
+
+
+def random_value(chance):
+    table = random_table(chance)
+    names = random_names(chance, table)
+    most = chance.choice((6, 6, 6, 6, 12))
+
+    def number():
+        n = chance.randint(-most, most)
+        return str(n) if n >= 0 or chance.random() < 0.9 else f"- {-n}"
+
+    parts = [f"{n} = {number()}" if k == 0 else f"{n}=( {number()} ,{number()}, {number()} )" if chance.random() < 0.2 else f"{n} = ({number()}, {number()}, {number()})"
+             for n, k in zip(names, table)]
+    chance.shuffle(parts)
+    if chance.random() < 0.1:
+        parts.append(chance.choice(parts))
+    if chance.random() < 0.1:
+        parts.pop()
+    return f"{declaration(names, table)}\n{a_formula(chance, table, names)}\n{', '.join(parts)}\n".encode()
+
+
+def random_formula_alone(chance):
+    """A formula; now and then one side of a rule less the other, of which steps are left."""
+    if chance.random() < 0.5:
+        table, names = bytes([1] * 4 + [0]), random_names(chance, bytes(5))
+        a, b, c, d, m = names
+        some = [f"({a}{b}{c})*{d}-({a}{b}{d})*{c}", f"({b}{c}{d})*{a}-({a}{c}{d})*{b}", f"{a}^({b}^{c})+{b}^({c}^{a})", f"{m}*({a}^{b})^({c}^{d})"]
+        text = "+".join(chance.sample(some, chance.randint(1, 2)))
+        return f"{declaration(names, table)}\n{text}\n".encode()
+    table = random_table(chance)
+    names = random_names(chance, table)
+    return f"{declaration(names, table)}\n{a_formula(chance, table, names)}\n".encode()
+
+
+def random_packed(chance):
+    table, log = (check_cases.damaged_log if chance.random() < 0.5 else check_cases.random_log)(chance)
+    data = bytes([len(table)]) + table + log
+    return data[:chance.randint(0, len(data))] if chance.random() < 0.05 else data
+
+
+INPUTS = {
+    "reduce": random_input, "decide": random_sides, "value": random_value, "shorten": random_formula_alone,
+    "check": random_log_text, "pack": random_log_text, "unpack": random_packed,
+}
+
+
+def random_case(chance, word):
+    data = INPUTS[word](chance)
+    if word in ("decide", "value", "shorten") and chance.random() < 0.25:
+        data = text_cases.damaged(chance, data)
+    return data
+
+
 def run(word, data):
     return subprocess.run([PROGRAM, word], input=data, capture_output=True, check=False).stdout
 
@@ -262,11 +504,12 @@ def main():
         chance = random.Random(int(sys.argv[2]) if len(sys.argv) > 2 else 1)
         different = refusals = 0
         for _ in range(int(sys.argv[1])):
-            word = chance.choice(("reduce", "check", "check", "pack"))
-            data = (random_input if word == "reduce" else random_log_text)(chance)
-            expected, found = answer(word, data), run(word, data)
-            refusals += expected.startswith(b"refused")
-            if expected != found:
+            word = chance.choice(list(INPUTS))
+            data = random_case(chance, word)
+            found = run(word, data)
+            expected = shortening_fault(data, found) if word == "shorten" else answer(word, data)
+            refusals += found.startswith(b"refused")
+            if expected != (None if word == "shorten" else found):
                 different += 1
                 print(word, data, expected, found, sep="\n")
         print(f"{sys.argv[1]} inputs, {refusals} refused, {different} different")

@@ -22,7 +22,7 @@ pub enum Decision {
 }
 
 // How many components of two forms of a kind are compared: scalar forms have one, and vector forms may differ in any of three first.
-fn components(kind: u8) -> u8
+pub fn components(kind: u8) -> u8
     ensures { λ r. ⌜ Components kind r ⌝ }
 {
     if kind == 0 { 1 } else { 3 }
@@ -30,7 +30,7 @@ fn components(kind: u8) -> u8
 
 // The decision of two forms that passed every test: their m components are compared one after the other, and of the first numbers under which one differs the
 // first stand in the buffer. (The number is passed on because a form of which a field is read here would be copied for each component.)
-fn settle(table: &[u8], f: Form, g: Form, m: u8, buffer: &mut [u8], work: &mut [u8]) -> Decision
+pub fn settle(table: &[u8], f: Form, g: Form, m: u8, buffer: &mut [u8], work: &mut [u8]) -> Decision
     requires { ⌜ Decidable (now table) f g (now buffer) (now work) × Components (f .kind) m ⌝ }
     ensures { λ r. ⌜ DecidedSo (now (table .entry)) f g (now (buffer .entry)) (now (work .entry)) (decisionOf r) (now (buffer .exit)) (now (work .exit)) ⌝ }
 {

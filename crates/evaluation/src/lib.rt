@@ -3,8 +3,8 @@ ghost use mathlib.Core.Path.{_≡_};
 ghost use Rattle.specification.specs.Evaluation.{valueCall};
 ghost use Rattle.evaluation.specs.Answers.{valuedOf};
 
-mod assignments;
-mod values;
+pub mod assignments;
+pub mod values;
 pub mod vectors;
 
 use crate::assignments::good_assignment;

@@ -3,21 +3,18 @@ use command::command;
 use command::is_command;
 use libc::STDIN_FILENO;
 use libc::STDOUT_FILENO;
-
-// Room for the answer, that of `io::large_buffer`.
-const OUT_BYTES: usize = 65536;
+use printer_call::Printing;
 
 // Writes the answer.
 fn answer(word: &[u8], s: &[u8]) {
     let mut out = io::large_buffer();
-    let n = command(word, s, &mut out);
-    if n > OUT_BYTES {
+    let Printing::Printed(n) = command(word, s, &mut out) else {
         io::write_all(
             STDOUT_FILENO,
             b"refused 2: more output than there is room for\n",
         );
         return;
-    }
+    };
     io::write_all(STDOUT_FILENO, &out[..n]);
 }
 

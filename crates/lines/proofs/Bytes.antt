@@ -12,18 +12,6 @@ use lib.Seq.{take-all, drop-cons, drop-drop, getD-drop, getD-take, length-take-l
 use Rattle.specification.specs.Lines.{sameBytes, isWordAt}
 use Rattle.lines.specs.Words.{standsAt}
 
--- as many bytes, or others
-pub lengths-apart : (xs ys : List ℕ) → (length xs ≡ length ys → ⊥) → sameBytes xs ys ≡ false
-unfolding sameBytes
-lengths-apart [] [] n = absurd (n refl)
-lengths-apart [] (y ∷ ys) n = refl
-lengths-apart (x ∷ xs) [] n = refl
-lengths-apart (x ∷ xs) (y ∷ ys) n = ap (λ (b : Bool). eqb x y && b) (lengths-apart xs ys (λ e. n (ap suc e))) ∙ and-none (eqb x y)
-  where
-    and-none : (b : Bool) → (b && false) ≡ false
-    and-none true = refl
-    and-none false = refl
-
 -- two of one length
 pub same-whole : (a b : List ℕ) → length a ≡ length b → standsAt b a 0 ≡ sameBytes a b
 unfolding standsAt
@@ -33,16 +21,6 @@ module _ (word line : List ℕ) (at : ℕ) where
   -- the bytes that have to be the word
   abbrev part : List ℕ
   part = take (length word) (drop at line)
-
-  -- the line is too short
-  pub word-short : length line - at < length word → false ≡ isWordAt word line at
-  unfolding isWordAt
-  word-short h = rw (lengths-apart part word (λ e. omega (arith, e, short (length word) (drop at line), length-drop at line)))
-    where
-      short : (n : ℕ) (l : List ℕ) → length (take n l) ≤ length l
-      short zero l = omega arith
-      short (suc n) [] = omega arith
-      short (suc n) (x ∷ l) = omega (arith, short n l)
 
   module _ (room : at + length word ≤ length line) (i : ℕ) (h : sameBytes part word ≡ sameBytes (drop i part) (drop i word)) (k : i < length word) where
     long : length part ≡ length word

@@ -1,12 +1,12 @@
 -- Where lines end, and empty lines passed one after the other. Assumes nothing.
 use mathlib.Core.Path.{_≡_, refl, sym, _∙_, ap, subst}
-use mathlib.Core.Bool.{Bool, true, false, true≢false}
+use mathlib.Core.Bool.{Bool, true, false, not, true≢false}
 use mathlib.Core.List.{List, [], _∷_, _++_, append-assoc, append-nil}
 use Prim.Native.Nat.{ℕ, zero, suc, _+_, _-_, _≤_, _<_}
 use native.Mathlib.Omega.{arith}
 use native.Mathlib.Numerals.{add-one, sub-one}
 use borrow.Author.Tests.{eq-eqb, ne-eqb}
-use lib.Dec.{eqb}
+use lib.Dec.{T, eqb, ltb, ltb→lt, nltb→le}
 use lib.ListN.{length, getD, take, drop, length-drop, drop-of-length-le}
 use lib.Seq.{drop-cons, drop-length, take-suc, getD-drop}
 use Rattle.specification.specs.Lists.{all}
@@ -203,3 +203,11 @@ module _ (s : List ℕ) (first : L.Place) (q : Place) (left : ℕ) (h : PassingF
 -- the line behind the next place
 pub to-next : (s : List ℕ) (p : L.Place) (q r : Place) → Reached s p q → Reached s (toLine (placeOf s q)) r → Reached s (toLine p) r
 to-next s p q r h k = record { is = k .is ∙ ap toLine (h .is); inside = k .inside }
+
+-- a place is in the text, or nothing stands there
+pub inside-or : (s : List ℕ) (at : ℕ) → (drop at s ≡ [] → ⊥) → at < length s
+inside-or s at n = go (ltb at (length s)) (ltb→lt at (length s)) (nltb→le at (length s))
+  where
+    go : (b : Bool) → (T b → at < length s) → (T (not b) → length s ≤ at) → at < length s
+    go true f g = f tt
+    go false f g = absurd (n (drop-of-length-le s (g tt)))

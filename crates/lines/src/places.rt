@@ -89,3 +89,12 @@ pub fn to_line(s: &[u8], p: Place) -> Place
     }
     q
 }
+
+// The next line that is not empty.
+pub fn line_behind(s: &[u8], p: Place) -> Place
+    requires { ⌜ Inside (now s) p × (p .at < length (now s)) ⌝ }
+    ensures { λ r. ⌜ Reached (now (s .entry)) (toLine (nextLine (placeOf (now (s .entry)) p))) r ⌝ }
+{
+    let q = next_place(s, p);
+    to_line(s, q)
+}

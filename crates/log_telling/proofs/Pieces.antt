@@ -1,12 +1,16 @@
 -- The pieces of a log's text, one behind the other. Assumes nothing.
 use mathlib.Core.Path.{_≡_, refl, sym, _∙_, ap}
+use mathlib.Core.Bool.{Bool, true, false}
 use mathlib.Core.List.{List, [], _∷_, _++_, append-assoc, append-nil}
 use Prim.Native.Nat.{ℕ, _+_, _≤_, _<_}
 use native.Mathlib.Omega.{arith}
 use native.Mathlib.Numerals.{add-one}
 use borrow.Author.Tests.{eq-eqb, ne-eqb}
+use lib.Dec.{eqb}
 use lib.ListN.{length, getD, take, drop, drop-of-length-le}
 use lib.Seq.{drop-cons, take-at, length-take-le}
+use Rattle.specification.specs.Results.{if_then_else_}
+use Rattle.specification.specs.Letters.{scalar}
 use Rattle.specification.specs.Words.{bytes}
 use Rattle.specification.specs.Records.{writeInto}
 use Rattle.specification.specs.Printing.{printForm, printSteps, TextWritten}
@@ -28,16 +32,6 @@ use Rattle.log_telling.specs.Names.{kindChange, nameText}
 -- ════ words
 
 module _ {l m : List ℕ} {at next : ℕ} (kind : ℕ) where
-  -- `scalars`
-  pub kinds-scalars : kind ≡ 0 → Tells l m at next (bytes "scalars") → Tells l m at next (kindsWord kind)
-  unfolding kindsWord
-  kinds-scalars e h = tells-as _ (sym (rw (eq-eqb kind 0 e))) h
-
-  -- `vectors`
-  pub kinds-vectors : (kind ≡ 0 → ⊥) → Tells l m at next (bytes "vectors") → Tells l m at next (kindsWord kind)
-  unfolding kindsWord
-  kinds-vectors n h = tells-as _ (sym (rw (ne-eqb kind 0 n))) h
-
   -- `scalar`
   pub kind-scalar : kind ≡ 0 → Tells l m at next (bytes "scalar") → Tells l m at next (kindWord kind)
   unfolding kindWord
@@ -47,6 +41,15 @@ module _ {l m : List ℕ} {at next : ℕ} (kind : ℕ) where
   pub kind-vector : (kind ≡ 0 → ⊥) → Tells l m at next (bytes "vector") → Tells l m at next (kindWord kind)
   unfolding kindWord
   kind-vector n h = tells-as _ (sym (rw (ne-eqb kind 0 n))) h
+
+-- `scalars`, `vectors`
+pub kinds-word : (kind : ℕ) → kindWord kind ++ 115 ∷ [] ≡ kindsWord kind
+unfolding kindWord kindsWord bytes
+kinds-word kind = go (eqb kind scalar)
+  where
+    go : (b : Bool) → (if b then bytes "scalar" else bytes "vector") ++ 115 ∷ [] ≡ (if b then bytes "scalars" else bytes "vectors")
+    go true = refl
+    go false = refl
 
 -- the same kind
 pub change-none : (l : List ℕ) (at before kind : ℕ) → kind ≡ before → Tells l l at at (kindChange before kind)

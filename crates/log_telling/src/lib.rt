@@ -21,14 +21,22 @@ use texts::byte_at;
 // The lines of 64 steps, of at most 55 bytes each.
 const STEPS_BYTES: usize = 3520;
 
+// `vector` or `scalar`.
+fn tell_kind(out: &mut [u8], at: usize, kind: u8) -> usize
+    ensures { λ r. ⌜ Tells (now (out .entry)) (now (out .exit)) at r (kindWord kind) ⌝ }
+{
+    if kind == 0 {
+        return put(out, at, b"scalar");
+    }
+    put(out, at, b"vector")
+}
+
 // `vectors` or `scalars`.
 fn tell_kinds(out: &mut [u8], at: usize, kind: u8) -> usize
     ensures { λ r. ⌜ Tells (now (out .entry)) (now (out .exit)) at r (kindsWord kind) ⌝ }
 {
-    if kind == 0 {
-        return put(out, at, b"scalars");
-    }
-    put(out, at, b"vectors")
+    let word = tell_kind(out, at, kind);
+    put_byte(out, word, b's')
 }
 
 // A blank and the word of a kind, where it is another than the one before.
@@ -77,16 +85,6 @@ fn tell_names_line(out: &mut [u8], at: usize, names: &[u8], table: &[u8]) -> usi
     let word = tell_kinds(out, at, kind);
     let end = tell_names(out, word, kind, names, table);
     put_byte(out, end, b'\n')
-}
-
-// `vector` or `scalar`.
-fn tell_kind(out: &mut [u8], at: usize, kind: u8) -> usize
-    ensures { λ r. ⌜ Tells (now (out .entry)) (now (out .exit)) at r (kindWord kind) ⌝ }
-{
-    if kind == 0 {
-        return put(out, at, b"scalar");
-    }
-    put(out, at, b"vector")
 }
 
 // The line of a form: its kind and its text.

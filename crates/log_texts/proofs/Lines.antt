@@ -35,7 +35,8 @@ use Rattle.log_texts.specs.declared.reading.StepLines.{StepLines}
 use Rattle.log_texts.specs.declared.reading.LogText.{LogText}
 use Rattle.log_texts.specs.Steps.{StepLineRead}
 use Rattle.log_texts.specs.Logs.{StepLinesRead, logOf, LinesRead, LogTextRead}
-use Rattle.log_texts.proofs.Told.{text-refused, text-given}
+use Rattle.formula_call.proofs.Given.{text-refused, text-given}
+use Rattle.lines.proofs.Ends.{inside-or}
 
 -- ════ lines that are not behind the text
 
@@ -48,14 +49,6 @@ no-step = refl
 no-form : (names table : List ℕ) → readFormLine names table (firstLine []) ≡ refusedAt 4 0
 unfolding readFormLine firstLine isWordAt sameBytes bytes skip pastBlanks
 no-form names table = refl
-
--- a place is in the text, or nothing stands there
-inside-or : (s : List ℕ) (at : ℕ) → (drop at s ≡ [] → ⊥) → at < length s
-inside-or s at n = go (ltb at (length s)) (ltb→lt at (length s)) (nltb→le at (length s))
-  where
-    go : (b : Bool) → (T b → at < length s) → (T (not b) → length s ≤ at) → at < length s
-    go true f g = f tt
-    go false f g = absurd (n (drop-of-length-le s (g tt)))
 
 -- a step is in the text
 pub step-inside : (s : List ℕ) (p : Place) (t : Bool) → t ≡ isStepLine (lineOf (placeOf s p)) → t ≡ true → p .at < length s

@@ -13,7 +13,7 @@ use Rattle.specification.specs.LogTexts.{mark, readLettersAt}
 use Rattle.log_texts.specs.declared.naming.Mark.{Mark}
 use Rattle.log_texts.specs.declared.naming.LetterStep.{LetterStep}
 use Rattle.log_texts.specs.Letters.{MarkRead, behindLetters, FormulaAt, LetterRead, LettersRead}
-use Rattle.log_texts.proofs.Within.{there, next-within}
+use Rattle.theory.specs.Text.Bounds.{there, next-within}
 
 -- ════ a byte that has to stand
 

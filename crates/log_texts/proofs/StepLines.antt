@@ -25,7 +25,7 @@ use Rattle.log_texts.specs.declared.steps.StepLine.{StepLine}
 use Rattle.log_texts.specs.Letters.{MarkRead, behindLetters, FormulaAt, LettersRead}
 use Rattle.log_texts.specs.Formulas.{behindMark, MultiplierRead}
 use Rattle.log_texts.specs.Steps.{behindColon, RuleRead, StepLineRead}
-use Rattle.log_texts.proofs.Within.{there}
+use Rattle.theory.specs.Text.Bounds.{there}
 
 -- ════ the rule
 

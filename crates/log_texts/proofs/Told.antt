@@ -27,23 +27,10 @@ use Rattle.formula_call.specs.declared.TextForm.{TextForm}
 use Rattle.formula_call.specs.Texts.{textFormOf, TextGives}
 use Rattle.log_texts.specs.declared.kinds.Multiplier.{Multiplier}
 use Rattle.log_texts.specs.Formulas.{OneTerm, behindMark, MultiplierRead}
+use Rattle.formula_call.proofs.Given.{text-refused, text-given, gives-as}
 use Rattle.log_texts.proofs.Within.{rest-of}
 
 -- ════ the form of a text, or its refusal
-
--- a refusal
-pub text-refused : (x : Placed S.Form) (t : TextForm) → TextGives x t → (t .refusal ≡ 0 → ⊥) → x ≡ refusedAt (t .refusal) (t .column)
-unfolding textFormOf
-text-refused x t h z = sym (h .is) ∙ ap (λ (b : Bool). if b then placed (formOf (t .form)) else refusedAt (t .refusal) (t .column)) (ne-eqb (t .refusal) 0 z)
-
--- a form
-pub text-given : (x : Placed S.Form) (t : TextForm) → TextGives x t → t .refusal ≡ 0 → x ≡ placed (formOf (t .form))
-unfolding textFormOf
-text-given x t h z = sym (h .is) ∙ ap (λ (b : Bool). if b then placed (formOf (t .form)) else refusedAt (t .refusal) (t .column)) (eq-eqb (t .refusal) 0 z)
-
--- the same in other words
-pub gives-as : (x y : Placed S.Form) (t : TextForm) → x ≡ y → TextGives x t → TextGives y t
-gives-as x y t e h = record { is = h .is ∙ e; valid = h .valid }
 
 -- told as a refusal
 pub gives-refused : (x : Placed S.Form) (t : TextForm) (n c : ℕ) → (n ≡ 0 → ⊥) → t .refusal ≡ n → t .column ≡ c → x ≡ refusedAt n c → TextGives x t

@@ -1,11 +1,11 @@
 // A log as text: the lines one after the other, and the whole.
 ghost use mathlib.Core.Path.{_≡_};
 ghost use mathlib.Core.List.{[]};
-ghost use Prim.Native.Nat.{_≤_, _<_};
+ghost use Prim.Native.Nat.{_≤_};
 ghost use lib.ListN.{length};
-ghost use Rattle.specification.specs.Lines.{lineOf, nextLine, toLine};
+ghost use Rattle.specification.specs.Lines.{lineOf};
 ghost use Rattle.specification.specs.LogTexts.{readFormLine, isStepLine, readStepLines};
-ghost use Rattle.lines.specs.Places.{placeOf, Inside, Reached};
+ghost use Rattle.lines.specs.Places.{placeOf, Inside};
 ghost use Rattle.formulas.specs.Readings.{Named};
 ghost use Rattle.formula_call.specs.Texts.{TextGives};
 ghost use Rattle.log_texts.specs.Steps.{StepLineRead};
@@ -16,9 +16,8 @@ use crate::steps::read_step_line;
 use declarations::read_header;
 use formula_call::TextForm;
 use lines::places::Place;
+use lines::places::line_behind;
 use lines::places::line_end;
-use lines::places::next_place;
-use lines::places::to_line;
 use lines::words::is_word_at;
 use logs::steps::Steps;
 use logs::steps::no_steps;
@@ -62,15 +61,6 @@ fn stands_step(s: &[u8], p: Place) -> bool
     let at = p.at;
     let end = line_end(s, at);
     is_step_line(&s[at..end])
-}
-
-// The next line that is not empty.
-fn line_behind(s: &[u8], p: Place) -> Place
-    requires { ⌜ Inside (now s) p × (p .at < length (now s)) ⌝ }
-    ensures { λ r. ⌜ Reached (now (s .entry)) (toLine (nextLine (placeOf (now (s .entry)) p))) r ⌝ }
-{
-    let q = next_place(s, p);
-    to_line(s, q)
 }
 
 // Steps, and the place of the line behind them; or a refusal with its column and the place of its line.

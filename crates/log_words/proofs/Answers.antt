@@ -13,7 +13,8 @@ use Rattle.specification.specs.Terms as S
 use Rattle.specification.specs.Logs as C
 use Rattle.specification.specs.Lines.{lineOf, Lined, refusedIn, lined, _>>>_}
 use Rattle.specification.specs.LogTexts.{LogRead, readLogText, logBytesOf}
-use Rattle.specification.specs.Commands.{stepReason, countText, checkedText, refusalText, answerText, checkInput, packInput, numeral, Told}
+use Rattle.specification.specs.Commands.{stepReason, countText, checkedText, refusalText, answerText, checkInput, packInput, numeral}
+use Rattle.telling.specs.Told.{Told}
 use Rattle.theory.specs.Text.LineColumns.{told-within}
 use Rattle.terms.specs.Abstraction.{formOf}
 use Rattle.logs.specs.Steps.{stepsOf}
@@ -24,22 +25,7 @@ use Rattle.checker.specs.declared.Checked.the-variants.{Accepted, Refused}
 use Rattle.checker.specs.Answers.{checkedOf}
 use Rattle.log_texts.specs.Logs.{logOf, LogTextRead}
 use Rattle.log_texts.specs.declared.reading.LogText.{LogText}
-use Rattle.log_words.proofs.Columns.{log-within}
-
--- the last reason
-pub reason-else : (n : ℕ) → (n ≡ 5 → ⊥) → (n ≡ 6 → ⊥) → (n ≡ 8 → ⊥) → (n ≡ 9 → ⊥) → (n ≡ 10 → ⊥) → (n ≡ 11 → ⊥) → (n ≡ 13 → ⊥)
-    → bytes "a table that is none" ≡ stepReason n
-unfolding stepReason
-reason-else n a b c d e f g = rw (ne-eqb n 5 a, ne-eqb n 6 b, ne-eqb n 8 c, ne-eqb n 9 d, ne-eqb n 10 e, ne-eqb n 11 f, ne-eqb n 13 g)
-
--- one, and more than one
-pub one-text : (n : ℕ) (word : List ℕ) → n ≡ 1 → numeral n ++ bytes " " ++ word ++ [] ≡ countText n word
-unfolding countText
-one-text n word e = rw (eq-eqb n 1 e)
-
-pub many-text : (n : ℕ) (word : List ℕ) → (n ≡ 1 → ⊥) → numeral n ++ bytes " " ++ word ++ bytes "s" ≡ countText n word
-unfolding countText
-many-text n word e = rw (ne-eqb n 1 e)
+use Rattle.theory.specs.Text.LogColumns.{log-within}
 
 -- a log written in front of lent bytes
 module _ (before after : List ℕ) (n : ℕ) (f : S.Form) (q : List Step) (g : S.Form) (h : LogWritten before after n f q g) where
@@ -100,14 +86,3 @@ module _ (s : List ℕ) (l : LogText) (names table : List ℕ) (r : LogTextRead 
       where
         same : c ≡ C.checkCall (take (l .count) table) (C.writeLog (formOf (l .first)) (stepsOf (l .steps)) (formOf (l .last)))
         same = k ∙ ap (C.checkCall (take (l .count) table)) (log-taken before log m (formOf (l .first)) (stepsOf (l .steps)) (formOf (l .last)) w)
-
--- ════ the checker's answer in words
-
-module _ (first last : ℕ) (out : List ℕ) (end : ℕ) (c : Checked) where
-  pub refused-told : (n k : ℕ) → c ≡ Refused n k → Told out end (checkedText 0 0 (C.refusedAt n k)) → Told out end (checkedText first last (checkedOf c))
-  unfolding checkedText checkedOf
-  refused-told n k e t = subst (λ (x : Checked). Told out end (checkedText first last (checkedOf x))) (sym e) t
-
-  pub accepted-told : (a b n : ℕ) → c ≡ Accepted a b n → Told out end (checkedText first last (C.accepted 0 0 n)) → Told out end (checkedText first last (checkedOf c))
-  unfolding checkedText checkedOf
-  accepted-told a b n e t = subst (λ (x : Checked). Told out end (checkedText first last (checkedOf x))) (sym e) t

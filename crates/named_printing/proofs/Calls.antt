@@ -6,13 +6,14 @@ use Prim.Native.Nat.{ℕ, _≤_, _<_}
 use native.Mathlib.Omega.{arith}
 use borrow.Author.Tests.{le-leb, lt-leb}
 use lib.ListN.{length}
-use Rattle.specification.specs.Results.{Result, refused, given, _>>_}
+use Rattle.specification.specs.Results.{Result, refused, given}
 use Rattle.specification.specs.Letters.{testTable}
 use Rattle.specification.specs.Terms as S
-use Rattle.specification.specs.Records.{readForm, testTerms, takeForm}
+use Rattle.specification.specs.Records.{takeForm}
 use Rattle.specification.specs.Printing.{printForm, lineBytes, TextWritten}
 use Rattle.specification.specs.Text.{goodNames, testNames, printNamedTested, printNamedAnswer, printNamedCall}
-use Rattle.theory.specs.Tests.{refused≢given, given-same, tested, bound, holds}
+use Rattle.theory.specs.Tests.{refused≢given, given-same, holds}
+use Rattle.theory.specs.Records.Taken.{taken-so}
 use Rattle.theory.specs.Text.Names.{names-count}
 use Rattle.terms.specs.declared.types.Outcome.{Outcome}
 use Rattle.terms.specs.Abstraction.{formOf}
@@ -26,14 +27,6 @@ use Rattle.printing.proofs.Named.{printable}
 use Rattle.printer_call.specs.declared.Printing.{Printing}
 use Rattle.printer_call.specs.declared.Printing.the-variants.{Printed}
 use Rattle.printer_call.specs.Answers.{printingOf}
-
--- the letters of a form that is taken are in the table
-taken-tested : (table s : List ℕ) (f : S.Form) → takeForm table s ≡ given f → testTerms table (f .terms) ≡ given tt
-unfolding takeForm
-taken-tested table s f e =
-    let r = bound (readForm s) (λ (g : S.Form). testTerms table (g .terms) >> given g) f e in
-    let t = tested (testTerms table (r .0 .terms)) (given (r .0)) f (r .2) in
-    subst (λ (g : S.Form). testTerms table (g .terms) ≡ given tt) (given-same (t .1)) (t .0)
 
 module _ (table names form out : List ℕ) where
   answers : (x : Result S.Form) → printNamedTested table names form out ≡ x → printNamedAnswer names x out ≡ printNamedCall table names form out
@@ -78,7 +71,7 @@ module _ (table names form out : List ℕ) where
             form-printable =
                 let fit = names-count names table (holds (goodNames names table) (sym hg ∙ t)) in
                 printable table names (omega arith) (w .form) (read .valid e)
-                (taken-tested table form (formOf (w .form)) (worked-given (takeForm table form) w read e))
+                (taken-so table form (formOf (w .form)) (worked-given (takeForm table form) w read e) .lettersTested)
 
             -- and its text is written
             pub form-printed : (n : ℕ) (after : List ℕ) → TextWritten out after n (printForm names (formOf (w .form) .terms))

@@ -5,14 +5,14 @@ use Prim.Native.Nat.{ℕ, _≤_}
 use lib.ListN.{length, take}
 use Rattle.specification.specs.Lines as L
 use Rattle.specification.specs.Lines.{lineOf, Lined, refusedIn, lined, _>>>_, readHeader}
-use Rattle.specification.specs.Commands.{refusalText, answerText, reduceLines, reduceInput, Told}
-use Rattle.theory.specs.Text.GoodNames.{header-good}
-use Rattle.theory.specs.Text.LineColumns.{header-within, reduce-within, told-within}
+use Rattle.specification.specs.Commands.{refusalText, answerText, reduceLines, reduceInput}
+use Rattle.telling.specs.Told.{Told}
+use Rattle.theory.specs.Text.LineColumns.{reduce-within, told-within}
 use Rattle.lines.specs.Places.{placeOf, Inside}
 use Rattle.declarations.specs.Names.{HeaderRead}
 use Rattle.declarations.specs.declared.Header.{Header}
 use Rattle.reduce_word.specs.declared.Lines.{Lines}
-use Rattle.reduce_word.specs.Told.{GoodTable, LinesTold}
+use Rattle.reduce_word.specs.Told.{LinesTold}
 
 -- the forms of the lines behind the names
 abbrev reduced : (s : List ℕ) → L.Named × L.Place → Lined (List ℕ)
@@ -26,9 +26,6 @@ answer-refused s n k c t out r e h = subst (λ (x : Lined (List ℕ)). Told out 
 module _ (s : List ℕ) (h : Header) (names table : List ℕ) (r : HeaderRead s h names table) where
   -- the names are refused
   module _ (n : h .refusal ≡ 0 → ⊥) where
-    pub header-column : h .column ≤ length (lineOf (placeOf s (h .place)))
-    header-column = told-within (readHeader s) (h .refusal) (h .place .number) (h .column) (lineOf (placeOf s (h .place))) (header-within s) (r .refuses n)
-
     pub header-answer : (out : List ℕ) (end : ℕ) → Told out end (refusalText (h .refusal) (h .place .number) (h .column) (lineOf (placeOf s (h .place))))
         → Told out end (answerText (reduceInput s))
     unfolding reduceInput
@@ -38,11 +35,6 @@ module _ (s : List ℕ) (h : Header) (names table : List ℕ) (r : HeaderRead s 
 
   -- the names are good
   module _ (e : h .refusal ≡ 0) where
-    pub header-table : GoodTable (take (h .count) names) (take (h .count) table)
-    header-table =
-        let g = header-good s (take (h .count) names) (take (h .count) table) (placeOf s (h .place)) (r .gives e) in
-        record { tableGood = g .tableGood; namesGood = g .namesGood }
-
     lines-are : reduceInput s ≡ reduceLines (length s) (take (h .count) names) (take (h .count) table) (placeOf s (h .place)) []
     unfolding reduceInput
     lines-are = ap (λ (x : Lined (L.Named × L.Place)). x >>> reduced s) (r .gives e)

@@ -15,22 +15,17 @@ use Rattle.specification.specs.Printing.{printForm, TextWritten}
 use Rattle.specification.specs.Text.{Placed, refusedAt, placed, textForm}
 use Rattle.specification.specs.Lines as L
 use Rattle.specification.specs.Lines.{lineOf, nextLine, toLine, atEnd, Lined, refusedIn, lined, inLine, _>>>_}
-use Rattle.specification.specs.Commands.{reduceLines, Told}
-use Rattle.theory.specs.Text.Names.{names-count}
-use Rattle.theory.specs.Text.Letters.{text-letters-tested}
+use Rattle.specification.specs.Commands.{reduceLines}
 use Rattle.terms.specs.declared.types.Form.{Form}
 use Rattle.terms.specs.Abstraction.{formOf}
 use Rattle.lines.specs.declared.places.Place.{Place}
 use Rattle.lines.specs.Places.{placeOf, Inside, Reached}
 use Rattle.formula_call.specs.declared.TextForm.{TextForm}
 use Rattle.formula_call.specs.Texts.{textFormOf, TextGives}
-use Rattle.formulas.specs.Readings.{Named}
-use Rattle.symbols.specs.Printable.{Printable}
-use Rattle.printing.proofs.Named.{printable}
-use Rattle.telling.specs.Told.{Tells}
+use Rattle.telling.specs.Told.{Told, Tells}
 use Rattle.telling.proofs.Pieces.{told-nothing}
 use Rattle.reduce_word.specs.declared.Lines.{Lines}
-use Rattle.reduce_word.specs.Told.{GoodTable, LinesTold}
+use Rattle.reduce_word.specs.Told.{LinesTold}
 
 -- ════ a text in front of lent bytes
 
@@ -44,22 +39,6 @@ module _ (before after : List ℕ) (n : ℕ) (text : List ℕ) (h : TextWritten 
   pub text-taken : take n after ≡ text
   unfolding writeInto
   text-taken = (λ i. take (h .ends i) (h .bytes i)) ∙ take-append-seam text (drop (length text) before)
-
--- ════ forms
-
-module _ (names table : List ℕ) (good : GoodTable names table) where
-  -- names for letters of the table
-  pub names-named : length table ≤ 24 → Named names table
-  names-named few = record { fit = omega (arith, names-count names table (good .namesGood)); few = few }
-
-  -- the form of a text can be printed
-  pub text-printable : (s : List ℕ) (r : TextForm) → TextGives (textForm names table s) r → r .refusal ≡ 0 → Printable names (r .form)
-  unfolding textFormOf
-  text-printable s r g e =
-      let many = names-count names table (good .namesGood) in
-      let read : textForm names table s ≡ placed (formOf (r .form)) = sym (g .is) ∙ rw (eq-eqb (r .refusal) 0 e) in
-      printable table names (omega (arith, many)) (r .form) (g .valid e)
-      (text-letters-tested names table s (good .tableGood) (omega (arith, many)) (formOf (r .form)) read)
 
 -- ════ lines
 

@@ -1,24 +1,18 @@
 // The word `reduce`: the form of each formula line, or the first refusal, told into lent bytes.
 ghost use mathlib.Core.List.{[], _∷_, _++_};
 ghost use lib.ListN.{length};
-ghost use Rattle.specification.specs.Text.{textForm};
-ghost use Rattle.specification.specs.Lines.{lineOf};
 ghost use Rattle.specification.specs.Printing.{printForm};
-ghost use Rattle.specification.specs.Commands.{answerText, reduceLines, reduceInput, Told};
+ghost use Rattle.specification.specs.Commands.{answerText, reduceLines, reduceInput};
 ghost use Rattle.terms.specs.Abstraction.{formOf};
 ghost use Rattle.lines.specs.Places.{placeOf, Inside};
-ghost use Rattle.formulas.specs.Readings.{Named};
-ghost use Rattle.formula_call.specs.Texts.{TextGives};
+ghost use Rattle.formula_lines.specs.Tables.{GoodTable};
 ghost use Rattle.symbols.specs.Printable.{Printable};
-ghost use Rattle.telling.specs.Told.{Tells};
-ghost use Rattle.reduce_word.specs.Told.{GoodTable, LinesTold};
+ghost use Rattle.telling.specs.Told.{Told, Tells};
+ghost use Rattle.reduce_word.specs.Told.{LinesTold};
 use declarations::read_header;
-use formula_call::TextForm;
-use formula_call::form_of_text;
+use formula_lines::form_at;
 use lines::places::Place;
-use lines::places::line_end;
-use lines::places::next_place;
-use lines::places::to_line;
+use lines::places::line_behind;
 use printing::LINE_BYTES;
 use printing::print_form;
 use refusals::tell_line;
@@ -35,16 +29,6 @@ fn tell_form(names: &[u8], out: &mut [u8], at: usize, f: Form) -> usize
     let n = print_form(names, &mut line, f);
     let next = put(out, at, &line[..n]);
     put_byte(out, next, b'\n')
-}
-
-// The form of the line at a place.
-fn form_at(names: &[u8], table: &[u8], s: &[u8], p: Place) -> TextForm
-    requires { ⌜ Named (now names) (now table) × Inside (now s) p ⌝ }
-    ensures { λ r. ⌜ TextGives (textForm (now (names .entry)) (now (table .entry)) (lineOf (placeOf (now (s .entry)) p))) r ⌝ }
-{
-    let at = p.at;
-    let end = line_end(s, at);
-    form_of_text(names, table, &s[at..end])
 }
 
 // Lines told: a refusal with its column and the place of its line, or the position behind what was told.
@@ -84,8 +68,7 @@ fn reduce_lines(names: &[u8], table: &[u8], s: &[u8], p: Place, out: &mut [u8]) 
         }
         let f = r.form;
         end = tell_form(names, out, end, f);
-        let m = next_place(s, q);
-        q = to_line(s, m);
+        q = line_behind(s, q);
         left -= 1;
     }
     Lines {

@@ -2,9 +2,9 @@
 ghost use Prim.Native.Nat.{_≤_, _+_};
 ghost use lib.ListN.{length};
 ghost use Rattle.specification.specs.Lines.{lineOf};
-ghost use Rattle.specification.specs.Commands.{reason, refusalText, Told};
+ghost use Rattle.specification.specs.Commands.{reason, refusalText};
 ghost use Rattle.lines.specs.Places.{placeOf, Inside};
-ghost use Rattle.telling.specs.Told.{Tells};
+ghost use Rattle.telling.specs.Told.{Told, Tells};
 ghost use Rattle.refusals.specs.Places.{placeText};
 use lines::places::Place;
 use lines::places::line_end;

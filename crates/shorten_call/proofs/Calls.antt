@@ -10,16 +10,16 @@ use lib.ListN.{length, getD, take, drop}
 use Rattle.specification.specs.Results.{Result, refused, given}
 use Rattle.specification.specs.Letters.{goodTable, testTable}
 use Rattle.specification.specs.Terms as S
+use Rattle.specification.specs.Records.{testTerms}
 use Rattle.specification.specs.Reduction.{reduced}
+use Rattle.specification.specs.Shortening.{Shortens}
 use Rattle.specification.specs.Printing.{alphabet, inputTable, printTested, printResult, printSteps, printLog}
 use Rattle.specification.specs.Printing.{linesBytes, TextWritten, PrintedBy, LinesPrintedBy, LinesPrinted}
-use Rattle.specification.specs.Logs.{writeLog}
 use Rattle.theory.specs.Shape.Letters.{table-good, good-short}
 use Rattle.theory.specs.Reduction.Work.{reduction-keeps-value}
-use Rattle.theory.specs.Records.Logs.{logOf, log-read-back}
+use Rattle.theory.specs.Records.Logs.{logOf}
 use Rattle.theory.specs.Replay.Accepted.{Derives}
 use Rattle.terms.specs.Abstraction.{formOf}
-use Rattle.terms.proofs.Forms.{form-long}
 use Rattle.terms.specs.declared.types.Outcome.{Outcome}
 use Rattle.terms.specs.Valid.{Gives}
 use Rattle.terms.proofs.Outcomes.{worked-given}
@@ -27,11 +27,9 @@ use Rattle.letters.specs.Tested.{testOf}
 use Rattle.records.proofs.Inside.{written-inside}
 use Rattle.letters.proofs.LetterTests.{test-passed}
 use Rattle.logs.specs.Steps.{stepsOf}
-use Rattle.logs.proofs.StepRecords.{steps-long}
-use Rattle.checker.specs.Answers.{checkedOf}
-use Rattle.checker.proofs.AcceptedLogs.{answers-derivation}
 use Rattle.shortening.specs.declared.rounds.Derivation.{Derivation}
 use Rattle.shortening.specs.Derived.{Derived}
+use Rattle.shortening.proofs.Shortens.{steps-derive, steps-shorten}
 use Rattle.symbols.specs.Printable.{Printable}
 use Rattle.symbols.specs.Text.{printLine}
 use Rattle.printing.proofs.Named.{printable}
@@ -50,8 +48,16 @@ module _ (table expr : List ℕ) (c : ℕ) (h : testOf c ≡ testTable table) wh
     good : T (goodTable table)
     good = table-good table (sym h ∙ test-passed c z)
 
+    tested : testTerms table (formOf (r .form) .terms) ≡ given tt
+    tested = reduction-keeps-value table expr (formOf (r .form)) good (worked-given (reduced table expr) r worked e) .lettersTested
+
     derives : Derives table (formOf (r .form)) (stepsOf (d .steps)) (formOf (d .last))
-    derives = wd .derives good (reduction-keeps-value table expr (formOf (r .form)) good (worked-given (reduced table expr) r worked e) .lettersTested)
+    derives = steps-derive table good (r .form) (worked .valid e) tested d wd
+
+    -- the log shortens the form
+    shortens : length (r .form .terms) ≡ 48 → length (d .last .terms) ≡ 48
+        → Shortens table (formOf (r .form)) (logOf (formOf (r .form)) (stepsOf (d .steps)) (formOf (d .last)))
+    shortens = steps-shorten table good (r .form) (worked .valid e) tested d wd
 
     -- form, steps and last form can be printed
     pub log-printable : Printable alphabet (r .form) × StepsPrintable alphabet (d .steps) × Printable alphabet (d .last)
@@ -84,19 +90,12 @@ module _ (table expr : List ℕ) (c : ℕ) (h : testOf c ≡ testTable table) wh
           → TextWritten before after m
           (printLine alphabet (formOf (r .form)) ++ printSteps alphabet (stepsOf (d .steps)) ++ printLine alphabet (formOf (d .last)))
           → PrintedBy (tableReduced table expr) table before after m
-      unfolding PrintedBy printLog printResult checkedOf
+      unfolding PrintedBy printLog printResult
       log-printed e d wd places rooms w =
-          let counted = steps-long (d .steps) (wd .valid .steps) in
-          let ds = derives z r worked e d wd in
           by-result (given (formOf (r .form))) (form-reduced table expr c h z r worked e)
           (record {
-            bytes = writeLog (formOf (r .form)) (stepsOf (d .steps)) (formOf (d .last));
             log = logOf (formOf (r .form)) (stepsOf (d .steps)) (formOf (d .last));
-            reads = log-read-back (formOf (r .form)) (stepsOf (d .steps)) (formOf (d .last)) (ds .inShape);
-            begins = refl;
-            isAccepted = sym (answers-derivation table (formOf (r .form)) (stepsOf (d .steps)) (formOf (d .last)) ds);
-            saves = omega (arith, counted, wd .saves, form-long (r .form) (worked .valid e) places, form-long (d .last) (wd .valid .last) rooms);
-            shortest = wd .shortest (ds .firstTested);
+            shortens = shortens z r worked e d wd places rooms;
             text = w;
           })
 

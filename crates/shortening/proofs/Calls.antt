@@ -5,16 +5,16 @@ use Prim.Native.Nat.{ℕ, _+_, _<_, _≤_}
 use native.Mathlib.Omega.{arith}
 use borrow.Author.Tests.{le-leb, lt-leb, eq-eqb, ne-eqb}
 use lib.ListN.{length}
-use Rattle.specification.specs.Results.{Result, refused, given, _>>_}
+use Rattle.specification.specs.Results.{Result, refused, given}
 use Rattle.specification.specs.Letters.{testTable}
 use Rattle.specification.specs.Terms as S
-use Rattle.specification.specs.Records.{readForm, takeForm, testTerms}
+use Rattle.specification.specs.Records.{takeForm}
 use Rattle.specification.specs.Shortening.{shorteningBytes, shortened, unshortened, shortenTested, ShortenedBy, Shortened}
 use Rattle.specification.specs.Shortening as H
-use Rattle.theory.specs.Tests.{given-same, bound, tested}
 use Rattle.theory.specs.Shape.Letters.{table-good}
 use Rattle.theory.specs.Records.Positions.{Bytes}
 use Rattle.theory.specs.Records.Lengths.{saving-log-short}
+use Rattle.theory.specs.Records.Taken.{taken-so}
 use Rattle.theory.specs.Replay.Accepted.{Derives}
 use Rattle.terms.specs.Abstraction.{formOf, outcomeOf}
 use Rattle.terms.proofs.Forms.{form-long}
@@ -28,14 +28,6 @@ use Rattle.logs.proofs.StepRecords as L
 use Rattle.shortening.specs.declared.rounds.Derivation.{Derivation}
 use Rattle.shortening.specs.Derived.{Derived}
 use Rattle.shortening.proofs.Shortened.{shortened-to}
-
--- the letters of a form that is taken are in the table
-taken-tested : (table s : List ℕ) (f : S.Form) → takeForm table s ≡ given f → testTerms table (f .terms) ≡ given tt
-unfolding takeForm
-taken-tested table s f e =
-    let r = bound (readForm s) (λ (g : S.Form). testTerms table (g .terms) >> given g) f e in
-    let t = tested (testTerms table (r .0 .terms)) (given (r .0)) f (r .2) in
-    subst (λ (g : S.Form). testTerms table (g .terms) ≡ given tt) (given-same (t .1)) (t .0)
 
 module _ (table form out : List ℕ) (n : ℕ) (et : testOf n ≡ testTable table) where
   -- what holds by the tests holds of the call
@@ -80,7 +72,7 @@ module _ (table form out : List ℕ) (n : ℕ) (et : testOf n ≡ testTable tabl
         log-asks = omega (arith, wd .saves, wa .valid zero .few)
 
         derived : Derives table (formOf (a .form)) (stepsOf (d .steps)) (formOf (d .last))
-        derived = wd .derives (table-good table good) (taken-tested table form (formOf (a .form)) taken)
+        derived = wd .derives (table-good table good) (taken-so table form (formOf (a .form)) taken .lettersTested)
 
         last-long : length (formOf (d .last) .terms) ≡ d .last .count
         last-long = form-long (d .last) (wd .valid .last) rooms
@@ -98,4 +90,4 @@ module _ (table form out : List ℕ) (n : ℕ) (et : testOf n ≡ testTable tabl
             (subst (λ (k : ℕ). H.ShortenedTo table form (formOf (a .form)) out size k out′) steps-long
             (shortened-to table form out out′ (formOf (a .form)) (stepsOf (d .steps)) (formOf (d .last)) size bytes taken derived
             (w .ends) (w .bytes) (omega (arith, log-fits size out′ w, enough))
-            (omega (arith, steps-long, last-long, form-long (a .form) (wa .valid zero) places, wd .saves)) (wd .shortest (taken-tested table form (formOf (a .form)) taken))))
+            (omega (arith, steps-long, last-long, form-long (a .form) (wa .valid zero) places, wd .saves)) (wd .shortest (taken-so table form (formOf (a .form)) taken .lettersTested))))

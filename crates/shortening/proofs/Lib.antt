@@ -2,3 +2,4 @@
 pub mod Derivations
 pub mod Shortened
 pub mod Calls
+pub mod Shortens

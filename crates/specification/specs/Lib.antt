@@ -20,6 +20,7 @@ pub mod Words
 pub mod Text
 pub mod Lines
 pub mod LogTexts
+pub mod AssignmentTexts
 pub mod Commands
 pub mod Promises
 pub mod Returns

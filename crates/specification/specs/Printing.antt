@@ -13,8 +13,8 @@ use Rattle.specification.specs.Terms.{Term, Form}
 use Rattle.specification.specs.Records.{writeInto}
 use Rattle.specification.specs.Reduction.{reduced}
 use Rattle.specification.specs.Rules.{Step}
-use Rattle.specification.specs.Logs.{Log, accepted, readLog, checkCall}
-use Rattle.specification.specs.Shortening.{Shortest}
+use Rattle.specification.specs.Logs.{Log}
+use Rattle.specification.specs.Shortening.{Shortens}
 
 -- ════ a form
 
@@ -164,16 +164,10 @@ pub record TextWritten (before after : List ℕ) (count : ℕ) (text : List ℕ)
   pub ends : count ≡ length text
   pub bytes : after ≡ writeInto text before
 
--- the text is that of a log that begins with the form, is accepted, whose steps are at most the terms saved, and at whose last form no admissible step
--- leads to fewer terms
+-- the text of a log that shortens the form
 pub record ShorteningPrinted (table : List ℕ) (first : Form) (before after : List ℕ) (count : ℕ) : Type 0 where
-  pub bytes : List ℕ
   pub log : Log
-  pub reads : readLog bytes ≡ given log
-  pub begins : log .first ≡ first
-  pub isAccepted : checkCall table bytes ≡ accepted (log .firstEnd) (log .lastStart) (length (log .steps))
-  pub saves : length (log .steps) + length (log .last .terms) ≤ length (first .terms)
-  pub shortest : Shortest table (log .last)
+  pub shortens : Shortens table first log
   pub text : TextWritten before after count (printLog log)
 
 -- by what reduction gives: the text of a shortening, or the printer's line of a refusal

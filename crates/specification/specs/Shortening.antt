@@ -9,7 +9,7 @@ use Rattle.specification.specs.Letters.{testTable}
 use Rattle.specification.specs.Terms.{Form}
 use Rattle.specification.specs.Records.{readForm, takeForm}
 use Rattle.specification.specs.Rules.{Step, stepAt}
-use Rattle.specification.specs.Logs.{accepted, checkCall}
+use Rattle.specification.specs.Logs.{Log, readLog, accepted, checkCall}
 
 -- the length and the steps of the log written, or refused with its number
 pub data Shortening : Type 0 where
@@ -35,6 +35,16 @@ shortenTested table form out = do
 -- no admissible step of any rule, letters and term M leads from the form to fewer terms
 unfoldable pub Shortest : (table : List ℕ) (f : Form) → Type 0
 Shortest table f = (s : Step) (reached : Form) → stepAt table f s ≡ given reached → length (f .terms) ≤ length (reached .terms)
+
+-- of a log: it begins with the form, the checker accepts its bytes, its steps are at most the terms saved, and no admissible step at its last form leads to fewer
+-- terms
+pub record Shortens (table : List ℕ) (first : Form) (log : Log) : Type 0 where
+  pub bytes : List ℕ
+  pub reads : readLog bytes ≡ given log
+  pub begins : log .first ≡ first
+  pub isAccepted : checkCall table bytes ≡ accepted (log .firstEnd) (log .lastStart) (length (log .steps))
+  pub saves : length (log .steps) + length (log .last .terms) ≤ length (first .terms)
+  pub shortest : Shortest table (log .last)
 
 -- of a log of so many bytes and steps: it begins with the form taken, the checker accepts exactly it, its steps are those reported and at most the terms saved, no
 -- admissible step at its last form leads to fewer terms, and the bytes after it stand

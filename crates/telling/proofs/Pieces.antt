@@ -10,10 +10,10 @@ use lib.IntN.{ℤ, pos, negsuc, natAbs}
 use lib.ListN.{length, getD, take, drop, set, length-append, length-set}
 use lib.Seq.{take-suc-set, take-suc, take-length}
 use Rattle.specification.specs.Printing.{digits}
-use Rattle.specification.specs.Commands.{numeral, signedNumeral, blanks, Told}
+use Rattle.specification.specs.Commands.{numeral, signedNumeral, blanks}
 use Rattle.integers.specs.Arithmetic.{isNegative}
 use Rattle.symbols.proofs.Decimals.{digits-same}
-use Rattle.telling.specs.Told.{Tells}
+use Rattle.telling.specs.Told.{Told, Tells}
 
 -- ════ pieces
 

@@ -1,94 +1,87 @@
 -- `command::command` meets its contract. Assumes nothing.
-use Rattle.command.proofs.Answers.{reduces, checks, packs, helps}
-use Rattle.specification.specs.Commands.{Told}
-use Rattle.specification.specs.Words.{bytes}
 use denote.Ref.{now}
-use mathlib.Core.Path.{sym, _∙_, subst}
+use native.Mathlib.Omega.{arith}
+use mathlib.Core.Path.{sym, _∙_}
+use lib.Seq.{length-take-le}
+use Rattle.printer_call.specs.Answers.{printingOf}
+use Rattle.command.proofs.Copies.{part-fits, too-long, no-room, written}
 use borrow.Author.Needs.{needs}
 use Rattle.command.proofs.command.Statement.{statement}
 use Rattle.command.proofs.command.Tie as tie
 
-slice-aggregate-same-bytes : tie.Need-slice-aggregate-same-bytes
-slice-aggregate-same-bytes c = search needs
+large-buffer-requires : tie.Need-large-buffer-requires
+large-buffer-requires c κs = search needs
 
-same-bytes-requires : tie.Need-same-bytes-requires
-same-bytes-requires c κs = search needs
+slice-aggregate-answer : tie.Need-slice-aggregate-answer
+slice-aggregate-answer c = search needs
 
-reduce-text-requires : tie.Need-reduce-text-requires
-reduce-text-requires c κs = search needs
+answer-requires : tie.Need-answer-requires
+answer-requires c κs = search needs
+
+returns : tie.Need-returns
+unfolding printingOf
+returns c =
+    let c2 = c .before .before in
+    let c4 = c2 .before .before in
+    let c8 = c4 .before .before .before .before in
+    too-long (now (c8 .args .word)) (now (c8 .args .s)) _ _ _ ((c4 .large-buffer .ensures) ∙ sym (c2 .answer .kept .1 .1 .0)) (c2 .answer .ensures)
+    (omega (arith, (c .if1 .taken), (c4 .large-buffer .ensures), (c2 .answer .kept .1 .1 .0)))
+
+returns-2 : tie.Need-returns-2
+unfolding printingOf
+returns-2 c =
+    let c1 = c .before in
+    let c3 = c1 .before .before in
+    let c5 = c3 .before .before in
+    let c9 = c5 .before .before .before .before in
+    no-room (now (c9 .args .word)) (now (c9 .args .s)) _ _ _ ((c5 .large-buffer .ensures) ∙ sym (c3 .answer .kept .1 .1 .0)) (c3 .answer .ensures)
+    (omega (arith, (c1 .if1 .left), (c5 .large-buffer .ensures), (c3 .answer .kept .1 .1 .0))) (c .if2 .taken)
+
+array-share-prefix-told : tie.Need-array-share-prefix-told
+array-share-prefix-told c = search needs
+
+slice-aggregate-copy-front : tie.Need-slice-aggregate-copy-front
+slice-aggregate-copy-front c =
+    let c3 = c .before .before .before in
+    let c5 = c3 .before .before in
+    let c7 = c5 .before .before in
+    sym (length-take-le _ _ (omega (arith, (c3 .if1 .left), (c7 .large-buffer .ensures), (c5 .answer .kept .1 .1 .0))))
+
+copy-front-requires : tie.Need-copy-front-requires
+copy-front-requires c κs =
+    let c2 = c .before .before in
+    let c3 = c2 .before in
+    let c5 = c3 .before .before in
+    let c7 = c5 .before .before in
+    let c11 = c7 .before .before .before .before in
+    part-fits _ _ (now (c11 .args .out)) ((c7 .large-buffer .ensures) ∙ sym (c5 .answer .kept .1 .1 .0)) (c3 .if1 .left) (c2 .if2 .left)
 
 same-length : tie.Need-same-length
 same-length c = search needs
 
-returns : tie.Need-returns
-unfolding bytes
-returns c =
-    subst (Told (c .before .before .reduce-text .last .1 .0) (c .before .before .reduce-text .result)) (reduces (now (c .before .before .before .before .before .before .before .before .before .before .args .word)) (now (c .before .before .before .before .before .before .before .before .before .before .args .s)) (sym (c .before .before .before .before .before .same-bytes .ensures) ∙ c .before .before .before .before .if1 .taken)) (c .before .before .reduce-text .ensures)
-
-slice-aggregate-same-bytes-2 : tie.Need-slice-aggregate-same-bytes-2
-slice-aggregate-same-bytes-2 c = search needs
-
-same-bytes-requires-2 : tie.Need-same-bytes-requires-2
-same-bytes-requires-2 c κs = search needs
-
-check-text-requires : tie.Need-check-text-requires
-check-text-requires c κs = search needs
-
-same-length-2 : tie.Need-same-length-2
-same-length-2 c = search needs
-
-returns-2 : tie.Need-returns-2
-unfolding bytes
-returns-2 c =
-    subst (Told (c .before .before .check-text .last .1 .0) (c .before .before .check-text .result)) (checks (now (c .before .before .before .before .before .before .before .before .before .before .before .before .before .args .word)) (now (c .before .before .before .before .before .before .before .before .before .before .before .before .before .args .s)) (sym (c .before .before .before .before .before .before .before .before .same-bytes .ensures) ∙ c .before .before .before .before .before .before .before .if1 .left) (sym (c .before .before .before .before .before .same-bytes2 .ensures) ∙ c .before .before .before .before .if2 .taken)) (c .before .before .check-text .ensures)
-
-slice-aggregate-same-bytes-3 : tie.Need-slice-aggregate-same-bytes-3
-slice-aggregate-same-bytes-3 c = search needs
-
-same-bytes-requires-3 : tie.Need-same-bytes-requires-3
-same-bytes-requires-3 c κs = search needs
-
-pack-text-requires : tie.Need-pack-text-requires
-pack-text-requires c κs = search needs
-
-same-length-3 : tie.Need-same-length-3
-same-length-3 c = search needs
-
 returns-3 : tie.Need-returns-3
-unfolding bytes
+unfolding printingOf
 returns-3 c =
-    subst (Told (c .before .before .pack-text .last .1 .0) (c .before .before .pack-text .result)) (packs (now (c .before .before .before .before .before .before .before .before .before .before .before .before .before .before .before .before .args .word)) (now (c .before .before .before .before .before .before .before .before .before .before .before .before .before .before .before .before .args .s)) (sym (c .before .before .before .before .before .before .before .before .before .before .before .same-bytes .ensures) ∙ c .before .before .before .before .before .before .before .before .before .before .if1 .left) (sym (c .before .before .before .before .before .before .before .before .same-bytes2 .ensures) ∙ c .before .before .before .before .before .before .before .if2 .left) (sym (c .before .before .before .before .before .same-bytes3 .ensures) ∙ c .before .before .before .before .if3 .taken)) (c .before .before .pack-text .ensures)
-
-tell-usage-requires : tie.Need-tell-usage-requires
-tell-usage-requires c κs = search needs
-
-same-length-4 : tie.Need-same-length-4
-same-length-4 c = search needs
-
-returns-4 : tie.Need-returns-4
-unfolding bytes
-returns-4 c =
-    subst (Told (c .before .before .tell-usage .last .0) (c .before .before .tell-usage .result)) (helps (now (c .before .before .before .before .before .before .before .before .before .before .before .before .before .before .before .before .args .word)) (now (c .before .before .before .before .before .before .before .before .before .before .before .before .before .before .before .before .args .s)) (sym (c .before .before .before .before .before .before .before .before .before .before .before .same-bytes .ensures) ∙ c .before .before .before .before .before .before .before .before .before .before .if1 .left) (sym (c .before .before .before .before .before .before .before .before .same-bytes2 .ensures) ∙ c .before .before .before .before .before .before .before .if2 .left) (sym (c .before .before .before .before .before .same-bytes3 .ensures) ∙ c .before .before .before .before .if3 .left)) (c .before .before .tell-usage .ensures)
+    let c2 = c .before .before in
+    let c5 = c2 .before .before .before in
+    let c6 = c5 .before in
+    let c8 = c6 .before .before in
+    let c10 = c8 .before .before in
+    let c14 = c10 .before .before .before .before in
+    written (now (c14 .args .word)) (now (c14 .args .s)) _ _ _ ((c10 .large-buffer .ensures) ∙ sym (c8 .answer .kept .1 .1 .0)) (c8 .answer .ensures)
+    (omega (arith, (c6 .if1 .left), (c10 .large-buffer .ensures), (c8 .answer .kept .1 .1 .0))) (c5 .if2 .left) _ (c2 .copy-front .ensures)
 
 pub command-spec : {M : Type 1} → statement M
 command-spec =
     tie.close
     (tie.spec
-    slice-aggregate-same-bytes
-    same-bytes-requires
-    reduce-text-requires
-    same-length
+    large-buffer-requires
+    slice-aggregate-answer
+    answer-requires
     returns
-    slice-aggregate-same-bytes-2
-    same-bytes-requires-2
-    check-text-requires
-    same-length-2
     returns-2
-    slice-aggregate-same-bytes-3
-    same-bytes-requires-3
-    pack-text-requires
-    same-length-3
-    returns-3
-    tell-usage-requires
-    same-length-4
-    returns-4)
+    array-share-prefix-told
+    slice-aggregate-copy-front
+    copy-front-requires
+    same-length
+    returns-3)

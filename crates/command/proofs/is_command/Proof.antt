@@ -1,8 +1,7 @@
 -- `command::is_command` meets its contract. Assumes nothing.
-use Rattle.command.proofs.Answers.{known-reduce, known-check, known-pack}
-use Rattle.specification.specs.Words.{bytes}
-use mathlib.Core.List.{[]}
 use mathlib.Core.Path.{sym, _∙_}
+use Rattle.specification.specs.Words.{bytes}
+use Rattle.command.proofs.Answers.{known-reduce, known-decide, known-value, known-shorten, known-check, known-pack, known-unpack}
 use borrow.Author.Needs.{needs}
 use Rattle.command.proofs.is_command.Statement.{statement}
 use Rattle.command.proofs.is_command.Tie as tie
@@ -15,7 +14,7 @@ same-bytes-requires c κs = search needs
 
 returns : tie.Need-returns
 unfolding bytes
-returns c = known-reduce _ [] (sym (c .before .same-bytes .ensures) ∙ c .if1 .taken)
+returns c = known-reduce _ (sym (c .before .same-bytes .ensures) ∙ (c .if1 .taken))
 
 slice-aggregate-same-bytes-2 : tie.Need-slice-aggregate-same-bytes-2
 slice-aggregate-same-bytes-2 c = search needs
@@ -25,7 +24,8 @@ same-bytes-requires-2 c κs = search needs
 
 returns-2 : tie.Need-returns-2
 unfolding bytes
-returns-2 c = known-check _ [] (sym (c .before .before .before .before .same-bytes .ensures) ∙ c .before .before .before .if1 .left) (sym (c .before .same-bytes2 .ensures) ∙ c .if2 .taken)
+returns-2 c =
+    known-decide _ (sym (c .before .before .before .before .same-bytes .ensures) ∙ (c .before .before .before .if1 .left)) (sym (c .before .same-bytes2 .ensures) ∙ (c .if2 .taken))
 
 slice-aggregate-same-bytes-3 : tie.Need-slice-aggregate-same-bytes-3
 slice-aggregate-same-bytes-3 c = search needs
@@ -35,7 +35,103 @@ same-bytes-requires-3 c κs = search needs
 
 returns-3 : tie.Need-returns-3
 unfolding bytes
-returns-3 c = c .same-bytes3 .ensures ∙ known-pack _ [] (sym (c .before .before .before .before .before .before .same-bytes .ensures) ∙ c .before .before .before .before .before .if1 .left) (sym (c .before .before .before .same-bytes2 .ensures) ∙ c .before .before .if2 .left)
+returns-3 c =
+    let c1 = c .before in
+    let c3 = c1 .before .before in
+    let c4 = c3 .before in
+    let c6 = c4 .before .before in
+    let c7 = c6 .before in
+    known-value _ (sym (c7 .same-bytes .ensures) ∙ (c6 .if1 .left)) (sym (c4 .same-bytes2 .ensures) ∙ (c3 .if2 .left))
+    (sym (c1 .same-bytes3 .ensures) ∙ (c .if3 .taken))
+
+slice-aggregate-same-bytes-4 : tie.Need-slice-aggregate-same-bytes-4
+slice-aggregate-same-bytes-4 c = search needs
+
+same-bytes-requires-4 : tie.Need-same-bytes-requires-4
+same-bytes-requires-4 c κs = search needs
+
+returns-4 : tie.Need-returns-4
+unfolding bytes
+returns-4 c =
+    let c1 = c .before in
+    let c3 = c1 .before .before in
+    let c4 = c3 .before in
+    let c6 = c4 .before .before in
+    let c7 = c6 .before in
+    let c9 = c7 .before .before in
+    let c10 = c9 .before in
+    known-shorten _ (sym (c10 .same-bytes .ensures) ∙ (c9 .if1 .left)) (sym (c7 .same-bytes2 .ensures) ∙ (c6 .if2 .left))
+    (sym (c4 .same-bytes3 .ensures) ∙ (c3 .if3 .left)) (sym (c1 .same-bytes4 .ensures) ∙ (c .if4 .taken))
+
+slice-aggregate-same-bytes-5 : tie.Need-slice-aggregate-same-bytes-5
+slice-aggregate-same-bytes-5 c = search needs
+
+same-bytes-requires-5 : tie.Need-same-bytes-requires-5
+same-bytes-requires-5 c κs = search needs
+
+returns-5 : tie.Need-returns-5
+unfolding bytes
+returns-5 c =
+    let c1 = c .before in
+    let c3 = c1 .before .before in
+    let c4 = c3 .before in
+    let c6 = c4 .before .before in
+    let c7 = c6 .before in
+    let c9 = c7 .before .before in
+    let c10 = c9 .before in
+    let c12 = c10 .before .before in
+    let c13 = c12 .before in
+    known-check _ (sym (c13 .same-bytes .ensures) ∙ (c12 .if1 .left)) (sym (c10 .same-bytes2 .ensures) ∙ (c9 .if2 .left))
+    (sym (c7 .same-bytes3 .ensures) ∙ (c6 .if3 .left)) (sym (c4 .same-bytes4 .ensures) ∙ (c3 .if4 .left)) (sym (c1 .same-bytes5 .ensures) ∙ (c .if5 .taken))
+
+slice-aggregate-same-bytes-6 : tie.Need-slice-aggregate-same-bytes-6
+slice-aggregate-same-bytes-6 c = search needs
+
+same-bytes-requires-6 : tie.Need-same-bytes-requires-6
+same-bytes-requires-6 c κs = search needs
+
+returns-6 : tie.Need-returns-6
+unfolding bytes
+returns-6 c =
+    let c1 = c .before in
+    let c3 = c1 .before .before in
+    let c4 = c3 .before in
+    let c6 = c4 .before .before in
+    let c7 = c6 .before in
+    let c9 = c7 .before .before in
+    let c10 = c9 .before in
+    let c12 = c10 .before .before in
+    let c13 = c12 .before in
+    let c15 = c13 .before .before in
+    let c16 = c15 .before in
+    known-pack _ (sym (c16 .same-bytes .ensures) ∙ (c15 .if1 .left)) (sym (c13 .same-bytes2 .ensures) ∙ (c12 .if2 .left))
+    (sym (c10 .same-bytes3 .ensures) ∙ (c9 .if3 .left)) (sym (c7 .same-bytes4 .ensures) ∙ (c6 .if4 .left)) (sym (c4 .same-bytes5 .ensures) ∙ (c3 .if5 .left))
+    (sym (c1 .same-bytes6 .ensures) ∙ (c .if6 .taken))
+
+slice-aggregate-same-bytes-7 : tie.Need-slice-aggregate-same-bytes-7
+slice-aggregate-same-bytes-7 c = search needs
+
+same-bytes-requires-7 : tie.Need-same-bytes-requires-7
+same-bytes-requires-7 c κs = search needs
+
+returns-7 : tie.Need-returns-7
+unfolding bytes
+returns-7 c =
+    let c2 = c .before .before in
+    let c3 = c2 .before in
+    let c5 = c3 .before .before in
+    let c6 = c5 .before in
+    let c8 = c6 .before .before in
+    let c9 = c8 .before in
+    let c11 = c9 .before .before in
+    let c12 = c11 .before in
+    let c14 = c12 .before .before in
+    let c15 = c14 .before in
+    let c17 = c15 .before .before in
+    let c18 = c17 .before in
+    (c .same-bytes7 .ensures) ∙ known-unpack _ (sym (c18 .same-bytes .ensures) ∙ (c17 .if1 .left)) (sym (c15 .same-bytes2 .ensures) ∙ (c14 .if2 .left))
+    (sym (c12 .same-bytes3 .ensures) ∙ (c11 .if3 .left)) (sym (c9 .same-bytes4 .ensures) ∙ (c8 .if4 .left)) (sym (c6 .same-bytes5 .ensures) ∙ (c5 .if5 .left))
+    (sym (c3 .same-bytes6 .ensures) ∙ (c2 .if6 .left))
 
 pub is-command-spec : {M : Type 1} → statement M
 is-command-spec =
@@ -49,4 +145,16 @@ is-command-spec =
     returns-2
     slice-aggregate-same-bytes-3
     same-bytes-requires-3
-    returns-3)
+    returns-3
+    slice-aggregate-same-bytes-4
+    same-bytes-requires-4
+    returns-4
+    slice-aggregate-same-bytes-5
+    same-bytes-requires-5
+    returns-5
+    slice-aggregate-same-bytes-6
+    same-bytes-requires-6
+    returns-6
+    slice-aggregate-same-bytes-7
+    same-bytes-requires-7
+    returns-7)

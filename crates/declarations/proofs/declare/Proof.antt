@@ -21,7 +21,11 @@ loop-holds : tie.Need-loop-holds Inv-loop μ-loop
 loop-holds c = (names-begin _ _ _ _ _ (c .before .before .before .before .pre .0) (c .past-blanks .ensures), refl, refl)
 
 one-name-requires : tie.Need-one-name-requires Inv-loop μ-loop
-one-name-requires c κs = let i = c .before .before .before .loop .inv in (i .0 .few, omega (arith, c .before .before .before .before .before .before .before .before .pre .1, i .1), omega (arith, c .before .before .before .before .before .before .before .before .pre .2, i .2))
+one-name-requires c κs =
+    let c3 = c .before .before .before in
+    let c8 = c3 .before .before .before .before .before in
+    let i = c3 .loop .inv in
+    (i .0 .few, omega (arith, c8 .pre .1, i .1), omega (arith, c8 .pre .2, i .2))
 
 same-length : tie.Need-same-length Inv-loop μ-loop
 same-length c = c .before .before .before .before .before .before .one-name .kept .1 .1 .1 .0 ∙ c .before .before .before .before .before .before .before .before .before .before .loop .inv .1
@@ -30,7 +34,11 @@ same-length-2 : tie.Need-same-length-2 Inv-loop μ-loop
 same-length-2 c = c .before .before .before .before .before .before .one-name .kept .1 .1 .1 .1 .0 ∙ c .before .before .before .before .before .before .before .before .before .before .loop .inv .2
 
 returns : tie.Need-returns Inv-loop μ-loop
-returns c = names-refused _ _ _ _ _ _ _ _ (c .before .before .before .before .before .before .before .before .before .before .loop .inv .0) (c .before .before .before .before .before .before .before .before .before .loop-test .taken) _ _ _ (c .before .before .before .before .before .before .one-name .ensures) (c .if1 .taken)
+returns c =
+    let c6 = c .before .before .before .before .before .before in
+    let c9 = c6 .before .before .before in
+    let c10 = c9 .before in
+    names-refused _ _ _ _ _ _ _ _ (c10 .loop .inv .0) (c9 .loop-test .taken) _ _ _ (c6 .one-name .ensures) (c .if1 .taken)
 
 sub-left : tie.Need-sub-left Inv-loop μ-loop
 sub-left c = omega (arith, c .before .before .before .before .before .before .before .before .before .loop-test .taken)
@@ -40,11 +48,11 @@ loop-less c = omega (arith, c .before .before .before .before .before .before .b
 
 loop-again : tie.Need-loop-again Inv-loop μ-loop
 loop-again c =
-    let i = c .before .before .before .before .before .before .before .before .before .before .loop .inv in (
-      names-more _ _ _ _ _ _ _ _ (i .0) (c .before .before .before .before .before .before .before .before .before .loop-test .taken) _ _ _ (c .before .before .before .before .before .before .one-name .ensures) (c .if1 .left),
-      c .before .before .before .before .before .before .one-name .kept .1 .1 .1 .0 ∙ i .1,
-      c .before .before .before .before .before .before .one-name .kept .1 .1 .1 .1 .0 ∙ i .2,
-    )
+    let c6 = c .before .before .before .before .before .before in
+    let c9 = c6 .before .before .before in
+    let c10 = c9 .before in
+    let i = c10 .loop .inv in
+    (names-more _ _ _ _ _ _ _ _ (i .0) (c9 .loop-test .taken) _ _ _ (c6 .one-name .ensures) (c .if1 .left), c6 .one-name .kept .1 .1 .1 .0 ∙ i .1, c6 .one-name .kept .1 .1 .1 .1 .0 ∙ i .2)
 
 same-length-3 : tie.Need-same-length-3 Inv-loop μ-loop
 same-length-3 c = c .before .loop .inv .1

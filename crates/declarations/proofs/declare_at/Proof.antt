@@ -33,9 +33,13 @@ same-length-2 c = search needs
 
 returns : tie.Need-returns
 returns c =
-    let a = c .before .before .before .before .before .before .before .before .before .before .before .before .args in
-    subst (λ (l : List ℕ). NamesRead (declared l (namedOf (a .count) (now (a .names)) (now (a .table)))) (c .before .before .before .before .declare .result) (c .before .before .before .before .declare .last .1 .0)
-    (c .before .before .before .before .declare .last .1 .1 .0)) (line-at (now (a .s)) (a .p) _ (c .before .before .before .before .before .before .before .before .line-end .ensures)) (c .before .before .before .before .declare .ensures)
+    let c4 = c .before .before .before .before in
+    let c8 = c4 .before .before .before .before in
+    let c12 = c8 .before .before .before .before in
+    let a = c12 .args in
+    subst
+    (λ (l : List ℕ). NamesRead (declared l (namedOf (a .count) (now (a .names)) (now (a .table)))) (c4 .declare .result) (c4 .declare .last .1 .0) (c4 .declare .last .1 .1 .0))
+    (line-at (now (a .s)) (a .p) _ (c8 .line-end .ensures)) (c4 .declare .ensures)
 
 pub declare-at-spec : {M : Type 1} → statement M
 declare-at-spec =

@@ -27,7 +27,12 @@ is-word-at-requires-2 c κs = search needs
 
 returns-2 : tie.Need-returns-2
 unfolding bytes
-returns-2 c = declares-scalars (now (c .before .before .before .before .before .before .before .args .line)) _ _ (c .before .before .before .before .before .past-blanks .ensures) (c .before .before .before .is-word-at .ensures) _ (c .before .before .if1 .left) (c .is-word-at2 .ensures)
+returns-2 c =
+    let c2 = c .before .before in
+    let c3 = c2 .before in
+    let c5 = c3 .before .before in
+    let c7 = c5 .before .before in
+    declares-scalars (now (c7 .args .line)) _ _ (c5 .past-blanks .ensures) (c3 .is-word-at .ensures) _ (c2 .if1 .left) (c .is-word-at2 .ensures)
 
 pub is-declaration-spec : {M : Type 1} → statement M
 is-declaration-spec =

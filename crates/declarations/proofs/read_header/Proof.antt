@@ -35,27 +35,53 @@ same-length-2 c = c .before .before .before .before .loop .inv .2
 
 returns : tie.Need-returns Inv-loop μ-loop
 returns c =
-    let i = c .before .before .before .before .loop .inv in
-    header-stops (now (c .before .before .before .before .before .before .before .before .before .args .s)) _ _ _ _ _ (omega (arith, c .before .before .before .before .before .before .before .before .before .pre .0, i .1)) (i .0) (c .before .before .before .loop-test .taken) _ (c .before .before .declares .ensures) _
-    (not-true _ (c .before .if1 .taken)) (c .some-names .ensures)
+    let c1 = c .before in
+    let c2 = c1 .before in
+    let c3 = c2 .before in
+    let c4 = c3 .before in
+    let c9 = c4 .before .before .before .before .before in
+    let i = c4 .loop .inv in
+    header-stops (now (c9 .args .s)) _ _ _ _ _ (omega (arith, c9 .pre .0, i .1)) (i .0) (c3 .loop-test .taken) _ (c2 .declares .ensures) _
+    (not-true _ (c1 .if1 .taken)) (c .some-names .ensures)
 
 declare-at-requires : tie.Need-declare-at-requires Inv-loop μ-loop
-declare-at-requires c κs = let i = c .before .before .before .before .before .loop .inv in (i .0 .inside, i .0 .few, omega (arith, c .before .before .before .before .before .before .before .before .before .before .pre .0, i .1), omega (arith, c .before .before .before .before .before .before .before .before .before .before .pre .1, i .2))
+declare-at-requires c κs =
+    let c5 = c .before .before .before .before .before in
+    let c10 = c5 .before .before .before .before .before in
+    let i = c5 .loop .inv in
+    (i .0 .inside, i .0 .few, omega (arith, c10 .pre .0, i .1), omega (arith, c10 .pre .1, i .2))
 
 same-length-3 : tie.Need-same-length-3 Inv-loop μ-loop
-same-length-3 c = c .before .before .before .before .before .before .declare-at .kept .1 .1 .0 ∙ c .before .before .before .before .before .before .before .before .before .before .before .before .loop .inv .1
+same-length-3 c =
+    let c6 = c .before .before .before .before .before .before in
+    let c12 = c6 .before .before .before .before .before .before in
+    c6 .declare-at .kept .1 .1 .0 ∙ c12 .loop .inv .1
 
 same-length-4 : tie.Need-same-length-4 Inv-loop μ-loop
-same-length-4 c = c .before .before .before .before .before .before .declare-at .kept .1 .1 .1 .0 ∙ c .before .before .before .before .before .before .before .before .before .before .before .before .loop .inv .2
+same-length-4 c =
+    let c6 = c .before .before .before .before .before .before in
+    let c12 = c6 .before .before .before .before .before .before in
+    c6 .declare-at .kept .1 .1 .1 .0 ∙ c12 .loop .inv .2
 
 returns-2 : tie.Need-returns-2 Inv-loop μ-loop
 returns-2 c =
-    let i = c .before .before .before .before .before .before .before .before .before .before .before .before .loop .inv in
-    header-refused (now (c .before .before .before .before .before .before .before .before .before .before .before .before .before .before .before .before .before .args .s)) _ _ _ _ _ (omega (arith, c .before .before .before .before .before .before .before .before .before .before .before .before .before .before .before .before .before .pre .0, i .1)) (i .0) (c .before .before .before .before .before .before .before .before .before .before .before .loop-test .taken) _ (c .before .before .before .before .before .before .before .before .before .before .declares .ensures)
-    (not-false _ (c .before .before .before .before .before .before .before .before .before .if1 .left)) _ _ _ (c .before .before .before .before .before .before .declare-at .ensures) (c .if2 .taken)
+    let c6 = c .before .before .before .before .before .before in
+    let c9 = c6 .before .before .before in
+    let c10 = c9 .before in
+    let c11 = c10 .before in
+    let c12 = c11 .before in
+    let c17 = c12 .before .before .before .before .before in
+    let i = c12 .loop .inv in
+    header-refused (now (c17 .args .s)) _ _ _ _ _ (omega (arith, c17 .pre .0, i .1)) (i .0) (c11 .loop-test .taken) _ (c10 .declares .ensures)
+    (not-false _ (c9 .if1 .left)) _ _ _ (c6 .declare-at .ensures) (c .if2 .taken)
 
 next-place-requires : tie.Need-next-place-requires Inv-loop μ-loop
-next-place-requires c κs = (c .before .before .before .before .before .before .before .before .before .before .before .before .loop .inv .0 .inside, declares-inside (now (c .before .before .before .before .before .before .before .before .before .before .before .before .before .before .before .before .before .args .s)) (c .before .before .before .before .before .before .before .before .before .before .before .before .loop .p) _ (c .before .before .before .before .before .before .before .before .before .before .declares .ensures) (not-false _ (c .before .before .before .before .before .before .before .before .before .if1 .left)))
+next-place-requires c κs =
+    let c9 = c .before .before .before .before .before .before .before .before .before in
+    let c10 = c9 .before in
+    let c12 = c10 .before .before in
+    let c17 = c12 .before .before .before .before .before in
+    (c12 .loop .inv .0 .inside, declares-inside (now (c17 .args .s)) (c12 .loop .p) _ (c10 .declares .ensures) (not-false _ (c9 .if1 .left)))
 
 to-line-requires-2 : tie.Need-to-line-requires-2 Inv-loop μ-loop
 to-line-requires-2 c κs = c .next-place .ensures .inside
@@ -68,12 +94,16 @@ loop-less c = omega (arith, c .before .before .before .before .before .before .b
 
 loop-again : tie.Need-loop-again Inv-loop μ-loop
 loop-again c =
-    let i = c .before .before .before .before .before .before .before .before .before .before .before .before .before .before .loop .inv in (
-      header-more (now (c .before .before .before .before .before .before .before .before .before .before .before .before .before .before .before .before .before .before .before .args .s)) _ _ _ _ _ (omega (arith, c .before .before .before .before .before .before .before .before .before .before .before .before .before .before .before .before .before .before .before .pre .0, i .1)) (i .0) (c .before .before .before .before .before .before .before .before .before .before .before .before .before .loop-test .taken) _ (c .before .before .before .before .before .before .before .before .before .before .before .before .declares .ensures)
-          (not-false _ (c .before .before .before .before .before .before .before .before .before .before .before .if1 .left)) _ _ _ (c .before .before .before .before .before .before .before .before .declare-at .ensures) _ (c .before .before .if2 .left) (to-next _ _ _ _ (c .before .next-place .ensures) (c .to-line2 .ensures)),
-      c .before .before .before .before .before .before .before .before .declare-at .kept .1 .1 .0 ∙ i .1,
-      c .before .before .before .before .before .before .before .before .declare-at .kept .1 .1 .1 .0 ∙ i .2,
-    )
+    let c1 = c .before in
+    let c2 = c1 .before in
+    let c8 = c2 .before .before .before .before .before .before in
+    let c11 = c8 .before .before .before in
+    let c12 = c11 .before in
+    let c13 = c12 .before in
+    let c14 = c13 .before in
+    let c19 = c14 .before .before .before .before .before in
+    let i = c14 .loop .inv in
+    (header-more (now (c19 .args .s)) _ _ _ _ _ (omega (arith, c19 .pre .0, i .1)) (i .0) (c13 .loop-test .taken) _ (c12 .declares .ensures) (not-false _ (c11 .if1 .left)) _ _ _ (c8 .declare-at .ensures) _ (c2 .if2 .left) (to-next _ _ _ _ (c1 .next-place .ensures) (c .to-line2 .ensures)), c8 .declare-at .kept .1 .1 .0 ∙ i .1, c8 .declare-at .kept .1 .1 .1 .0 ∙ i .2)
 
 some-names-requires-2 : tie.Need-some-names-requires-2 Inv-loop μ-loop
 some-names-requires-2 c κs = tt
@@ -85,7 +115,12 @@ same-length-6 : tie.Need-same-length-6 Inv-loop μ-loop
 same-length-6 c = c .before .before .loop .inv .2
 
 returns-3 : tie.Need-returns-3 Inv-loop μ-loop
-returns-3 c = let i = c .before .before .loop .inv in header-done (now (c .before .before .before .before .before .before .before .args .s)) _ _ _ _ _ (omega (arith, c .before .before .before .before .before .before .before .pre .0, i .1)) (i .0) _ (c .before .loop-test .left) (c .some-names2 .ensures)
+returns-3 c =
+    let c1 = c .before in
+    let c2 = c1 .before in
+    let c7 = c2 .before .before .before .before .before in
+    let i = c2 .loop .inv in
+    header-done (now (c7 .args .s)) _ _ _ _ _ (omega (arith, c7 .pre .0, i .1)) (i .0) _ (c1 .loop-test .left) (c .some-names2 .ensures)
 
 pub read-header-spec : {M : Type 1} → statement M
 read-header-spec =

@@ -29,7 +29,11 @@ same-length : tie.Need-same-length
 same-length c = search needs
 
 returns : tie.Need-returns
-returns c = tells-then (tells-as _ (text-taken _ _ _ _ (c .before .before .before .before .before .before .before .before .before .before .print-form .ensures)) (c .before .before .before .before .before .before .put .ensures)) (c .before .before .put-byte .ensures)
+returns c =
+    let c2 = c .before .before in
+    let c6 = c2 .before .before .before .before in
+    let c10 = c6 .before .before .before .before in
+    tells-then (tells-as _ (text-taken _ _ _ _ (c10 .print-form .ensures)) (c6 .put .ensures)) (c2 .put-byte .ensures)
 
 pub tell-form-spec : {M : Type 1} → statement M
 tell-form-spec =

@@ -4,7 +4,8 @@ use mathlib.Core.List.{List}
 use mathlib.Core.Path.{subst, sym}
 use Prim.Native.Nat.{ℕ, _≤_}
 use denote.Ref.{now}
-use Rattle.specification.specs.Commands.{refusalText, Told}
+use Rattle.specification.specs.Commands.{refusalText}
+use Rattle.telling.specs.Told.{Told}
 use Rattle.lines.proofs.Ends.{line-at}
 use borrow.Author.Needs.{needs}
 use Rattle.refusals.proofs.tell_line.Statement.{statement}
@@ -32,8 +33,12 @@ same-length c = search needs
 
 returns : tie.Need-returns
 returns c =
-    let a = c .before .before .before .before .before .before .before .before .args in
-    subst (λ (l : List ℕ). Told (c .before .before .tell-refusal .last .0) (c .before .before .tell-refusal .result) (refusalText (a .n) (a .p .number) (a .column) l)) (line-at (now (a .s)) (a .p) _ (c .before .before .before .before .before .line-end .ensures)) (c .before .before .tell-refusal .ensures)
+    let c2 = c .before .before in
+    let c5 = c2 .before .before .before in
+    let c8 = c5 .before .before .before in
+    let a = c8 .args in
+    subst (λ (l : List ℕ). Told (c2 .tell-refusal .last .0) (c2 .tell-refusal .result) (refusalText (a .n) (a .p .number) (a .column) l))
+    (line-at (now (a .s)) (a .p) _ (c5 .line-end .ensures)) (c2 .tell-refusal .ensures)
 
 pub tell-line-spec : {M : Type 1} → statement M
 tell-line-spec =

@@ -43,8 +43,14 @@ same-length c = search needs
 returns : tie.Need-returns
 unfolding placeText bytes
 returns c =
-    told-first (tells-then (tells-then (tells-then (tells-then (tells-then (c .before .before .before .before .before .before .before .before .before .before .before .before .before .before .before .before .before .before .before .before .before .before .before .before .put .ensures) (c .before .before .before .before .before .before .before .before .before .before .before .before .before .before .before .before .before .before .before .before .put-number .ensures)) (c .before .before .before .before .before .before .before .before .before .before .before .before .before .before .before .put2 .ensures))
-    (c .before .before .before .before .before .before .before .before .before .before .before .put-number2 .ensures)) (c .before .before .before .before .before .before .put3 .ensures)) (c .before .before .put-number3 .ensures))
+    let c2 = c .before .before in
+    let c6 = c2 .before .before .before .before in
+    let c11 = c6 .before .before .before .before .before in
+    let c15 = c11 .before .before .before .before in
+    let c20 = c15 .before .before .before .before .before in
+    let c24 = c20 .before .before .before .before in
+    told-first
+    (tells-then (tells-then (tells-then (tells-then (tells-then (c24 .put .ensures) (c20 .put-number .ensures)) (c15 .put2 .ensures)) (c11 .put-number2 .ensures)) (c6 .put3 .ensures)) (c2 .put-number3 .ensures))
 
 pub tell-place-spec : {M : Type 1} → statement M
 tell-place-spec =

@@ -162,7 +162,22 @@ same-length-12 c = search needs
 
 returns-12 : tie.Need-returns-12
 unfolding bytes
-returns-12 c = tells-as _ (reason-else _ (c .before .before .before .before .before .before .before .before .before .before .before .before .before .before .before .if1 .left) (c .before .before .before .before .before .before .before .before .before .before .before .before .before .before .if2 .left) (c .before .before .before .before .before .before .before .before .before .before .before .before .before .if3 .left) (c .before .before .before .before .before .before .before .before .before .before .before .before .if4 .left) (c .before .before .before .before .before .before .before .before .before .before .before .if5 .left) (c .before .before .before .before .before .before .before .before .before .before .if6 .left) (c .before .before .before .before .before .before .before .before .before .if7 .left) (c .before .before .before .before .before .before .before .before .if8 .left) (c .before .before .before .before .before .before .before .if9 .left) (c .before .before .before .before .before .before .if10 .left) (c .before .before .before .before .before .if11 .left)) (c .before .before .put12 .ensures)
+returns-12 c =
+    let c2 = c .before .before in
+    let c5 = c2 .before .before .before in
+    let c6 = c5 .before in
+    let c7 = c6 .before in
+    let c8 = c7 .before in
+    let c9 = c8 .before in
+    let c10 = c9 .before in
+    let c11 = c10 .before in
+    let c12 = c11 .before in
+    let c13 = c12 .before in
+    let c14 = c13 .before in
+    let c15 = c14 .before in
+    tells-as _
+    (reason-else _ (c15 .if1 .left) (c14 .if2 .left) (c13 .if3 .left) (c12 .if4 .left) (c11 .if5 .left) (c10 .if6 .left) (c9 .if7 .left) (c8 .if8 .left) (c7 .if9 .left) (c6 .if10 .left) (c5 .if11 .left))
+    (c2 .put12 .ensures)
 
 pub tell-reason-spec : {M : Type 1} → statement M
 tell-reason-spec =

@@ -47,14 +47,30 @@ put-requires-5 c κs = search needs
 
 same-length : tie.Need-same-length
 same-length c =
-    c .before .before .put5 .kept .0 ∙ c .before .before .before .before .before .before .before .put-blanks .kept .0 ∙ c .before .before .before .before .before .before .before .before .before .before .before .put4 .kept .0 ∙ c .before .before .before .before .before .before .before .before .before .before .before .before .before .before .before .before .put3 .kept .0 ∙ c .before .before .before .before .before .before .before .before .before .before .before .before .before .before .before .before .before .before .before .before .put2 .kept .0
-    ∙ c .before .before .before .before .before .before .before .before .before .before .before .before .before .before .before .before .before .before .before .before .before .before .before .before .before .tell-reason .kept .0 ∙ c .before .before .before .before .before .before .before .before .before .before .before .before .before .before .before .before .before .before .before .before .before .before .before .before .before .before .before .before .before .put .kept .0 ∙ c .before .before .before .before .before .before .before .before .before .before .before .before .before .before .before .before .before .before .before .before .before .before .before .before .before .before .before .before .before .before .before .before .before .before .tell-place .kept .0
+    let c2 = c .before .before in
+    let c7 = c2 .before .before .before .before .before in
+    let c11 = c7 .before .before .before .before in
+    let c16 = c11 .before .before .before .before .before in
+    let c20 = c16 .before .before .before .before in
+    let c25 = c20 .before .before .before .before .before in
+    let c29 = c25 .before .before .before .before in
+    let c34 = c29 .before .before .before .before .before in
+    c2 .put5 .kept .0 ∙ c7 .put-blanks .kept .0 ∙ c11 .put4 .kept .0 ∙ c16 .put3 .kept .0 ∙ c20 .put2 .kept .0 ∙ c25 .tell-reason .kept .0 ∙ c29 .put .kept .0 ∙
+    c34 .tell-place .kept .0
 
 returns : tie.Need-returns
 unfolding refusalText placeText bytes
 returns c =
-    c .before .before .put5 .ensures .is _ (c .before .before .before .before .before .before .before .put-blanks .ensures .is _ (c .before .before .before .before .before .before .before .before .before .before .before .put4 .ensures .is _ (c .before .before .before .before .before .before .before .before .before .before .before .before .before .before .before .before .put3 .ensures .is _ (c .before .before .before .before .before .before .before .before .before .before .before .before .before .before .before .before .before .before .before .before .put2 .ensures .is _
-    (c .before .before .before .before .before .before .before .before .before .before .before .before .before .before .before .before .before .before .before .before .before .before .before .before .before .tell-reason .ensures .is _ (c .before .before .before .before .before .before .before .before .before .before .before .before .before .before .before .before .before .before .before .before .before .before .before .before .before .before .before .before .before .put .ensures .is _ (c .before .before .before .before .before .before .before .before .before .before .before .before .before .before .before .before .before .before .before .before .before .before .before .before .before .before .before .before .before .before .before .before .before .before .tell-place .ensures)))))))
+    let c2 = c .before .before in
+    let c7 = c2 .before .before .before .before .before in
+    let c11 = c7 .before .before .before .before in
+    let c16 = c11 .before .before .before .before .before in
+    let c20 = c16 .before .before .before .before in
+    let c25 = c20 .before .before .before .before .before in
+    let c29 = c25 .before .before .before .before in
+    let c34 = c29 .before .before .before .before .before in
+    c2 .put5 .ensures .is _
+    (c7 .put-blanks .ensures .is _ (c11 .put4 .ensures .is _ (c16 .put3 .ensures .is _ (c20 .put2 .ensures .is _ (c25 .tell-reason .ensures .is _ (c29 .put .ensures .is _ (c34 .tell-place .ensures)))))))
 
 pub tell-refusal-spec : {M : Type 1} → statement M
 tell-refusal-spec =

@@ -25,7 +25,11 @@ loop-less : tie.Need-loop-less Inv-loop μ-loop
 loop-less c = omega (arith, c .before .before .before .before .loop-test .taken)
 
 loop-again : tie.Need-loop-again Inv-loop μ-loop
-loop-again c = (blanks-more _ _ _ _ _ _ _ _ (c .before .before .before .before .before .loop .inv .0) (c .before .before .before .before .loop-test .taken) (c .before .before .put-byte .ensures), c .before .before .put-byte .kept .0 ∙ c .before .before .before .before .before .loop .inv .1)
+loop-again c =
+    let c2 = c .before .before in
+    let c4 = c2 .before .before in
+    let c5 = c4 .before in
+    (blanks-more _ _ _ _ _ _ _ _ (c5 .loop .inv .0) (c4 .loop-test .taken) (c2 .put-byte .ensures), c2 .put-byte .kept .0 ∙ c5 .loop .inv .1)
 
 same-length : tie.Need-same-length Inv-loop μ-loop
 same-length c = c .before .loop .inv .1

@@ -24,8 +24,14 @@ same-length c = search needs
 
 returns : tie.Need-returns
 returns c =
-    tells-as _ (ap signedNumeral (fits-back (c .before .before .before .before .before .before .before .before .before .before .before .before .args .z) (c .before .before .before .before .before .before .before .before .before .before .before .before .pre)))
-    (tells-as _ (signed-minus _ _ (c .before .before .before .size .ensures) (sym (c .before .before .before .before .before .before .before .before .before .before .is-negative .ensures) ∙ c .before .before .before .before .before .before .before .before .before .if1 .taken)) (tells-then (c .before .before .before .before .before .before .before .put-byte .ensures) (c .before .before .put-number .ensures)))
+    let c2 = c .before .before in
+    let c3 = c2 .before in
+    let c7 = c3 .before .before .before .before in
+    let c9 = c7 .before .before in
+    let c10 = c9 .before in
+    let c12 = c10 .before .before in
+    tells-as _ (ap signedNumeral (fits-back (c12 .args .z) (c12 .pre)))
+    (tells-as _ (signed-minus _ _ (c3 .size .ensures) (sym (c10 .is-negative .ensures) ∙ c9 .if1 .taken)) (tells-then (c7 .put-byte .ensures) (c2 .put-number .ensures)))
 
 size-requires-2 : tie.Need-size-requires-2
 size-requires-2 c κs = search needs
@@ -38,8 +44,13 @@ same-length-2 c = search needs
 
 returns-2 : tie.Need-returns-2
 returns-2 c =
-    tells-as _ (ap signedNumeral (fits-back (c .before .before .before .before .before .before .before .before .args .z) (c .before .before .before .before .before .before .before .before .pre)))
-    (tells-as _ (signed-plain _ _ (c .before .before .before .size2 .ensures) (sym (c .before .before .before .before .before .before .is-negative .ensures) ∙ c .before .before .before .before .before .if1 .left)) (c .before .before .put-number2 .ensures))
+    let c2 = c .before .before in
+    let c3 = c2 .before in
+    let c5 = c3 .before .before in
+    let c6 = c5 .before in
+    let c8 = c6 .before .before in
+    tells-as _ (ap signedNumeral (fits-back (c8 .args .z) (c8 .pre)))
+    (tells-as _ (signed-plain _ _ (c3 .size2 .ensures) (sym (c6 .is-negative .ensures) ∙ c5 .if1 .left)) (c2 .put-number2 .ensures))
 
 pub put-signed-spec : {M : Type 1} → statement M
 put-signed-spec =

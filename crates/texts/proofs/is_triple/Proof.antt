@@ -16,10 +16,18 @@ is-letter-requires : tie.Need-is-letter-requires
 is-letter-requires c κs = search needs
 
 returns : tie.Need-returns
-returns c = no-first (now (c .before .before .before .before .args .s)) (c .before .before .before .before .args .at) 0 0 0 _ true true (c .before .is-letter .ensures ∙ ap isLetter (c .before .before .byte-at .ensures)) (not-true _ (c .if1 .taken))
+returns c =
+    let c1 = c .before in
+    let c2 = c1 .before in
+    let c4 = c2 .before .before in
+    no-first (now (c4 .args .s)) (c4 .args .at) 0 0 0 _ true true (c1 .is-letter .ensures ∙ ap isLetter (c2 .byte-at .ensures)) (not-true _ (c .if1 .taken))
 
 behind-requires : tie.Need-behind-requires
-behind-requires c κs = letter-inside (now (c .before .before .before .before .args .s)) (c .before .before .before .before .args .at) _ _ (c .before .before .byte-at .ensures) (c .before .is-letter .ensures) (not-false _ (c .if1 .left))
+behind-requires c κs =
+    let c1 = c .before in
+    let c2 = c1 .before in
+    let c4 = c2 .before .before in
+    letter-inside (now (c4 .args .s)) (c4 .args .at) _ _ (c2 .byte-at .ensures) (c1 .is-letter .ensures) (not-false _ (c .if1 .left))
 
 byte-at-requires-2 : tie.Need-byte-at-requires-2
 byte-at-requires-2 c κs = search needs
@@ -29,11 +37,23 @@ is-letter-requires-2 c κs = search needs
 
 returns-2 : tie.Need-returns-2
 returns-2 c =
-    no-second (now (c .before .before .before .before .before .before .before .before .args .s)) (c .before .before .before .before .before .before .before .before .args .at) _ 0 0 _ _ true (c .before .before .before .before .before .is-letter .ensures ∙ ap isLetter (c .before .before .before .before .before .before .byte-at .ensures)) (c .before .before .before .behind .ensures)
-    (c .before .is-letter2 .ensures ∙ ap isLetter (c .before .before .byte-at2 .ensures)) (not-false _ (c .before .before .before .before .if1 .left)) (not-true _ (c .if2 .taken))
+    let c1 = c .before in
+    let c2 = c1 .before in
+    let c3 = c2 .before in
+    let c4 = c3 .before in
+    let c5 = c4 .before in
+    let c6 = c5 .before in
+    let c8 = c6 .before .before in
+    no-second (now (c8 .args .s)) (c8 .args .at) _ 0 0 _ _ true (c5 .is-letter .ensures ∙ ap isLetter (c6 .byte-at .ensures)) (c3 .behind .ensures)
+    (c1 .is-letter2 .ensures ∙ ap isLetter (c2 .byte-at2 .ensures)) (not-false _ (c4 .if1 .left)) (not-true _ (c .if2 .taken))
 
 behind-requires-2 : tie.Need-behind-requires-2
-behind-requires-2 c κs = letter-inside (now (c .before .before .before .before .before .before .before .before .args .s)) (c .before .before .before .behind .result) _ _ (c .before .before .byte-at2 .ensures) (c .before .is-letter2 .ensures) (not-false _ (c .if2 .left))
+behind-requires-2 c κs =
+    let c1 = c .before in
+    let c2 = c1 .before in
+    let c3 = c2 .before in
+    let c8 = c3 .before .before .before .before .before in
+    letter-inside (now (c8 .args .s)) (c3 .behind .result) _ _ (c2 .byte-at2 .ensures) (c1 .is-letter2 .ensures) (not-false _ (c .if2 .left))
 
 byte-at-requires-3 : tie.Need-byte-at-requires-3
 byte-at-requires-3 c κs = search needs
@@ -43,22 +63,51 @@ is-letter-requires-3 c κs = search needs
 
 returns-3 : tie.Need-returns-3
 returns-3 c =
-    no-third (now (c .before .before .before .before .before .before .before .before .before .before .before .before .args .s)) (c .before .before .before .before .before .before .before .before .before .before .before .before .args .at) _ _ 0 _ _ _ (c .before .before .before .before .before .before .before .before .before .is-letter .ensures ∙ ap isLetter (c .before .before .before .before .before .before .before .before .before .before .byte-at .ensures)) (c .before .before .before .before .before .before .before .behind .ensures)
-    (c .before .before .before .before .before .is-letter2 .ensures ∙ ap isLetter (c .before .before .before .before .before .before .byte-at2 .ensures)) (not-false _ (c .before .before .before .before .before .before .before .before .if1 .left)) (c .before .before .before .behind2 .ensures)
-    (c .before .is-letter3 .ensures ∙ ap isLetter (c .before .before .byte-at3 .ensures)) (not-false _ (c .before .before .before .before .if2 .left)) (not-true _ (c .if3 .taken))
+    let c1 = c .before in
+    let c2 = c1 .before in
+    let c3 = c2 .before in
+    let c4 = c3 .before in
+    let c5 = c4 .before in
+    let c6 = c5 .before in
+    let c7 = c6 .before in
+    let c8 = c7 .before in
+    let c9 = c8 .before in
+    let c10 = c9 .before in
+    let c12 = c10 .before .before in
+    no-third (now (c12 .args .s)) (c12 .args .at) _ _ 0 _ _ _ (c9 .is-letter .ensures ∙ ap isLetter (c10 .byte-at .ensures)) (c7 .behind .ensures)
+    (c5 .is-letter2 .ensures ∙ ap isLetter (c6 .byte-at2 .ensures)) (not-false _ (c8 .if1 .left)) (c3 .behind2 .ensures)
+    (c1 .is-letter3 .ensures ∙ ap isLetter (c2 .byte-at3 .ensures)) (not-false _ (c4 .if2 .left)) (not-true _ (c .if3 .taken))
 
 behind-requires-3 : tie.Need-behind-requires-3
-behind-requires-3 c κs = letter-inside (now (c .before .before .before .before .before .before .before .before .before .before .before .before .args .s)) (c .before .before .before .behind2 .result) _ _ (c .before .before .byte-at3 .ensures) (c .before .is-letter3 .ensures) (not-false _ (c .if3 .left))
+behind-requires-3 c κs =
+    let c1 = c .before in
+    let c2 = c1 .before in
+    let c3 = c2 .before in
+    let c12 = c3 .before .before .before .before .before .before .before .before .before in
+    letter-inside (now (c12 .args .s)) (c3 .behind2 .result) _ _ (c2 .byte-at3 .ensures) (c1 .is-letter3 .ensures) (not-false _ (c .if3 .left))
 
 byte-at-requires-4 : tie.Need-byte-at-requires-4
 byte-at-requires-4 c κs = search needs
 
 returns-4 : tie.Need-returns-4
 returns-4 c =
-    three-names (now (c .before .before .before .before .before .before .before .before .before .before .before .before .before .before .args .s)) (c .before .before .before .before .before .before .before .before .before .before .before .before .before .before .args .at) _ _ _ _ _ _ (c .before .before .before .before .before .before .before .before .before .before .before .is-letter .ensures ∙ ap isLetter (c .before .before .before .before .before .before .before .before .before .before .before .before .byte-at .ensures)) (c .before .before .before .before .before .before .before .before .before .behind .ensures)
-    (c .before .before .before .before .before .before .before .is-letter2 .ensures ∙ ap isLetter (c .before .before .before .before .before .before .before .before .byte-at2 .ensures)) (not-false _ (c .before .before .before .before .before .before .before .before .before .before .if1 .left)) (c .before .before .before .before .before .behind2 .ensures)
-    (c .before .before .before .is-letter3 .ensures ∙ ap isLetter (c .before .before .before .before .byte-at3 .ensures)) (not-false _ (c .before .before .before .before .before .before .if2 .left)) _ (c .before .behind3 .ensures)
-    (c .byte-at4 .ensures) (not-false _ (c .before .before .if3 .left))
+    let c1 = c .before in
+    let c2 = c1 .before in
+    let c3 = c2 .before in
+    let c4 = c3 .before in
+    let c5 = c4 .before in
+    let c6 = c5 .before in
+    let c7 = c6 .before in
+    let c8 = c7 .before in
+    let c9 = c8 .before in
+    let c10 = c9 .before in
+    let c11 = c10 .before in
+    let c12 = c11 .before in
+    let c14 = c12 .before .before in
+    three-names (now (c14 .args .s)) (c14 .args .at) _ _ _ _ _ _ (c11 .is-letter .ensures ∙ ap isLetter (c12 .byte-at .ensures)) (c9 .behind .ensures)
+    (c7 .is-letter2 .ensures ∙ ap isLetter (c8 .byte-at2 .ensures)) (not-false _ (c10 .if1 .left)) (c5 .behind2 .ensures)
+    (c3 .is-letter3 .ensures ∙ ap isLetter (c4 .byte-at3 .ensures)) (not-false _ (c6 .if2 .left)) _ (c1 .behind3 .ensures) (c .byte-at4 .ensures)
+    (not-false _ (c2 .if3 .left))
 
 pub is-triple-spec : {M : Type 1} → statement M
 is-triple-spec =

@@ -22,7 +22,10 @@ shared-slice-read-if1 : tie.Need-shared-slice-read-if1 Inv-loop μ-loop
 shared-slice-read-if1 c = omega arith
 
 returns : tie.Need-returns Inv-loop μ-loop
-returns c = sym (place-found (now (c .before .before .before .before .args .names)) (c .before .before .before .loop .i) (c .before .before .before .before .args .b) (omega arith) (c .if1 .taken)) ∙ c .before .before .before .loop .inv
+returns c =
+    let c3 = c .before .before .before in
+    let c4 = c3 .before in
+    sym (place-found (now (c4 .args .names)) (c3 .loop .i) (c4 .args .b) (omega arith) (c .if1 .taken)) ∙ c3 .loop .inv
 
 add-i : tie.Need-add-i Inv-loop μ-loop
 add-i c = omega arith
@@ -31,7 +34,10 @@ loop-less : tie.Need-loop-less Inv-loop μ-loop
 loop-less c = omega arith
 
 loop-again : tie.Need-loop-again Inv-loop μ-loop
-loop-again c = sym (place-passed (now (c .before .before .before .before .args .names)) (c .before .before .before .loop .i) (c .before .before .before .before .args .b) (omega arith) (c .if1 .left)) ∙ c .before .before .before .loop .inv
+loop-again c =
+    let c3 = c .before .before .before in
+    let c4 = c3 .before in
+    sym (place-passed (now (c4 .args .names)) (c3 .loop .i) (c4 .args .b) (omega arith) (c .if1 .left)) ∙ c3 .loop .inv
 
 returns-2 : tie.Need-returns-2 Inv-loop μ-loop
 returns-2 c = sym (place-none (now (c .before .before .args .names)) (c .before .loop .i) (c .before .before .args .b) (omega arith)) ∙ c .before .loop .inv

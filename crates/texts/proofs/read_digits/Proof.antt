@@ -53,7 +53,11 @@ loop-again : tie.Need-loop-again Inv-loop μ-loop
 loop-again c = digits-more _ _ _ _ _ _ (c .before .before .before .before .before .loop .inv) (c .before .before .is-digit .ensures) (not-false _ (c .before .if1 .left)) (c .cap .ensures)
 
 returns-2 : tie.Need-returns-2 Inv-loop μ-loop
-returns-2 c = let w = digits-stop _ _ _ _ (c .before .loop .inv) (no-digit-behind (now (c .before .before .before .args .s)) (c .before .loop .i) (c .loop-test .left)) in record { value = w .0; next = w .1 }
+returns-2 c =
+    let c1 = c .before in
+    let c3 = c1 .before .before in
+    let w = digits-stop _ _ _ _ (c1 .loop .inv) (no-digit-behind (now (c3 .args .s)) (c1 .loop .i) (c .loop-test .left)) in
+    record { value = w .0; next = w .1 }
 
 pub read-digits-spec : {M : Type 1} → statement M
 read-digits-spec =

@@ -1,4 +1,4 @@
--- Two forms taken from their sender together: each is taken alone. Assumes nothing.
+-- Forms taken from their sender; two taken together are taken each alone. Assumes nothing.
 use mathlib.Core.Path.{_≡_, subst}
 use mathlib.Core.List.{List}
 use Prim.Native.Nat.{ℕ}
@@ -16,6 +16,14 @@ pub record FormTaken (table s : List ℕ) (f : Form) : Type 0 where
 form-taken : (table s : List ℕ) (f : Form) → readForm s ≡ given f → testTerms table (f .terms) ≡ given tt → FormTaken table s f
 unfolding takeForm
 form-taken table s f r t = record { isRead = r; lettersTested = t; isTaken = simp (r, t) }
+
+-- what was taken
+pub taken-so : (table s : List ℕ) (f : Form) → takeForm table s ≡ given f → FormTaken table s f
+unfolding takeForm
+taken-so table s f e =
+    into (readForm s) _ f e λ x r e₁.
+    let v = tested (testTerms table (x .terms)) _ f e₁ in
+    subst (FormTaken table s) (given-same (v .1)) (form-taken table s x r (v .0))
 
 -- two forms taken together are taken each
 pub both-taken : (table s t : List ℕ) (forms : Form × Form) → takeBoth table s t ≡ given forms → FormTaken table s (forms .0) × FormTaken table t (forms .1)

@@ -115,12 +115,13 @@ refused≢accepted : {m k a b n : ℕ} → refusedAt m k ≡ accepted a b n → 
 refused≢accepted e = let z : _≡_ {A = ℕ} 0 1 = cc in omega arith
 
 -- a test in front of what is accepted was passed
-passed : {A : Type 0} (k : ℕ) (r : Result A) (rest : A → Checked) (a b n : ℕ) → atStep k r rest ≡ accepted a b n
+pub passed : {A : Type 0} (k : ℕ) (r : Result A) (rest : A → Checked) (a b n : ℕ) → atStep k r rest ≡ accepted a b n
     → (x : A) × (r ≡ given x) × (rest x ≡ accepted a b n)
 passed k (refused m) rest a b n e = absurd (refused≢accepted e)
 passed k (given x) rest a b n e = (x, refl, e)
 
-stepsLetters-accepted : (table : List ℕ) (k : ℕ) (steps : List Step) (rest : Checked) (a b n : ℕ) → stepsLetters table k steps rest ≡ accepted a b n
+-- and so were those of the letters of steps
+pub stepsLetters-accepted : (table : List ℕ) (k : ℕ) (steps : List Step) (rest : Checked) (a b n : ℕ) → stepsLetters table k steps rest ≡ accepted a b n
     → (testSteps table steps ≡ given tt) × (rest ≡ accepted a b n)
 unfolding stepsLetters testSteps
 stepsLetters-accepted table k [] rest a b n e = (refl, e)

@@ -60,21 +60,21 @@ torn n at h = (omega arith, omega arith, h)
 
 module _ (s : List ℕ) where
   -- a byte that is not 0 stands in the text
-  there : (at : ℕ) → 1 ≤ getD s at 0 → at < length s
+  pub there : (at : ℕ) → 1 ≤ getD s at 0 → at < length s
   there at h = go (ltb at (length s)) (ltb→lt at (length s)) (nltb→le at (length s))
     where
       go : (t : Bool) → (T t → at < length s) → (T (not t) → length s ≤ at) → at < length s
       go true f g = f tt
       go false f g = absurd (omega (arith, List·getD-eq-default s 0 (g tt)))
 
-  there-byte : (at b : ℕ) → 1 ≤ b → T (eqb (getD s at 0) b) → at < length s
+  pub there-byte : (at b : ℕ) → 1 ≤ b → T (eqb (getD s at 0) b) → at < length s
   there-byte at b h t = let e = eqb→eq (getD s at 0) b t in there at (omega arith)
 
   -- a letter stands in the text
   pub there-letter : (at : ℕ) → T (isLetter (getD s at 0)) → at < length s
   there-letter at t = let h = letter-from (getD s at 0) (is-true (isLetter (getD s at 0)) t) in there at (omega arith)
 
-  there-digit : (at : ℕ) → T (isDigit (getD s at 0)) → at < length s
+  pub there-digit : (at : ℕ) → T (isDigit (getD s at 0)) → at < length s
   unfolding isDigit
   there-digit at t = let h = leb→le 48 (getD s at 0) (and-split (leb 48 (getD s at 0)) (leb (getD s at 0) 57) t .0) in there at (omega arith)
 
@@ -102,11 +102,11 @@ module _ (s : List ℕ) where
       go true f g = g (f tt)
       go false f g = h
 
-  skip-within : (at : ℕ) → at ≤ length s → skip s at ≤ length s
+  pub skip-within : (at : ℕ) → at ≤ length s → skip s at ≤ length s
   unfolding skip
   skip-within at h = blanks-within (length s) at h
 
-  next-within : (at : ℕ) → at < length s → next s at ≤ length s
+  pub next-within : (at : ℕ) → at < length s → next s at ≤ length s
   unfolding next
   next-within at h = skip-within (at + 1) (omega arith)
 

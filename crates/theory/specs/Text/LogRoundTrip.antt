@@ -239,7 +239,7 @@ module _ (names table : List ℕ) (t : T (goodTable table)) (good : T (goodNames
 -- ════ logs that were read from bytes
 
 -- the letters of steps, each step by itself
-steps-tested : (table : List ℕ) (ss : List Step) → testSteps table ss ≡ given tt → StepsTested table ss
+pub steps-tested : (table : List ℕ) (ss : List Step) → testSteps table ss ≡ given tt → StepsTested table ss
 unfolding testSteps
 steps-tested table [] e = tt
 steps-tested table (s ∷ ss) e = let w = tested (testStepLetters table s) (testSteps table ss) tt e in (w .0, steps-tested table ss (w .1))

@@ -1,12 +1,12 @@
 -- Words, blanks and marks at a position of a line. Assumes nothing.
 use mathlib.Core.Path.{_≡_, refl, sym, _∙_, ap}
-use mathlib.Core.Bool.{Bool, true, false, _&&_, _||_}
-use mathlib.Core.List.{List, _∷_}
-use Prim.Native.Nat.{ℕ, zero, suc, _+_, _<_}
+use mathlib.Core.Bool.{Bool, true, false, not, true≢false, _&&_, _||_}
+use mathlib.Core.List.{List, [], _∷_}
+use Prim.Native.Nat.{ℕ, zero, suc, _+_, _-_, _≤_, _<_}
 use native.Mathlib.Omega.{arith}
 use lib.ListN.{length, getD, take, drop, length-drop}
 use lib.Seq.{getD-drop}
-use lib.Dec.{eqb, leb}
+use lib.Dec.{T, eqb, leb, leb→le, nleb→lt}
 use borrow.Author.Tests.{le-leb, lt-leb, leb-true, leb-false, eq-eqb}
 use Rattle.specification.specs.Text.{placed, pastBlanks, skip, next}
 use Rattle.specification.specs.Lines.{sameBytes, isWordAt}
@@ -60,3 +60,36 @@ module _ (line : List ℕ) where
   pub mark-blank : (b a : ℕ) (l : List ℕ) → drop a line ≡ b ∷ 32 ∷ l → Sharp l → mark b line a ≡ placed (a + 1 + 1)
   unfolding next
   mark-blank b a l e h = mark-next b a (32 ∷ l) e ∙ ap placed (skip-blank (a + 1) l (stand-next line a b (32 ∷ l) e) h)
+
+-- ════ words that do not fit
+
+-- as many bytes, or others
+pub lengths-apart : (xs ys : List ℕ) → (length xs ≡ length ys → ⊥) → sameBytes xs ys ≡ false
+unfolding sameBytes
+lengths-apart [] [] n = absurd (n refl)
+lengths-apart [] (y ∷ ys) n = refl
+lengths-apart (x ∷ xs) [] n = refl
+lengths-apart (x ∷ xs) (y ∷ ys) n = ap (λ (b : Bool). eqb x y && b) (lengths-apart xs ys (λ e. n (ap suc e))) ∙ and-none (eqb x y)
+  where
+    and-none : (b : Bool) → (b && false) ≡ false
+    and-none true = refl
+    and-none false = refl
+
+module _ (word line : List ℕ) (at : ℕ) where
+  -- the line is too short
+  pub word-short : length line - at < length word → false ≡ isWordAt word line at
+  unfolding isWordAt
+  word-short h = rw (lengths-apart (take (length word) (drop at line)) word (λ e. omega (arith, e, short (length word) (drop at line), length-drop at line)))
+    where
+      short : (n : ℕ) (l : List ℕ) → length (take n l) ≤ length l
+      short zero l = omega arith
+      short (suc n) [] = omega arith
+      short (suc n) (x ∷ l) = omega (arith, short n l)
+
+  -- a word that stands ends in the line
+  pub word-within : 1 ≤ length word → isWordAt word line at ≡ true → at + length word ≤ length line
+  word-within h z = go (leb (length word) (length line - at)) (leb→le (length word) (length line - at)) (nleb→lt (length word) (length line - at))
+    where
+      go : (b : Bool) → (T b → length word ≤ length line - at) → (T (not b) → length line - at < length word) → at + length word ≤ length line
+      go true f g = let l = f tt in omega arith
+      go false f g = absurd (true≢false (sym z ∙ sym (word-short (g tt))))

@@ -16,7 +16,13 @@ unread-requires : tie.Need-unread-requires
 unread-requires c κs = search needs
 
 returns : tie.Need-returns
-returns c = name-unread (now (c .before .before .before .before .before .before .before .args .names)) (now (c .before .before .before .before .before .before .before .args .table)) (now (c .before .before .before .before .before .before .before .args .s)) (c .before .before .before .before .before .before .before .args .at) _ _ (c .before .before .before .byte-at .ensures) (c .before .before .place-of .ensures) _ _ _ (c .before .if1 .taken) (c .unread .ensures)
+returns c =
+    let c1 = c .before in
+    let c2 = c1 .before in
+    let c3 = c2 .before in
+    let c7 = c3 .before .before .before .before in
+    name-unread (now (c7 .args .names)) (now (c7 .args .table)) (now (c7 .args .s)) (c7 .args .at) _ _ (c3 .byte-at .ensures) (c2 .place-of .ensures) _ _ _
+    (c1 .if1 .taken) (c .unread .ensures)
 
 kind-of-requires : tie.Need-kind-of-requires
 kind-of-requires c κs = search needs
@@ -38,8 +44,14 @@ same-length-2 c = search needs
 
 returns-2 : tie.Need-returns-2
 returns-2 c =
-    name-read (now (c .before .before .before .before .before .before .before .before .before .before .before .before .before .args .names)) (now (c .before .before .before .before .before .before .before .before .before .before .before .before .before .args .table)) (now (c .before .before .before .before .before .before .before .before .before .before .before .before .before .args .s)) (c .before .before .before .before .before .before .before .before .before .before .before .before .before .args .at) _ _ (c .before .before .before .before .before .before .before .before .before .byte-at .ensures)
-    (c .before .before .before .before .before .before .before .before .place-of .ensures) _ _ _ _ _ (c .before .before .before .before .before .before .before .if1 .left) (c .before .before .before .before .before .before .kind-of .ensures) (c .before .before .before .letter .ensures) (c .behind .ensures)
+    let c3 = c .before .before .before in
+    let c6 = c3 .before .before .before in
+    let c7 = c6 .before in
+    let c8 = c7 .before in
+    let c9 = c8 .before in
+    let c13 = c9 .before .before .before .before in
+    name-read (now (c13 .args .names)) (now (c13 .args .table)) (now (c13 .args .s)) (c13 .args .at) _ _ (c9 .byte-at .ensures) (c8 .place-of .ensures) _ _ _ _
+    _ (c7 .if1 .left) (c6 .kind-of .ensures) (c3 .letter .ensures) (c .behind .ensures)
 
 pub name-at-spec : {M : Type 1} → statement M
 name-at-spec =

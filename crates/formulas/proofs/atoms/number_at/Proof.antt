@@ -26,7 +26,11 @@ same-length-2 : tie.Need-same-length-2
 same-length-2 c = search needs
 
 returns : tie.Need-returns
-returns c = number-read (now (c .before .before .before .before .before .before .before .before .before .args .s)) (c .before .before .before .before .before .before .before .before .before .args .at) _ (c .before .before .before .before .before .before .before .read-digits .ensures) _ _ _ _ (c .before .before .before .constant .ensures) (c .past-blanks .ensures)
+returns c =
+    let c3 = c .before .before .before in
+    let c7 = c3 .before .before .before .before in
+    let c9 = c7 .before .before in
+    number-read (now (c9 .args .s)) (c9 .args .at) _ (c7 .read-digits .ensures) _ _ _ _ (c3 .constant .ensures) (c .past-blanks .ensures)
 
 pub number-at-spec : {M : Type 1} → statement M
 number-at-spec =

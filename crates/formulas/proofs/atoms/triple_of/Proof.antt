@@ -17,7 +17,11 @@ same-length-2 : tie.Need-same-length-2
 same-length-2 c = search needs
 
 returns : tie.Need-returns
-returns c = let p = c .before .before .before .before .before .before .before .before .before .before .pre in triple-worked _ _ _ _ _ _ _ _ _ _ _ _ _ _ _ (p .0) (p .1) (p .2) (c .before .before .before .triple .ensures) (c .behind .ensures)
+returns c =
+    let c3 = c .before .before .before in
+    let c10 = c3 .before .before .before .before .before .before .before in
+    let p = c10 .pre in
+    triple-worked _ _ _ _ _ _ _ _ _ _ _ _ _ _ _ (p .0) (p .1) (p .2) (c3 .triple .ensures) (c .behind .ensures)
 
 pub triple-of-spec : {M : Type 1} → statement M
 triple-of-spec =

@@ -20,7 +20,13 @@ same-length : tie.Need-same-length
 same-length c = search needs
 
 returns-4 : tie.Need-returns-4
-returns-4 c = front-turned _ _ _ _ _ (c .before .before .before .before .before .before .before .before .pre) _ (c .before .before .before .before .before .before .before .if1 .left) (c .before .before .before .before .before .before .if2 .left) (c .before .before .before .if3 .left) (c .before .negate .ensures) (c .before .negate .kept .0)
+returns-4 c =
+    let c1 = c .before in
+    let c3 = c1 .before .before in
+    let c6 = c3 .before .before .before in
+    let c7 = c6 .before in
+    let c8 = c7 .before in
+    front-turned _ _ _ _ _ (c8 .pre) _ (c7 .if1 .left) (c6 .if2 .left) (c3 .if3 .left) (c1 .negate .ensures) (c1 .negate .kept .0)
 
 pub front-spec : {M : Type 1} → statement M
 front-spec = tie.close (tie.spec returns returns-2 returns-3 negate-requires same-length returns-4)

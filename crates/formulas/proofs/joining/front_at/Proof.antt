@@ -16,14 +16,28 @@ is-sign-requires : tie.Need-is-sign-requires
 is-sign-requires c κs = search needs
 
 returns-2 : tie.Need-returns-2
-returns-2 c = front-none (now (c .before .before .before .before .before .args .s)) (c .before .before .before .before .before .args .at) _ _ _ (c .before .before .before .if1 .left) (c .before .before .byte-at .ensures) (c .before .is-sign .ensures) (not-true _ (c .if2 .taken))
+returns-2 c =
+    let c1 = c .before in
+    let c2 = c1 .before in
+    let c3 = c2 .before in
+    let c5 = c3 .before .before in
+    front-none (now (c5 .args .s)) (c5 .args .at) _ _ _ (c3 .if1 .left) (c2 .byte-at .ensures) (c1 .is-sign .ensures) (not-true _ (c .if2 .taken))
 
 behind-requires : tie.Need-behind-requires
-behind-requires c κs = sign-inside (now (c .before .before .before .before .before .args .s)) (c .before .before .before .before .before .args .at) _ _ (c .before .before .byte-at .ensures) (c .before .is-sign .ensures) (not-false _ (c .if2 .left))
+behind-requires c κs =
+    let c1 = c .before in
+    let c2 = c1 .before in
+    let c5 = c2 .before .before .before in
+    sign-inside (now (c5 .args .s)) (c5 .args .at) _ _ (c2 .byte-at .ensures) (c1 .is-sign .ensures) (not-false _ (c .if2 .left))
 
 returns-3 : tie.Need-returns-3
 returns-3 c =
-    front-sign (now (c .before .before .before .before .before .before .args .s)) (c .before .before .before .before .before .before .args .at) _ _ _ (c .before .before .before .before .if1 .left) (c .before .before .before .byte-at .ensures) (c .before .before .is-sign .ensures) _ (not-false _ (c .before .if2 .left))
+    let c1 = c .before in
+    let c2 = c1 .before in
+    let c3 = c2 .before in
+    let c4 = c3 .before in
+    let c6 = c4 .before .before in
+    front-sign (now (c6 .args .s)) (c6 .args .at) _ _ _ (c4 .if1 .left) (c3 .byte-at .ensures) (c2 .is-sign .ensures) _ (not-false _ (c1 .if2 .left))
     (c .behind .ensures)
 
 pub front-at-spec : {M : Type 1} → statement M

@@ -15,13 +15,22 @@ byte-at-requires : tie.Need-byte-at-requires
 byte-at-requires c κs = search needs
 
 returns-2 : tie.Need-returns-2
-returns-2 c = operand-beside (now (c .before .before .before .before .args .s)) (c .before .before .before .before .args .at) _ _ (c .before .before .if1 .left) (c .before .byte-at .ensures) (c .if2 .taken)
+returns-2 c =
+    let c1 = c .before in
+    let c2 = c1 .before in
+    let c4 = c2 .before .before in
+    operand-beside (now (c4 .args .s)) (c4 .args .at) _ _ (c2 .if1 .left) (c1 .byte-at .ensures) (c .if2 .taken)
 
 behind-requires-2 : tie.Need-behind-requires-2
 behind-requires-2 c κs = on-inside (now (c .before .before .before .before .args .s)) (c .before .before .before .before .args .at) _ (c .before .before .before .before .pre)
 
 returns-3 : tie.Need-returns-3
-returns-3 c = operand-star (now (c .before .before .before .before .before .args .s)) (c .before .before .before .before .before .args .at) _ _ _ (c .before .before .before .if1 .left) (c .before .before .byte-at .ensures) (c .before .if2 .left) (c .behind2 .ensures)
+returns-3 c =
+    let c1 = c .before in
+    let c2 = c1 .before in
+    let c3 = c2 .before in
+    let c5 = c3 .before .before in
+    operand-star (now (c5 .args .s)) (c5 .args .at) _ _ _ (c3 .if1 .left) (c2 .byte-at .ensures) (c1 .if2 .left) (c .behind2 .ensures)
 
 pub operand-at-spec : {M : Type 1} → statement M
 operand-at-spec =

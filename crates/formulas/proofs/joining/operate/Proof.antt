@@ -62,7 +62,13 @@ same-length-12 : tie.Need-same-length-12
 same-length-12 c = search needs
 
 returns-4 : tie.Need-returns-4
-returns-4 c = operates-minus _ _ _ _ _ _ _ (c .before .before .before .before .before .before .before .before .before .before .if1 .left) (c .before .before .before .before .before .before .before .before .before .if2 .left) (c .before .before .before .before .before .before .before .before .if3 .left) (c .before .before .before .before .before .before .before .if4 .taken) (c .before .before .before .difference .ensures)
+returns-4 c =
+    let c3 = c .before .before .before in
+    let c7 = c3 .before .before .before .before in
+    let c8 = c7 .before in
+    let c9 = c8 .before in
+    let c10 = c9 .before in
+    operates-minus _ _ _ _ _ _ _ (c10 .if1 .left) (c9 .if2 .left) (c8 .if3 .left) (c7 .if4 .taken) (c3 .difference .ensures)
 
 sum-requires : tie.Need-sum-requires
 sum-requires c κs = search needs
@@ -77,7 +83,13 @@ same-length-15 : tie.Need-same-length-15
 same-length-15 c = search needs
 
 returns-5 : tie.Need-returns-5
-returns-5 c = operates-plus _ _ _ _ _ _ _ (c .before .before .before .before .before .before .before .before .before .if1 .left) (c .before .before .before .before .before .before .before .before .if2 .left) (c .before .before .before .before .before .before .before .if3 .left) (c .before .before .before .before .before .before .if4 .left) (c .before .before .sum .ensures)
+returns-5 c =
+    let c2 = c .before .before in
+    let c6 = c2 .before .before .before .before in
+    let c7 = c6 .before in
+    let c8 = c7 .before in
+    let c9 = c8 .before in
+    operates-plus _ _ _ _ _ _ _ (c9 .if1 .left) (c8 .if2 .left) (c7 .if3 .left) (c6 .if4 .left) (c2 .sum .ensures)
 
 pub operate-spec : {M : Type 1} → statement M
 operate-spec =

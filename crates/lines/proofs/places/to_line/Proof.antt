@@ -26,7 +26,13 @@ stands-empty-requires : tie.Need-stands-empty-requires Inv-loop μ-loop
 stands-empty-requires c κs = c .before .before .before .loop .inv .inside
 
 returns-2 : tie.Need-returns-2 Inv-loop μ-loop
-returns-2 c = passing-stands (now (c .before .before .before .before .before .before .before .before .args .s)) _ _ _ (c .before .before .before .before .before .loop .inv) (c .before .before .before .before .loop-test .taken) (c .before .before .if1 .left) _ (c .before .stands-empty .ensures) (not-true _ (c .if2 .taken))
+returns-2 c =
+    let c1 = c .before in
+    let c2 = c1 .before in
+    let c4 = c2 .before .before in
+    let c5 = c4 .before in
+    let c8 = c5 .before .before .before in
+    passing-stands (now (c8 .args .s)) _ _ _ (c5 .loop .inv) (c4 .loop-test .taken) (c2 .if1 .left) _ (c1 .stands-empty .ensures) (not-true _ (c .if2 .taken))
 
 next-place-requires : tie.Need-next-place-requires Inv-loop μ-loop
 next-place-requires c κs = (c .before .before .before .before .before .loop .inv .inside, c .before .before .if1 .left)
@@ -38,7 +44,15 @@ loop-less : tie.Need-loop-less Inv-loop μ-loop
 loop-less c = omega (arith, c .before .before .before .before .before .loop-test .taken)
 
 loop-again : tie.Need-loop-again Inv-loop μ-loop
-loop-again c = passing-on (now (c .before .before .before .before .before .before .before .before .before .args .s)) _ _ _ (c .before .before .before .before .before .before .loop .inv) (c .before .before .before .before .before .loop-test .taken) (c .before .before .before .if1 .left) _ (c .before .before .stands-empty .ensures) _ (not-false _ (c .before .if2 .left)) (c .next-place .ensures)
+loop-again c =
+    let c1 = c .before in
+    let c2 = c1 .before in
+    let c3 = c2 .before in
+    let c5 = c3 .before .before in
+    let c6 = c5 .before in
+    let c9 = c6 .before .before .before in
+    passing-on (now (c9 .args .s)) _ _ _ (c6 .loop .inv) (c5 .loop-test .taken) (c3 .if1 .left) _ (c2 .stands-empty .ensures) _ (not-false _ (c1 .if2 .left))
+    (c .next-place .ensures)
 
 returns-3 : tie.Need-returns-3 Inv-loop μ-loop
 returns-3 c = passing-done _ _ _ _ (c .before .loop .inv) (c .loop-test .left)

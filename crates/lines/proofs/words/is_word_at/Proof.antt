@@ -2,7 +2,8 @@
 use denote.Ref.{now}
 use borrow.Author.Tests.{not-true, not-false}
 use native.Mathlib.Omega.{arith}
-use Rattle.lines.proofs.Bytes.{word-short, word-other, word-last, word-followed}
+use Rattle.theory.specs.Text.Words.{word-short}
+use Rattle.lines.proofs.Bytes.{word-other, word-last, word-followed}
 use borrow.Author.Needs.{needs}
 use Rattle.lines.proofs.words.is_word_at.Statement.{statement}
 use Rattle.lines.proofs.words.is_word_at.Tie as tie

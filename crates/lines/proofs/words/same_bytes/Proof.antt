@@ -2,7 +2,8 @@
 use mathlib.Core.Path.{sym, _∙_}
 use native.Mathlib.Omega.{arith}
 use borrow.Author.Needs.{needs}
-use Rattle.lines.proofs.Bytes.{lengths-apart, same-whole}
+use Rattle.theory.specs.Text.Words.{lengths-apart}
+use Rattle.lines.proofs.Bytes.{same-whole}
 use Rattle.lines.proofs.words.same_bytes.Statement.{statement}
 use Rattle.lines.proofs.words.same_bytes.Tie as tie
 

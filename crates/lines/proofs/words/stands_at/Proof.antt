@@ -37,7 +37,11 @@ loop-less : tie.Need-loop-less Inv-loop μ-loop
 loop-less c = omega arith
 
 loop-again : tie.Need-loop-again Inv-loop μ-loop
-loop-again c = byte-same (now (c .before .before .before .before .before .args .word)) (now (c .before .before .before .before .before .args .line)) (c .before .before .before .before .before .args .at) (c .before .before .before .before .before .pre) _ (c .before .before .before .before .loop .inv) (c .before .before .before .loop-test .taken) (c .if1 .left)
+loop-again c =
+    let c3 = c .before .before .before in
+    let c4 = c3 .before in
+    let c5 = c4 .before in
+    byte-same (now (c5 .args .word)) (now (c5 .args .line)) (c5 .args .at) (c5 .pre) _ (c4 .loop .inv) (c3 .loop-test .taken) (c .if1 .left)
 
 returns-2 : tie.Need-returns-2 Inv-loop μ-loop
 returns-2 c = bytes-same _ _ _ (c .before .before .pre) _ (c .before .loop .inv) (c .loop-test .left)

@@ -1,11 +1,13 @@
 -- `log_texts::kinds::read_form_line` meets its contract, by its first word. Assumes nothing.
+use mathlib.Core.Path.{sym, _∙_}
 use Prim.Native.Nat.{_+_}
 use native.Mathlib.Omega.{arith}
 use borrow.Author.Needs.{needs}
 use denote.Ref.{now}
 use Rattle.specification.specs.Words.{bytes}
 use Rattle.log_texts.proofs.Told.{line-vector, line-scalar, line-torn}
-use Rattle.log_texts.proofs.Within.{skip-within, word-within}
+use Rattle.theory.specs.Text.Bounds.{skip-within}
+use Rattle.theory.specs.Text.Words.{word-within}
 use Rattle.log_texts.proofs.kinds.read_form_line.Statement.{statement}
 use Rattle.log_texts.proofs.kinds.read_form_line.Tie as tie
 
@@ -36,7 +38,7 @@ kind-at-requires c κs =
     let c4 = c2 .before .before in
     let c8 = c4 .before .before .before .before in
     let l = now (c8 .args .line) in
-    let h = word-within l (bytes "vector") (c4 .past-blanks .result) _ (omega arith) (c2 .is-word-at .ensures) (c1 .if1 .taken) in
+    let h = word-within (bytes "vector") l (c4 .past-blanks .result) (omega arith) (sym (c2 .is-word-at .ensures) ∙ c1 .if1 .taken) in
     (c8 .pre, omega (arith, c .past-blanks2 .ensures, skip-within l (c4 .past-blanks .result + 6) h), omega arith)
 
 returns : tie.Need-returns
@@ -75,7 +77,7 @@ kind-at-requires-2 c κs =
     let c7 = c2 .before .before .before .before .before in
     let c11 = c7 .before .before .before .before in
     let l = now (c11 .args .line) in
-    let h = word-within l (bytes "scalar") (c7 .past-blanks .result) _ (omega arith) (c2 .is-word-at2 .ensures) (c1 .if2 .taken) in
+    let h = word-within (bytes "scalar") l (c7 .past-blanks .result) (omega arith) (sym (c2 .is-word-at2 .ensures) ∙ c1 .if2 .taken) in
     (c11 .pre, omega (arith, c .past-blanks3 .ensures, skip-within l (c7 .past-blanks .result + 6) h), omega arith)
 
 returns-2 : tie.Need-returns-2

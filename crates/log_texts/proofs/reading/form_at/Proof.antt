@@ -4,7 +4,7 @@ use borrow.Author.Needs.{needs}
 use denote.Ref.{now}
 use Rattle.specification.specs.LogTexts.{readFormLine}
 use Rattle.lines.proofs.Ends.{line-at}
-use Rattle.log_texts.proofs.Told.{gives-as}
+use Rattle.formula_call.proofs.Given.{gives-as}
 use Rattle.log_texts.proofs.reading.form_at.Statement.{statement}
 use Rattle.log_texts.proofs.reading.form_at.Tie as tie
 

@@ -3,7 +3,7 @@ use native.Mathlib.Omega.{arith}
 use borrow.Author.Needs.{needs}
 use denote.Ref.{now}
 use Rattle.log_texts.proofs.StepLines.{rule-below, rule-above, rule-inside, rule-torn, rule-read}
-use Rattle.log_texts.proofs.Within.{skip-within}
+use Rattle.theory.specs.Text.Bounds.{skip-within}
 use Rattle.log_texts.proofs.steps.read_rule.Statement.{statement}
 use Rattle.log_texts.proofs.steps.read_rule.Tie as tie
 
