@@ -12,53 +12,46 @@ use Rattle.command.proofs.command.Reads as command-reads
 use Rattle.io.proofs.large_buffer.Reads as large-buffer-reads
 use Rattle.io.proofs.write_all.Reads as write-all-reads
 
--- src/main.rt:10:19
 large-buffer-requires : tie.Need-large-buffer-requires
 large-buffer-requires c κs = search needs
 
--- src/main.rt:11:49
 slice-aggregate-command : tie.Need-slice-aggregate-command
 slice-aggregate-command c = search needs
 
--- src/main.rt:11:32
 command-requires : tie.Need-command-requires
 command-requires c κs = search needs
 
--- src/main.rt:11:27
 enum-known-n : tie.Need-enum-known-n
 enum-known-n c = search needs
 
--- src/main.rt:14:13
 enum-told : tie.Need-enum-told
 enum-told c = search needs
 
--- src/main.rt:14:13
 slice-aggregate-write-all : tie.Need-slice-aggregate-write-all
 slice-aggregate-write-all c = search needs
 
--- src/main.rt:12:9
 write-all-requires : tie.Need-write-all-requires
 write-all-requires c κs = search needs
 
--- src/main.rt:16:9
 returns : tie.Need-returns
 returns c = search needs
 
--- src/main.rt:18:34
 array-share-prefix-out : tie.Need-array-share-prefix-out
 array-share-prefix-out c =
-    omega (arith, answered-inside _ _ _ _ _ _ (c .before .before .before .before .command .ensures) (c .before .n .given .1), (c .before .before .before .before .command .kept .1 .1 .0), (c .before .before .before .before .before .before .large-buffer .ensures))
+    omega (
+      arith,
+      answered-inside _ _ _ _ _ _ (c .before .before .before .before .command .ensures) (c .before .n .given .1),
+      (c .before .before .before .before .command .kept .1 .1 .0),
+      (c .before .before .before .before .before .before .large-buffer .ensures),
+    )
 
--- src/main.rt:18:34
 slice-aggregate-write-all-2 : tie.Need-slice-aggregate-write-all-2
 slice-aggregate-write-all-2 c =
     sym (length-take-le _ _ (answered-inside _ _ _ _ _ _ (c .before .before .before .before .before .command .ensures) (c .before .before .n .given .1)))
 
--- src/main.rt:18:5
 write-all-requires-2 : tie.Need-write-all-requires-2
 write-all-requires-2 c κs = search needs
 
--- src/main.rt:9:1
 returns-2 : tie.Need-returns-2
 returns-2 c = search needs
 

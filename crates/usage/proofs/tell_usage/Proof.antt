@@ -88,7 +88,8 @@ returns c =
     let c37 = c32 .before .before .before .before .before in
     let c42 = c37 .before .before .before .before .before in
     told-first
-    (tells-then (tells-then (tells-then (tells-then (tells-then (tells-then (tells-then (tells-then (c42 .put .ensures) (c37 .put2 .ensures)) (c32 .put3 .ensures)) (c27 .put4 .ensures)) (c22 .put5 .ensures)) (c17 .put6 .ensures)) (c12 .put7 .ensures)) (c7 .put8 .ensures)) (c2 .put9 .ensures))
+    (tells-then (tells-then (tells-then (tells-then (tells-then (tells-then (tells-then (tells-then (c42 .put .ensures) (c37 .put2 .ensures))
+    (c32 .put3 .ensures)) (c27 .put4 .ensures)) (c22 .put5 .ensures)) (c17 .put6 .ensures)) (c12 .put7 .ensures)) (c7 .put8 .ensures)) (c2 .put9 .ensures))
 
 pub tell-usage-spec : {M : Type 1} → statement M
 tell-usage-spec =

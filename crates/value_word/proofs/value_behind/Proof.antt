@@ -106,8 +106,11 @@ form-value-requires c κs =
     let c11 = c9 .before .before in
     let c12 = c11 .before in
     let c14 = c12 .before .before in
-    let c20 = c14 .before .before .before .before .before .before in
-    (assigned-small (now (c20 .args .s)) (now (c20 .args .names)) (now (c20 .args .table)) _ (c11 .line-behind .result) _ (c9 .assigned-at .ensures) (c5 .if2 .left), (c14 .form-at .ensures .valid) (c12 .if1 .left))
+    let c20 = c14 .before .before .before .before .before .before in (
+      assigned-small (now (c20 .args .s)) (now (c20 .args .names)) (now (c20 .args .table)) _ (c11 .line-behind .result) _ (c9 .assigned-at .ensures)
+          (c5 .if2 .left),
+      (c14 .form-at .ensures .valid) (c12 .if1 .left),
+    )
 
 tell-value-requires : tie.Need-tell-value-requires
 tell-value-requires c κs =

@@ -66,8 +66,12 @@ slice-aggregate-value-behind-3 c =
 value-behind-requires : tie.Need-value-behind-requires
 value-behind-requires c κs =
     let c4 = c .before .before .before .before in
-    let c9 = c4 .before .before .before .before .before in
-    (header-table _ _ _ _ (c9 .read-header .ensures) (c4 .if1 .left), (c9 .read-header .ensures .inside), numbers-fit _ _ ((c9 .read-header .ensures .few) (c4 .if1 .left)) (c9 .read-header .kept .1 .1 .0))
+    let c9 = c4 .before .before .before .before .before in (
+      header-table _ _ _ _ (c9 .read-header .ensures) (c4 .if1 .left),
+      (c9 .read-header .ensures .inside),
+      numbers-fit _ _ ((c9 .read-header .ensures .few)
+          (c4 .if1 .left)) (c9 .read-header .kept .1 .1 .0),
+    )
 
 same-length-2 : tie.Need-same-length-2
 same-length-2 c = search needs

@@ -59,7 +59,8 @@ returns c =
     let c26 = c21 .before .before .before .before .before in
     let c31 = c26 .before .before .before .before .before in
     told-first
-    (tells-then (tells-then (tells-then (tells-then (tells-then (tells-then (c31 .put .ensures) (c26 .tell-count .ensures)) (c21 .put2 .ensures)) (c16 .tell-count2 .ensures)) (c11 .put3 .ensures)) (c7 .put-number .ensures)) (c2 .put4 .ensures))
+    (tells-then (tells-then (tells-then (tells-then (tells-then (tells-then (c31 .put .ensures) (c26 .tell-count .ensures)) (c21 .put2 .ensures))
+    (c16 .tell-count2 .ensures)) (c11 .put3 .ensures)) (c7 .put-number .ensures)) (c2 .put4 .ensures))
 
 pub tell-accepted-spec : {M : Type 1} → statement M
 tell-accepted-spec =

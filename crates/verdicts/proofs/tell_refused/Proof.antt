@@ -53,7 +53,8 @@ returns c =
     let c25 = c20 .before .before .before .before .before in
     let c29 = c25 .before .before .before .before in
     told-first
-    (tells-then (tells-then (tells-then (tells-then (tells-then (tells-then (c29 .put .ensures) (c25 .put-number .ensures)) (c20 .put2 .ensures)) (c16 .put-number2 .ensures)) (c11 .put3 .ensures)) (c7 .tell-step-reason .ensures)) (c2 .put4 .ensures))
+    (tells-then (tells-then (tells-then (tells-then (tells-then (tells-then (c29 .put .ensures) (c25 .put-number .ensures)) (c20 .put2 .ensures))
+    (c16 .put-number2 .ensures)) (c11 .put3 .ensures)) (c7 .tell-step-reason .ensures)) (c2 .put4 .ensures))
 
 pub tell-refused-spec : {M : Type 1} → statement M
 tell-refused-spec =
