@@ -102,8 +102,13 @@ loop-again c =
     let c13 = c12 .before in
     let c14 = c13 .before in
     let c19 = c14 .before .before .before .before .before in
-    let i = c14 .loop .inv in
-    (header-more (now (c19 .args .s)) _ _ _ _ _ (omega (arith, c19 .pre .0, i .1)) (i .0) (c13 .loop-test .taken) _ (c12 .declares .ensures) (not-false _ (c11 .if1 .left)) _ _ _ (c8 .declare-at .ensures) _ (c2 .if2 .left) (to-next _ _ _ _ (c1 .next-place .ensures) (c .to-line2 .ensures)), c8 .declare-at .kept .1 .1 .0 ∙ i .1, c8 .declare-at .kept .1 .1 .1 .0 ∙ i .2)
+    let i = c14 .loop .inv in (
+      header-more (now (c19 .args .s)) _ _ _ _ _ (omega (arith, c19 .pre .0, i .1)) (i .0) (c13 .loop-test .taken) _ (c12 .declares .ensures) (not-false _
+          (c11 .if1 .left)) _ _ _ (c8 .declare-at .ensures) _ (c2 .if2 .left) (to-next _ _ _ _ (c1 .next-place .ensures)
+          (c .to-line2 .ensures)),
+      c8 .declare-at .kept .1 .1 .0 ∙ i .1,
+      c8 .declare-at .kept .1 .1 .1 .0 ∙ i .2,
+    )
 
 some-names-requires-2 : tie.Need-some-names-requires-2 Inv-loop μ-loop
 some-names-requires-2 c κs = tt

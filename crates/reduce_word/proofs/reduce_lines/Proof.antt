@@ -70,8 +70,11 @@ loop-again c =
     let c11 = c9 .before .before in
     let c12 = c11 .before in
     let c17 = c12 .before .before .before .before .before in
-    let i = (c12 .loop .inv) in
-    (lines-more (now ((c17) .args .s)) _ _ _ _ _ _ _ (i .0) (c11 .loop-test .taken) (c9 .if1 .left) _ (c8 .form-at .ensures) _ _ _ (c6 .if2 .left) (c3 .tell-form .ensures) (c .line-behind .ensures), (c3 .tell-form .kept .1 .0) ∙ i .1)
+    let i = (c12 .loop .inv) in (
+      lines-more (now ((c17) .args .s)) _ _ _ _ _ _ _ (i .0) (c11 .loop-test .taken) (c9 .if1 .left) _ (c8 .form-at .ensures) _ _ _ (c6 .if2 .left)
+          (c3 .tell-form .ensures) (c .line-behind .ensures),
+      (c3 .tell-form .kept .1 .0) ∙ i .1,
+    )
 
 same-length-3 : tie.Need-same-length-3 Inv-loop μ-loop
 same-length-3 c = c .before .loop .inv .1

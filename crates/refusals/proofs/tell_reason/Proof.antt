@@ -176,7 +176,8 @@ returns-12 c =
     let c14 = c13 .before in
     let c15 = c14 .before in
     tells-as _
-    (reason-else _ (c15 .if1 .left) (c14 .if2 .left) (c13 .if3 .left) (c12 .if4 .left) (c11 .if5 .left) (c10 .if6 .left) (c9 .if7 .left) (c8 .if8 .left) (c7 .if9 .left) (c6 .if10 .left) (c5 .if11 .left))
+    (reason-else _ (c15 .if1 .left) (c14 .if2 .left) (c13 .if3 .left) (c12 .if4 .left) (c11 .if5 .left) (c10 .if6 .left) (c9 .if7 .left) (c8 .if8 .left)
+    (c7 .if9 .left) (c6 .if10 .left) (c5 .if11 .left))
     (c2 .put12 .ensures)
 
 pub tell-reason-spec : {M : Type 1} → statement M
