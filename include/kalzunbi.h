@@ -9,10 +9,10 @@
  *   pointer is not to const. No pointer is NULL, one with the length 0 neither. Any length may be passed.
  * - Memory that a call writes does not overlap any other memory of that call. Memory that it only reads may.
  * - Bytes need no alignment; an int64_t has its own, 8.
- * - Memory is lent for the time of the call. Nothing is kept: there is no state, no heap and no file, so threads may call at the same time as long as
- *   none writes what another reads.
- * - The calling thread has 32 kB of its stack left for a value, a decision or a printing, 64 kB for a check, an insertion, a shortening or an audit,
- *   128 kB for a reduction, 256 kB for the reading of a text.
+ * - Memory is lent for the time of the call. Nothing is kept: there is no heap and no file, and the state of a log that stays open is bytes that the caller
+ *   holds. So threads may call at the same time as long as none writes what another reads.
+ * - The calling thread has 32 kB of its stack left for a value, a decision or a printing, 64 kB for a check, an open log, an insertion, a shortening or an
+ *   audit, 128 kB for a reduction, 256 kB for the reading of a text.
  *
  * An example, a program as it stands. tests/c_calls.sh compiles and runs it.
  *
@@ -69,8 +69,8 @@
 extern "C" {
 #endif
 
-/* The refusals, and by whose doing. 1 comes first, then 2, then contents. A refused call leaves all memory as it was; only the column of a refused text is
- * written. */
+/* The refusals, and by whose doing. 1 comes first, then 2, then contents; of the calls on an open log the state comes before all else, with 11. A refused call
+ * leaves all memory as it was; only the column of a refused text is written. */
 enum kalzunbi_refusal {
     /* the caller */
     KALZUNBI_REFUSED_TABLE = 1,       /* a table of 0 or over 24 bytes, or a byte above 1; names that are not one for each of its letters, that are no
@@ -95,8 +95,9 @@ enum kalzunbi_refusal {
     KALZUNBI_REFUSED_MANY_TERMS = 10,  /* more than 48 terms */
 
     /* the sender of the form or log */
-    KALZUNBI_REFUSED_SHAPE = 11,    /* bytes that are not the one record of a form or log */
-    KALZUNBI_REFUSED_LAST_FORM = 13 /* a log's last form that is not the one its steps reach */
+    KALZUNBI_REFUSED_SHAPE = 11,     /* bytes that are not the one record of a form, a log, a step, or of an open log's state */
+    KALZUNBI_REFUSED_LAST_FORM = 13, /* a log's last form that is not the one its steps reach */
+    KALZUNBI_REFUSED_MANY_STEPS = 14 /* a 65th step for an open log */
 };
 
 /* the first byte of each part of an expression */
@@ -223,6 +224,55 @@ int64_t kalzunbi_insert(const uint8_t *table, size_t table_length, const uint8_t
  * Returns 0 for accepted, or minus (256 times the number of the refusal plus the step), where the step is 0 for the first form and steps + 1 for the last:
  * -256 and -512 for 1 and 2, -2816 for 11; then 5 or 6, the first letter in byte order; then step by step 6, 8, 9 or 10; then 13. */
 int64_t kalzunbi_check(const uint8_t *table, size_t table_length, const uint8_t *log, size_t log_length, uint64_t *places, size_t places_length);
+
+/* bytes that the state of any open log fits into, and the least that a call which gives a state takes */
+#define KALZUNBI_STATE 796
+
+/* A log that stays open, to be written step by step: a state goes into each call and the next one comes out, as bytes. They are the table's length, the table,
+ * the number of steps taken and the record of the form reached, and no more. A state that no call gave is taken where it breaks no rule, and refused with 11
+ * before all else where it does: a bad table, more than 64 steps, a form out of shape or with a letter that the table has not or of the wrong kind, bytes
+ * missing or left over. A refused call leaves the log open as it was. Closing is accepted exactly when the check call accepts the first form, the number of
+ * steps, the steps taken and the last form, one behind the other.
+ *
+ * Opens a log with a table and a first form.
+ *
+ * table: as above. form: the record of a form.
+ * state: at least 796 bytes. The state becomes their beginning; the bytes after it stand.
+ *
+ * Returns the length of the state, or -1, -2, -11, then -5 or -6. */
+int64_t kalzunbi_open(const uint8_t *table, size_t table_length, const uint8_t *form, size_t form_length, uint8_t *state, size_t state_length);
+
+/* Adds a step to an open log.
+ *
+ * state: the state of an open log. step: a rule's number 1 to 5, its letters, and the record of a term, as in a log, and no more.
+ * next: at least 796 bytes, others than the state's. The next state becomes their beginning; the bytes after it stand.
+ *
+ * Returns the length of the next state, or -11 for the state, -2, -14 for a 65th step, whatever it is, -11 for the step, then -5 or -6, the first letter in
+ * byte order, then -6, -8, -9 or -10 at the form reached. */
+int64_t kalzunbi_add(const uint8_t *state, size_t state_length, const uint8_t *step, size_t step_length, uint8_t *next, size_t next_length);
+
+/* The form that an open log has reached.
+ *
+ * state: as above. out: at least 770 bytes. The form's record becomes their beginning; the bytes after it stand.
+ *
+ * Returns the length of the record, or -11, -2. */
+int64_t kalzunbi_look(const uint8_t *state, size_t state_length, uint8_t *out, size_t out_length);
+
+/* Whether the form that an open log has reached, and another, are equal under every assignment of integers.
+ *
+ * state: as above. form: the record of a form of the same kind.
+ * buffer, work: as for the decision; the form reached is the first of the two.
+ *
+ * Returns 0 where they are equal, 1 where they differ, or -11 for the state, -2, -11 for the form, then -5 or -6. */
+int64_t kalzunbi_decide_open(const uint8_t *state, size_t state_length, const uint8_t *form, size_t form_length, uint8_t *buffer, size_t buffer_length,
+                             uint8_t *work, size_t work_length);
+
+/* Closes an open log with a last form, which has to be the form reached: not one of the same value alone. Nothing is written.
+ *
+ * state: as above. form: the record of a form.
+ *
+ * Returns 0 where it is accepted, or -11 for the state, -11 for the form, then -5 or -6, then -13 for another form. */
+int64_t kalzunbi_close(const uint8_t *state, size_t state_length, const uint8_t *form, size_t form_length);
 
 /* bytes of the memory that shortening takes at least */
 #define KALZUNBI_LOG 2309

@@ -1,5 +1,5 @@
-/* Nanoseconds a call, through the calls for C: one line for each measure of tests/benchmark.gp, in its order, then insertion, the check of logs,
- * shortening and text, which it has not. The logs are in logs.h, which tests/check_cases.py --header prints, the forms to decide in forms.h, which
+/* Nanoseconds a call, through the calls for C: one line for each measure of tests/benchmark.gp, in its order, then insertion, the check of logs, open
+ * logs, shortening and text, which it has not. The logs are in logs.h, which tests/check_cases.py --header prints, the forms to decide in forms.h, which
  * tests/decision_cases.py --header prints, those to shorten in shortening.h, which tests/shortening_cases.py --header prints. */
 #define _POSIX_C_SOURCE 199309L
 #include "kalzunbi.h"
@@ -9,6 +9,7 @@
 
 #include <stdio.h>
 #include <stdlib.h>
+#include <string.h>
 #include <time.h>
 
 /* a to l are vectors, m to x scalars */
@@ -94,6 +95,34 @@ static void measure_shortening(const char *what, const uint8_t *letters, size_t 
     double nanoseconds = now() - since;
     returned = returned < 0 ? returned : kalzunbi_check(letters, letters_length, written, (size_t)returned, places, 3);
     report(what, returned < 0 ? returned : written[places[1] + 1], expected, now() - nanoseconds, count);
+}
+
+/* a log opened at the first form of the longest one, 48 terms; its first step added; looked at; closed; and the check of the log of that one step */
+static void measure_open_log(int count)
+{
+    static uint8_t state[KALZUNBI_STATE], next[KALZUNBI_STATE], one_step[KALZUNBI_LOG_MAX];
+    const size_t first = 770, step = 16;
+    int64_t length = 0, added = 0, reached = 0, closed = 0;
+    double since = now();
+    for (int i = 0; i < count; i++)
+        length = kalzunbi_open(longest_table, sizeof longest_table, longest_log, first, state, sizeof state);
+    report("opening of a log at 48 terms", length, 781, since, count);
+    since = now();
+    for (int i = 0; i < count; i++)
+        added = kalzunbi_add(state, (size_t)length, longest_log + first + 1, step, next, sizeof next);
+    report("a step added to an open log at 48 terms, which leaves 44", added, 717, since, count);
+    since = now();
+    for (int i = 0; i < count; i++)
+        reached = kalzunbi_look(next, (size_t)added, out, sizeof out);
+    report("an open log looked at, 44 terms", reached, 706, since, count);
+    since = now();
+    for (int i = 0; i < count; i++)
+        closed = kalzunbi_close(next, (size_t)added, out, (size_t)reached);
+    report("an open log closed at 44 terms", closed, 0, since, count);
+    memcpy(one_step, longest_log, first + 1 + step);
+    one_step[first] = 1;
+    memcpy(one_step + first + 1 + step, out, (size_t)reached);
+    measure_check("check of the log of that one step", longest_table, sizeof longest_table, one_step, first + 1 + step + (size_t)reached, count);
 }
 
 /* the sum of so many letters, from the first on, each added to the sum of those before */
@@ -196,6 +225,8 @@ int main(void)
 
     measure_check("check of a log of 8 steps, from 19 terms to 6", eight_table, sizeof eight_table, eight_log, sizeof eight_log, 10000);
     measure_check("check of the longest log, 64 steps at 44 to 48 terms", longest_table, sizeof longest_table, longest_log, sizeof longest_log, 1000);
+
+    measure_open_log(10000);
 
 #define SHORTENING(what, name, last, count) measure_shortening(what, name##_table, sizeof name##_table, name##_form, sizeof name##_form, last, count)
     SHORTENING("shortening of a scalar form of 48 terms: no step", none_scalar, 48, 1000);

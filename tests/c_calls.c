@@ -943,6 +943,175 @@ static void audit_calls(void)
     }
 }
 
+/* ---- a log that stays open */
+
+/* four vectors and FOUR, or the empty form of vectors, with a number of steps taken; a table of one vector and its letter */
+#define STATE(count) "0401010101" count FOUR
+#define EMPTY(count) "0401010101" count "0100"
+#define ONE "01010001011000"
+
+enum open_call { OPEN, ADD, LOOK, CLOSE };
+
+struct open_row {
+    enum open_call call;
+    const char *state, *given;
+    size_t lent;
+    int64_t refused;
+    const char *written;
+};
+
+static const struct open_row open_rows[] = {
+    /* opening: a table and a form in place of a state */
+    {OPEN, "01010101", FOUR, 796, 0, STATE("00")},
+    {OPEN, "01", "01011000", 1000, 0, ONE},
+    {OPEN, "00", "0000", 796, 0, "0100000000"},
+    {OPEN, "", "0000", 0, -1, ""},
+    {OPEN, "02", "", 796, -1, ""},
+    {OPEN, "01", "01011000", 795, -2, ""},
+    {OPEN, "01", "", 0, -2, ""},
+    {OPEN, "01", "", 796, -11, ""},
+    {OPEN, "01", "0101100000", 796, -11, ""},
+    {OPEN, "01", "01011001", 796, -5, ""},
+    {OPEN, "00", "01011000", 796, -6, ""},
+    /* adding */
+    {ADD, STATE("00"), STEP, 796, 0, EMPTY("01")},
+    {ADD, EMPTY("01"), BACK, 800, 0, STATE("02")},
+    {ADD, STATE("3f"), STEP, 796, 0, EMPTY("40")},
+    /* the state before all else, then 2, then 14 before anything in the step */
+    {ADD, "", STEP, 0, -11, ""},
+    {ADD, "00", STEP, 0, -11, ""},
+    {ADD, "0401010101", STEP, 796, -11, ""},
+    {ADD, "0401010102" "00" FOUR, STEP, 796, -11, ""},
+    {ADD, STATE("41"), STEP, 796, -11, ""},
+    {ADD, STATE("00") "00", STEP, 796, -11, ""},
+    {ADD, "03010101" "00" FOUR, STEP, 796, -11, ""},
+    {ADD, "0400010101" "00" FOUR, STEP, 796, -11, ""},
+    {ADD, "00000100", STEP, 796, -11, ""},
+    {ADD, STATE("40"), "", 795, -2, ""},
+    {ADD, STATE("40"), STEP, 796, -14, ""},
+    {ADD, STATE("40"), "", 796, -14, ""},
+    /* 11 of the step: none, a rule that there is not, cut, a byte left over; 5, 6 of its letters; 6, 8, 9, 10 at the form */
+    {ADD, STATE("00"), "", 796, -11, ""},
+    {ADD, STATE("00"), "060001020300", 796, -11, ""},
+    {ADD, STATE("00"), "0200010203", 796, -11, ""},
+    {ADD, STATE("00"), STEP "00", 796, -11, ""},
+    {ADD, STATE("00"), "020001020400", 796, -5, ""},
+    {ADD, "050101010100" "00" FOUR, "020001020400", 796, -6, ""},
+    {ADD, STATE("00"), "03000102030000", 796, -6, ""},
+    {ADD, STATE("00"), "0200010203080100" "0102", 796, -8, ""},
+    {ADD, "0401010101" "00" LARGE, "020001020301" "00000002", 796, -9, ""},
+    /* looking */
+    {LOOK, STATE("07"), "", 770, 0, FOUR},
+    {LOOK, EMPTY("40"), "", 900, 0, "0100"},
+    {LOOK, STATE("41"), "", 0, -11, ""},
+    {LOOK, STATE("07"), "", 769, -2, ""},
+    /* closing: with the form reached; with others, of the same value, of the other kind; 11, 5, 6 */
+    {CLOSE, STATE("07"), FOUR, 0, 0, ""},
+    {CLOSE, EMPTY("00"), "0100", 0, 0, ""},
+    {CLOSE, STATE("07"), "0100", 0, -13, ""},
+    {CLOSE, EMPTY("07"), FOUR, 0, -13, ""},
+    {CLOSE, EMPTY("07"), "0000", 0, -13, ""},
+    {CLOSE, STATE("41"), FOUR, 0, -11, ""},
+    {CLOSE, STATE("07"), "01", 0, -11, ""},
+    {CLOSE, STATE("07"), "01011004", 0, -5, ""},
+    {CLOSE, "0401010100" "07" "0100", "01011003", 0, -6, ""},
+};
+
+static int64_t open_log_call(const struct open_row *row, struct bytes *state, struct bytes *given, struct bytes *out)
+{
+    switch (row->call) {
+    case OPEN:
+        return kalzunbi_open(at(state), state->length, at(given), given->length, at(out), row->lent);
+    case ADD:
+        return kalzunbi_add(at(state), state->length, at(given), given->length, at(out), row->lent);
+    case LOOK:
+        return kalzunbi_look(at(state), state->length, at(out), row->lent);
+    default:
+        return kalzunbi_close(at(state), state->length, at(given), given->length);
+    }
+}
+
+static void open_calls(void)
+{
+    for (size_t i = 0; i < sizeof open_rows / sizeof *open_rows; i++) {
+        const struct open_row *row = &open_rows[i];
+        struct bytes state = from(row->state), given = from(row->given), written = from(row->written), out = from("");
+        struct bytes state_before = state, given_before = given;
+        int64_t returned = open_log_call(row, &state, &given, &out);
+        calls++;
+        out.length = written.length;
+        check(returned == (row->refused < 0 ? row->refused : (int64_t)written.length), "open log: what is returned, row", (int)i);
+        check(same(&out, &written), "open log: the bytes lent, row", (int)i);
+        check(same(&state, &state_before) && same(&given, &given_before), "open log: memory, row", (int)i);
+    }
+}
+
+struct decide_open_row {
+    const char *state, *form;
+    size_t buffer, work;
+    int64_t returned;
+    const char *assignment;
+};
+
+static const struct decide_open_row decide_open_rows[] = {
+    {STATE("05"), "0100", KALZUNBI_ASSIGNMENT, KALZUNBI_WORK, 0, ""},
+    {EMPTY("40"), FOUR, 100, KALZUNBI_WORK + 1, 0, ""},
+    {ONE, "0100", KALZUNBI_ASSIGNMENT, KALZUNBI_WORK, 1, "000001"},
+    {"02010100" "01011000", "01011001", KALZUNBI_ASSIGNMENT, KALZUNBI_WORK, 1, "000000000001"},
+    {STATE("41"), "", 0, 0, -11, ""},
+    {STATE("05"), "0100", KALZUNBI_ASSIGNMENT - 1, KALZUNBI_WORK, -2, ""},
+    {STATE("05"), "", KALZUNBI_ASSIGNMENT, KALZUNBI_WORK - 1, -2, ""},
+    {STATE("05"), "", KALZUNBI_ASSIGNMENT, KALZUNBI_WORK, -11, ""},
+    {STATE("05"), "01011004", KALZUNBI_ASSIGNMENT, KALZUNBI_WORK, -5, ""},
+    {"0401010100" "05" "0100", "01011003", KALZUNBI_ASSIGNMENT, KALZUNBI_WORK, -6, ""},
+    {EMPTY("05"), "0000", KALZUNBI_ASSIGNMENT, KALZUNBI_WORK, -6, ""},
+};
+
+static void decide_open_calls(void)
+{
+    for (size_t i = 0; i < sizeof decide_open_rows / sizeof *decide_open_rows; i++) {
+        const struct decide_open_row *row = &decide_open_rows[i];
+        struct bytes state = from(row->state), form = from(row->form), buffer = from(""), assignment = from(row->assignment);
+        struct bytes state_before = state, form_before = form;
+        memset(work_memory, 0x5A, sizeof work_memory);
+        int64_t returned = kalzunbi_decide_open(at(&state), state.length, at(&form), form.length, at(&buffer), row->buffer, work_memory + MARGIN, row->work);
+        calls++;
+        buffer.length = assignment.length;
+        size_t used = returned < 0 ? 0 : row->work;
+        check(returned == row->returned, "decide open: what is returned, row", (int)i);
+        check(same(&buffer, &assignment), "decide open: the buffer, row", (int)i);
+        check(all(work_memory, 0, MARGIN, 0x5A) && all(work_memory, MARGIN + used, sizeof work_memory, 0x5A), "decide open: the work memory, row", (int)i);
+        check(same(&state, &state_before) && same(&form, &form_before), "decide open: memory, row", (int)i);
+    }
+}
+
+/* 64 steps there and back, each with the state that the one before gave; a 65th; closing; and the check call on the whole log */
+static void open_list(void)
+{
+    struct bytes table = from("01010101"), four = from(FOUR), steps[2] = {from(STEP), from(BACK)}, log = four;
+    uint8_t states[2][KALZUNBI_STATE];
+    uint64_t places[3];
+    int64_t length = kalzunbi_open(at(&table), table.length, at(&four), four.length, states[0], KALZUNBI_STATE);
+    at(&log)[log.length++] = 64;
+    for (int k = 0; k < 64; k++) {
+        const struct bytes *step = &steps[k % 2];
+        memcpy(at(&log) + log.length, step->memory + MARGIN, step->length);
+        log.length += step->length;
+        check(kalzunbi_add(states[k % 2], (size_t)length, at(&steps[1]), 5, states[1 - k % 2], KALZUNBI_STATE) == -KALZUNBI_REFUSED_SHAPE,
+              "open list: a torn step, number", k);
+        length = kalzunbi_add(states[k % 2], (size_t)length, step->memory + MARGIN, step->length, states[1 - k % 2], KALZUNBI_STATE);
+        check(length == (k % 2 ? 40 : 8), "open list: step", k + 1);
+        calls += 2;
+    }
+    memcpy(at(&log) + log.length, at(&four), four.length);
+    log.length += four.length;
+    check(kalzunbi_add(states[0], (size_t)length, at(&steps[0]), steps[0].length, states[1], KALZUNBI_STATE) == -KALZUNBI_REFUSED_MANY_STEPS, "open list: step", 65);
+    check(kalzunbi_close(states[0], (size_t)length, at(&four), 2) == -KALZUNBI_REFUSED_SHAPE, "open list: closed with", 2);
+    check(kalzunbi_close(states[0], (size_t)length, at(&four), four.length) == 0, "open list: closed with", (int)four.length);
+    check(kalzunbi_check(at(&table), table.length, at(&log), log.length, places, 3) == 0 && places[2] == 64, "open list: the whole log", 64);
+    calls += 5;
+}
+
 /* ---- the names */
 
 static const int tokens[] = {
@@ -951,15 +1120,15 @@ static const int tokens[] = {
 static const int refusals[] = {
     KALZUNBI_REFUSED_TABLE, KALZUNBI_REFUSED_MEMORY, KALZUNBI_REFUSED_LONG_OR_DEEP, KALZUNBI_REFUSED_TORN, KALZUNBI_REFUSED_ABSENT_LETTER,
     KALZUNBI_REFUSED_KIND, KALZUNBI_REFUSED_MANY_PAIRS, KALZUNBI_REFUSED_MANY_LETTERS, KALZUNBI_REFUSED_COEFFICIENT, KALZUNBI_REFUSED_MANY_TERMS,
-    KALZUNBI_REFUSED_SHAPE, KALZUNBI_REFUSED_ASSIGNMENT, KALZUNBI_REFUSED_LAST_FORM,
+    KALZUNBI_REFUSED_SHAPE, KALZUNBI_REFUSED_ASSIGNMENT, KALZUNBI_REFUSED_LAST_FORM, KALZUNBI_REFUSED_MANY_STEPS,
 };
 
-/* each name is its place from 1 in document 01's order */
+/* each name is its place from 1 in the order of documents 01 and 02 */
 static void names(void)
 {
     for (int i = 0; i < 9; i++)
         check(tokens[i] == i + 1, "the name of the token", i + 1);
-    for (int i = 0; i < 13; i++)
+    for (int i = 0; i < 14; i++)
         check(refusals[i] == i + 1, "the name of the refusal", i + 1);
 }
 
@@ -977,6 +1146,9 @@ int main(void)
     decide_calls();
     shorten_calls();
     audit_calls();
+    open_calls();
+    decide_open_calls();
+    open_list();
     printf("%d calls, %d differences\n", calls, failures);
     return failures != 0;
 }

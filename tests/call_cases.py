@@ -202,9 +202,10 @@ def inserted():
 
 
 def examples():
-    """The examples of docs/FORMAT.md, whose answers must be those that stand there."""
+    """The examples of docs/FORMAT.md, but for open logs, whose answers must be those that stand there."""
     document = (pathlib.Path(__file__).resolve().parent.parent / "docs" / "FORMAT.md").read_text()
-    blocks = [dict(line.split(": ", 1) for line in block.strip().split("\n")) for block in re.findall(r"(?m)^```\n((?:[a-z]+: .*\n)+)```$", document)]
+    blocks = [dict(line.split(": ", 1) for line in block.strip().split("\n")) for block in re.findall(r"(?m)^```\n((?:[a-z]+: .*\n)+)```$", document)
+              if not block.startswith("state: ")]
     keys = {"table", "expression", "form", "assignment", "value", "first", "second", "decision", "log", "answer"}
     assert {key for block in blocks for key in block} == keys, "an example of each sort"
     for block in blocks:

@@ -1,16 +1,21 @@
 #!/usr/bin/env python3
 """What the program `kalzunbi` writes, computed from the definition of the text and the customer's document alone.
 
-Without arguments: writes the answer of each input under examples/ (NAME.WORD) to NAME.answer beside it. With a number and a seed: so many random inputs, damaged ones among them, go to target/bin/kalzunbi,
-and what it writes is compared; the last line says how many differ.
+Without arguments: writes the answer of each input under examples/ (NAME.WORD) to NAME.answer beside it. With a number and a seed: so many random inputs,
+damaged ones among them, go to target/bin/kalzunbi, and what it writes is compared; the last line says how many differ. Some derivations are typed: a line
+goes to the program, in pieces, when what is told for the lines before it has come.
 """
 import pathlib
 import random
+import re
+import select
 import subprocess
 import sys
+import time
 
 import check_cases
 import decision_cases
+import open_log_cases
 import printer_cases
 import shorten_cases
 import text_cases
@@ -39,7 +44,19 @@ AT_STEPS = {
     10: "more than 48 terms",
     11: "not in the one written shape",
     13: "the last form is not the one reached",
+    14: "more than 64 steps",
 }
+USAGE = b"""kalzunbi WORD [FILE]: vector algebra in letters, proved. The input is the file or standard input, at most 65536 bytes.
+  reduce      names, then formulas, a line each: the form of each
+  decide      names, then formula = formula: holds, or an assignment under which they differ
+  value       names, a formula, a line like a = (1, 0, -2), m = 3: the formula's value
+  shorten     names, then a formula: the log that shortens it, as text
+  derivation  names, a form, then steps, each line answered with the form reached: the log, as text
+  check       a log as text: accepted, or the refusal and its step
+  pack        a log as text: the table's length byte, the table and the log's bytes
+  unpack      the table's length byte, the table and the log's bytes: the log as text
+Names come first, as in 'vectors a b c' and 'scalars m n'. A refusal begins with the word refused.
+"""
 WORDS = {b"vectors": 1, b"scalars": 0}
 ROOT = pathlib.Path(__file__).resolve().parent.parent
 PROGRAM = ROOT / "target" / "bin" / "kalzunbi"
@@ -166,6 +183,15 @@ def log_read(data):
     return table, check_cases.log(first, steps, last)
 
 
+def form_text(names, form):
+    """A form's record as a line of a log."""
+    return (b"scalar ", b"vector ")[form[0]] + text_cases.text_of(names, form).encode() + b"\n"
+
+
+def step_refusal(number, step):
+    return f"refused {number} at step {step}: {AT_STEPS[number]}\n".encode()
+
+
 def some(n, word):
     return f"{n} {word}" + "s" * (n != 1)
 
@@ -174,7 +200,7 @@ def checked(data):
     table, log = log_read(data)
     result = check_cases.answer(table, log)
     if result[0] == "refused":
-        return f"refused {result[1]} at step {result[2]}: {AT_STEPS[result[1]]}\n".encode()
+        return step_refusal(*result[1:])
     _, end, start, steps = result
     return f"accepted, {some(steps, 'step')}, {some(log[1], 'term')} to {log[start + 1]}\n".encode()
 
@@ -195,9 +221,81 @@ def unpacked(data):
         for step, terms in enumerate([first[1]] + [[(1, (), letters), m] for _, letters, m in steps] + [last[1]]):
             number = forms.letters_refused(table, terms)
             demand(number == 0, number)
-    except Refused as refusal:
-        return f"refused {refusal.args[0]} at step {step}: {AT_STEPS[refusal.args[0]]}\n".encode()
+    except Refused as refused:
+        return step_refusal(refused.args[0], step)
     return log_text("abcdefghijklmnopqrstuvwx"[:len(table)], table, log)
+
+
+# ════ a derivation: each line is answered by itself
+
+class Derivation:
+    """The names declared so far with their kinds; from the first form on, the state of the log that stays open, and the steps taken."""
+
+    def __init__(self):
+        self.declared, self.first, self.state, self.steps = [], b"", b"", []
+
+    def names(self):
+        return b"".join(name for name, _ in self.declared)
+
+    def table(self):
+        return bytes(kind for _, kind in self.declared)
+
+    def reached(self):
+        """The record of the form reached."""
+        return open_log_cases.cut_state(self.state)[2]
+
+    def begin(self, number, line):
+        """Names, for which nothing is told, or the first form."""
+        if first_word(line) in WORDS:
+            names = list(self.declared)
+            declared(number, line, names)
+            self.declared = names
+            return b""
+        if not self.declared:
+            raise Stop(1, number, 0, line)
+        self.first = form_line(self.table(), self.names(), number, line)
+        self.state = open_log_cases.state_of(self.table(), 0, self.first)
+        return form_text(self.names(), self.first)
+
+    def add(self, number, line):
+        """A step: the form reached, or the refusal with the step's number."""
+        if first_word(line) != b"rule":
+            raise Stop(4, number, past(line, 0), line)
+        step = step_line(self.table(), self.names(), number, line)
+        what, _, state = open_log_cases.answer(open_log_cases.added(step), self.state)
+        if what != open_log_cases.GIVEN:
+            return step_refusal(int(what[1:]), len(self.steps) + 1)
+        self.steps.append(step)
+        self.state = state
+        return form_text(self.names(), self.reached())
+
+    def told(self, number, line):
+        """What is told for a line; a refused one leaves all as it was."""
+        try:
+            return self.add(number, line) if self.state else self.begin(number, line)
+        except Stop as stop:
+            return refusal(*stop.args)
+
+    def end(self, number):
+        """The log, behind an empty line; without a first form, what is told for an empty line there."""
+        if not self.state:
+            return self.told(number, b"")
+        log = check_cases.log(self.first, self.steps, self.reached())
+        assert check_cases.answer(self.table(), log)[0] == "accepted", log.hex()
+        return b"\n" + log_text(self.names().decode(), self.table(), log)
+
+
+def told_for_lines(data):
+    """What is told for each line, and at the end."""
+    derivation, lines = Derivation(), data.split(b"\n")
+    if lines[-1] == b"":
+        lines.pop()
+    told = [derivation.told(number, line) if line.strip(b" ") else b"" for number, line in enumerate(lines, 1)]
+    return [*told, derivation.end(len(lines) + 1)]
+
+
+def derived(data):
+    return b"".join(told_for_lines(data))
 
 
 # ════ one line behind the names
@@ -343,7 +441,7 @@ def shortening_fault(data, found):
 
 
 ANSWERS = {
-    "reduce": reduced, "decide": decided, "value": valued, "shorten": shortened, "check": checked, "pack": packed, "unpack": unpacked,
+    "reduce": reduced, "decide": decided, "value": valued, "shorten": shortened, "derivation": derived, "check": checked, "pack": packed, "unpack": unpacked,
 }
 
 
@@ -351,12 +449,17 @@ def first_word(line):
     return line.lstrip(b" ").split(b" ")[0]
 
 
+def refusal(number, at, column, line):
+    return f"refused {number} at line {at}, column {column + 1}: {REASONS[number]}\n".encode() + line + b"\n" + b" " * column + b"^\n"
+
+
 def answer(word, data):
+    if word not in ANSWERS:
+        return USAGE
     try:
         return ANSWERS[word](data)
     except Stop as stop:
-        number, at, column, line = stop.args
-        return f"refused {number} at line {at}, column {column + 1}: {REASONS[number]}\n".encode() + line + b"\n" + b" " * column + b"^\n"
+        return refusal(*stop.args)
 
 
 # ════ random inputs
@@ -482,15 +585,65 @@ def random_packed(chance):
     return data[:chance.randint(0, len(data))] if chance.random() < 0.05 else data
 
 
+def names_lines(chance, names, table):
+    """The names in one line, or in some, now and then with the word of their kind once more."""
+    lines, before = [], None
+    for name, kind in zip(names, table):
+        word = ("scalars", "vectors")[kind]
+        if not lines or chance.random() < 0.15:
+            lines.append(f"{word} {name}")
+        else:
+            lines[-1] += f" {name}" if kind == before and chance.random() < 0.95 else f" {word} {name}"
+        before = kind
+    return lines
+
+
+def wrong_line(chance, names):
+    """A line that is refused, or would be taken elsewhere."""
+    a, b, c, d, e, *_ = names
+    four, five = " ".join(names[:4]), " ".join(names[:5])
+    return chance.choice((
+        f"vectors {a} {a}", f"scalars {a}{b}", f"vectors {a} 1", "vectors", "scalars", "scalars a b c d e f g h i j k l m n o p q r s t u v w x y", "vectorsx",
+        f"vector {a}.{b}", f"scalar {a}", f"vector {a}+", "vector", "vector ?", "scalar 0", f"vector {a}^{a}", f"vector {a}", f"{a}+{b}", f"  {a}", "steps",
+        "rule", "rules", "rule 2", f"rule 2: {four}", f"rule2: {four}, M = 1", f"rule 6: {four}, M = 1", f"rule 2: {a} {b} {c} ?, M = 1", f"rule 2: {a} {b} {c}, M = 1",
+        f"rule 2: {four}, M = 0", f"rule 2: {four}, M = {e}", f"rule 2: {four}, M = 1+{a}.{b}", f"  rule 1:{a}{b}{c}{d},M=1", f"rule 1: {four}, M = 2147483647",
+        f"rule 2: {four}, M = ({a}{b}{c})", f"rule 3: {five}, M = 1", f"rule 3: {five}, M = {a}", f"rule 3: {five}, M = 2({a}.{b})"))
+
+
+def random_derivation(chance):
+    """The lines of a log, with blank lines and refused ones between them; now and then a full form, or more than 64 steps that are taken."""
+    table, log = check_cases.random_log(chance, *chance.choice(((3, 5), (2, 9), (9, 3))))
+    if chance.random() < 0.03:
+        kind = chance.randrange(2)
+        full, steps = open_log_cases.any_form(chance, kind, 48, 44), [check_cases.any_step(chance, kind) for _ in range(3)]
+        log = check_cases.log(full, [check_cases.step_record(*step) for step in steps], full)
+    names = random_names(chance, table)
+    _, first, *steps = log_text(names, table, log).decode().split("\n")[:-1]
+    if chance.random() < 0.03:
+        a, b, c, d, *_ = names
+        steps += [f"rule {chance.choice((1, 2))}: {a} {b} {c} {d}, M = {chance.choice((1, -1))}{chance.choice(names[6:])}" for _ in range(70)]
+    lines = [line.encode() for line in (*names_lines(chance, names, table), first, *steps)]
+    for _ in range(chance.choice((0, 0, 1, 1, 2, 3, 6))):
+        line = wrong_line(chance, names).encode() if chance.random() < 0.7 else text_cases.damaged(chance, chance.choice(lines))
+        lines.insert(chance.randint(0, len(lines)), line)
+    for _ in range(chance.choice((0, 0, 1, 2))):
+        lines.insert(chance.randint(0, len(lines)), chance.choice((b"", b" ", b"   ")))
+    if chance.random() < 0.05:
+        del lines[chance.randint(0, len(lines)):]
+    return b"\n".join(lines) + b"\n" * chance.choice((1, 1, 1, 0, 2))
+
+
 INPUTS = {
-    "reduce": random_input, "decide": random_sides, "value": random_value, "shorten": random_formula_alone,
+    "reduce": random_input, "decide": random_sides, "value": random_value, "shorten": random_formula_alone, "derivation": random_derivation,
     "check": random_log_text, "pack": random_log_text, "unpack": random_packed,
 }
+# Words that are not known, the empty one and one longer than there is room for among them.
+OTHERS = "help", "derive", "derivations", "Derivation", "derivatio", "checked", "", "x" * 40
 
 
 def random_case(chance, word):
-    data = INPUTS[word](chance)
-    if word in ("decide", "value", "shorten") and chance.random() < 0.25:
+    data = INPUTS[word](chance) if word in INPUTS else b""
+    if word in ("decide", "value", "shorten", "derivation") and chance.random() < 0.25:
         data = text_cases.damaged(chance, data)
     return data
 
@@ -499,14 +652,43 @@ def run(word, data):
     return subprocess.run([PROGRAM, word], input=data, capture_output=True, check=False).stdout
 
 
+def come(program, size):
+    """So many bytes that the program has written, or fewer where it writes no more for some seconds."""
+    found = b""
+    while len(found) < size and select.select([program.stdout], [], [], 5)[0]:
+        more = program.stdout.read(size - len(found))
+        if not more:
+            break
+        found += more
+    return found
+
+
+def run_typed(chance, data):
+    """What is written for a derivation that is typed: no line goes to the program before the one in front of it is answered."""
+    found = b""
+    with subprocess.Popen([PROGRAM, "derivation"], stdin=subprocess.PIPE, stdout=subprocess.PIPE, bufsize=0) as program:
+        for line, told in zip(re.findall(rb"[^\n]*\n|[^\n]+", data), told_for_lines(data)):
+            at = chance.randint(0, len(line))
+            program.stdin.write(line[:at])
+            time.sleep(0.001)  # so that the line is read in two pieces, as a rule
+            program.stdin.write(line[at:])
+            if line.endswith(b"\n"):
+                found += come(program, len(told))
+                if not found.endswith(told):
+                    found += b"(not told in time)"
+                    break
+        program.stdin.close()
+        return found + program.stdout.read()
+
+
 def main():
     if len(sys.argv) > 1:
         chance = random.Random(int(sys.argv[2]) if len(sys.argv) > 2 else 1)
         different = refusals = 0
         for _ in range(int(sys.argv[1])):
-            word = chance.choice(list(INPUTS))
+            word = chance.choice(list(INPUTS)) if chance.random() < 0.99 else chance.choice(OTHERS)
             data = random_case(chance, word)
-            found = run(word, data)
+            found = run_typed(chance, data) if word == "derivation" and chance.random() < 0.3 else run(word, data)
             expected = shortening_fault(data, found) if word == "shorten" else answer(word, data)
             refusals += found.startswith(b"refused")
             if expected != (None if word == "shorten" else found):

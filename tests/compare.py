@@ -1,6 +1,6 @@
 #!/usr/bin/env python3
 """The calls for C on random and damaged inputs, against the unrelated programs value_cases.py, reduction_cases.py, check_cases.py, decision_cases.py,
-shortening_cases.py, insertion_cases.py and text_cases.py.
+shortening_cases.py, insertion_cases.py, text_cases.py and open_log_cases.py.
 
 What is returned and all memory, lent or around what is lent, is compared.
 A form that is given is handed on to the value call, whose numbers must be those of the expression by components. An assignment that is handed over
@@ -9,7 +9,9 @@ with the form taken, be accepted by the unrelated program with the steps reporte
 step shortens; the check call must accept it, and the decision must say of its ends that they are equal. A form with a letter replaced must have the old
 form's value where the letter has the inserted form's: by the value call, or, where that is not in its range, by the unrelated program. A text that is
 refused must tell its column. The record of a text's form is handed on to the call that prints it, and what that prints must be read to the same record,
-but for the empty form of vectors. What the audit writes must be what shortening writes, and its buffer must stand.
+but for the empty form of vectors. What the audit writes must be what shortening writes, and its buffer must stand. The calls on a log that stays open are
+made in lists, each with the state that the one before gave back, damaged and made-up states between them; a closing must be accepted exactly where the
+check call accepts the first form, the steps taken and the last form.
 """
 import argparse
 import collections
@@ -22,6 +24,7 @@ import sys
 import check_cases as logs
 import decision_cases as decisions
 import insertion_cases as insertions
+import open_log_cases as open_logs
 import reduction_cases as expressions
 import shortening_cases as shortening
 import text_cases as texts
@@ -39,7 +42,8 @@ def load():
     subprocess.run(["gcc", "-shared", "-o", shared, "-Wl,--whole-archive", made, "-Wl,--no-whole-archive"], check=True)
     library = ctypes.CDLL(str(shared))
     for call in (library.kalzunbi_value, library.kalzunbi_reduce, library.kalzunbi_check, library.kalzunbi_decide, library.kalzunbi_shorten,
-                 library.kalzunbi_insert, library.kalzunbi_read_text, library.kalzunbi_print, library.kalzunbi_audit):
+                 library.kalzunbi_insert, library.kalzunbi_read_text, library.kalzunbi_print, library.kalzunbi_audit, library.kalzunbi_open,
+                 library.kalzunbi_add, library.kalzunbi_look, library.kalzunbi_decide_open, library.kalzunbi_close):
         call.restype = ctypes.c_int64
     return library
 
@@ -225,6 +229,56 @@ def audit_inputs(chance):
         yield table, data, lent, buffer, work, numbers
 
 
+def lent_around(chance, least, more):
+    """How much is lent of a part of memory: enough for the most part, and often just so."""
+    return chance.choice((least, least, least, least + 1, more)) if chance.randrange(20) else chance.choice((0, least - 1, chance.randrange(least)))
+
+
+def lent_for(chance, made):
+    """The call with other lengths of the memory that it lends, and now and then with damaged bytes."""
+    data = chance.choices((made.data, damaged(chance, made.data), any_bytes(chance, 40)), (30, 2, 1))[0]
+    least = {open_logs.LOOK: 770, open_logs.DECIDE: 72, open_logs.CLOSE: 0}.get(made.number, 796)
+    lent = lent_around(chance, least, least + 200) if least else 0
+    return made._replace(data=data, lent=lent, work=lent_around(chance, 55296, 55400) if made.work else 0)
+
+
+def other_state(chance, state):
+    """Bytes in place of a state: damaged, with another count or another table, or any."""
+    table, count, form = open_logs.cut_state(state)
+    return chance.choice((damaged(chance, state), open_logs.state_of(table, chance.choice((0, 62, 63, 64, 65, 255)), form), any_bytes(chance, 60),
+                          open_logs.state_of(any_table(chance, table), count, form), state + bytes(1), state[:-1]))
+
+
+def open_log_inputs(chance):
+    """Calls of lists, each with the state at hand, and with the table, the first form and the steps taken since, where they led to that state.
+
+    A state in place of the one at hand is for one call alone. Some lists begin with a state that nearly all steps were taken to.
+    """
+    while True:
+        fewest, most_terms, most_calls = chance.choices(((0, 3, 12), (0, 12, 8), (44, 48, 8), (0, 2, 90)), (12, 4, 2, 1))[0]
+        table, first = any_table(chance, logs.TABLE), open_logs.any_form(chance, chance.randrange(2), most_terms, fewest)
+        opening = lent_for(chance, open_logs.opened(table, first, ""))
+        yield opening, b"", None
+        what, _, state = open_logs.answer(opening, b"")
+        if what != open_logs.GIVEN:
+            continue
+        first, steps = opening.data, []
+        if chance.randrange(8) == 0:
+            state = open_logs.state_of(table, chance.randrange(60, 65), first)
+        for _ in range(chance.randrange(1, most_calls)):
+            made = lent_for(chance, open_logs.any_call(chance, state, first))
+            if chance.randrange(12) == 0:
+                yield made, other_state(chance, state), None
+                continue
+            yield made, state, (table, first, tuple(steps))
+            what, _, written = open_logs.answer(made, state)
+            if what == open_logs.ACCEPTED:
+                break
+            if made.number == open_logs.ADD and what == open_logs.GIVEN:
+                state = written
+                steps.append(made.data)
+
+
 # ════ comparing
 
 def bad_table(table):
@@ -387,6 +441,33 @@ def compare_audit(functions, table, data, lent, buffer, work, numbers):
     return same and bytes_lent.stands_but_for() and memory.stands_but_for(memory.first(work)), "agreed"
 
 
+def compare_open_log(functions, made, state, whole):
+    number, table, data, lent, work, _ = made
+    name, function = {
+        open_logs.OPEN: ("open", functions.kalzunbi_open), open_logs.ADD: ("add", functions.kalzunbi_add), open_logs.LOOK: ("look", functions.kalzunbi_look),
+        open_logs.DECIDE: ("decide", functions.kalzunbi_decide_open), open_logs.CLOSE: ("close", functions.kalzunbi_close)}[number]
+    what, _, written = open_logs.answer(made, state)
+    target, memory = Lent(ctypes.c_uint8, [0xC3] * lent), Lent(ctypes.c_uint8, [0x3C] * work)
+    sources = {open_logs.OPEN: (table, data), open_logs.LOOK: (state,)}.get(number, (state, data))
+    returned = call(function, sources, *{open_logs.DECIDE: (target, memory), open_logs.CLOSE: ()}.get(number, (target,)))
+    if what[0] == "R":
+        same = returned == -int(what[1:]) and target.stands_but_for() and memory.stands_but_for()
+    else:
+        same = returned == {open_logs.GIVEN: len(written), decisions.DIFFERS: 1}.get(what, 0) and target.stands_but_for(written)
+        same = same and memory.stands_but_for(memory.first(work))  # what is lent of it is free after a decision
+    if same and what == decisions.DIFFERS:
+        table, _, reached = open_logs.cut_state(state)
+        vectors = [tuple(written[i:i + 3]) for i in range(0, len(written), 3)]
+        values = [value_called(functions.kalzunbi_value, table, form, vectors) for form in (reached, data)]
+        same = None not in values and values[0] != values[1]
+    if number == open_logs.CLOSE and whole is not None:
+        table, first, steps = whole
+        log, three = logs.log(first, steps, data), Lent(ctypes.c_uint64, [0] * 3)
+        checked = call(functions.kalzunbi_check, (table, log), three)
+        same = same and (returned == 0) == (checked == 0) == (logs.answer(table, log)[0] == "accepted")
+    return same, f"{name} {what}"
+
+
 def main():
     arguments = argparse.ArgumentParser(description=__doc__, formatter_class=argparse.RawDescriptionHelpFormatter)
     arguments.add_argument("count", metavar="COUNT", nargs="?", type=int, default=10000, help="inputs for each call (10000)")
@@ -402,7 +483,8 @@ def main():
             ("insert", insertion_inputs(chance), lambda *x: compare_insert(library, chance, *x)),
             ("read_text", text_inputs(chance), lambda *x: compare_text(library, *x)),
             ("print", printing_inputs(chance), lambda *x: compare_print(library.kalzunbi_print, *x)),
-            ("audit", audit_inputs(chance), lambda *x: compare_audit(library, *x))):
+            ("audit", audit_inputs(chance), lambda *x: compare_audit(library, *x)),
+            ("open log", open_log_inputs(chance), lambda *x: compare_open_log(library, *x))):
         answers = collections.Counter()
         for _ in range(count):
             case = next(inputs)
@@ -412,7 +494,7 @@ def main():
                 differences += 1
                 print(name, *(x.hex() if isinstance(x, bytes) else x for x in case), "expected", answer)
         print(f"{name}: {count} cases, " + ", ".join(f"{n} {a}" for a, n in sorted(answers.items(), key=lambda x: (len(x[0]), x[0]))))
-    print(f"{9 * count} cases, {differences} differences")
+    print(f"{10 * count} cases, {differences} differences")
     sys.exit(differences > 0)
 
 

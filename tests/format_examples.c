@@ -1,5 +1,5 @@
 /* The examples of docs/FORMAT.md, line by line from standard input, with the answers that the calls give: a form for an expression, a value for a form and
- * an assignment, a decision for two forms, an answer for a log. Every other line is written as it was read. */
+ * an assignment, a decision for two forms, an answer for a log, the next state for a state and a step. Every other line is written as it was read. */
 #include "kalzunbi.h"
 
 #include <inttypes.h>
@@ -13,7 +13,7 @@ struct bytes {
     size_t length;
 };
 
-static struct bytes table, expression, form, assignment, first, second, log_bytes;
+static struct bytes table, expression, form, assignment, first, second, log_bytes, state, step;
 
 /* bytes in hexadecimal with blanks between them; what is no such byte ends them */
 static void read_bytes(struct bytes *b, const char *text)
@@ -77,12 +77,23 @@ static void give_answer(void)
         printf("answer: accepted %" PRIu64 " %" PRIu64 " %" PRIu64 "\n", places[0], places[1], places[2]);
 }
 
+static void give_next(void)
+{
+    static struct bytes next;
+    int64_t length = kalzunbi_add(state.at, state.length, step.at, step.length, next.at, sizeof next.at);
+    next.length = length < 0 ? 0 : (size_t)length;
+    if (length < 0)
+        printf("next: R%" PRId64 "\n", -length);
+    else
+        write_bytes("next:", &next);
+}
+
 /* a table begins an example */
 static void take(const char *key, const char *text)
 {
     struct bytes *read = !strcmp(key, "table:") ? &table : !strcmp(key, "expression:") ? &expression : !strcmp(key, "form:") ? &form
                        : !strcmp(key, "assignment:") ? &assignment : !strcmp(key, "first:") ? &first : !strcmp(key, "second:") ? &second
-                       : !strcmp(key, "log:") ? &log_bytes : NULL;
+                       : !strcmp(key, "log:") ? &log_bytes : !strcmp(key, "state:") ? &state : !strcmp(key, "step:") ? &step : NULL;
     if (read == &table)
         expression.length = form.length = assignment.length = first.length = second.length = log_bytes.length = 0;
     if (read == &form && expression.length > 0)
@@ -94,6 +105,8 @@ static void take(const char *key, const char *text)
         give_value();
     else if (!strcmp(key, "decision:"))
         give_decision();
+    else if (!strcmp(key, "next:"))
+        give_next();
     else
         give_answer();
 }

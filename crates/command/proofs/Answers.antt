@@ -5,7 +5,7 @@ use mathlib.Core.List.{List}
 use Prim.Native.Nat.{ℕ}
 use Rattle.specification.specs.Words.{bytes}
 use Rattle.specification.specs.Lines.{sameBytes}
-use Rattle.specification.specs.Commands.{answerText, reduceInput, valueInput, checkInput, packInput, unpackInput, usage, isCommand, commandText, DecideAnswer, ShortenAnswer, eitherWay, Commanded}
+use Rattle.specification.specs.Commands.{answerText, reduceInput, valueInput, checkInput, packInput, unpackInput, derivationInput, usage, isCommand, commandText, DecideAnswer, ShortenAnswer, eitherWay, Commanded}
 use Rattle.telling.specs.Told.{Told, AnswerTold}
 
 -- the word is this one
@@ -49,9 +49,14 @@ module _ (word : List ℕ) where
             known-pack is = rw (not-reduce, not-decide, not-value, not-shorten, not-check, is)
 
             module _ (not-pack : Not word (bytes "pack")) where
-              pub known-unpack : sameBytes word (bytes "unpack") ≡ isCommand word
+              pub known-unpack : Is word (bytes "unpack") → true ≡ isCommand word
               unfolding isCommand
-              known-unpack = rw (not-reduce, not-decide, not-value, not-shorten, not-check, not-pack)
+              known-unpack is = rw (not-reduce, not-decide, not-value, not-shorten, not-check, not-pack, is)
+
+              module _ (not-unpack : Not word (bytes "unpack")) where
+                pub known-derivation : sameBytes word (bytes "derivation") ≡ isCommand word
+                unfolding isCommand
+                known-derivation = rw (not-reduce, not-decide, not-value, not-shorten, not-check, not-pack, not-unpack)
 
 -- ════ what is told
 
@@ -100,6 +105,11 @@ module _ (word s out : List ℕ) (end : ℕ) where
               unpacks is t = fixed (unpackInput s) (sym (rw (not-reduce, not-value, not-check, not-pack, is))) t
 
               module _ (not-unpack : Not word (bytes "unpack")) where
-                pub helps : Told out end usage → Answers
+                pub derives : Is word (bytes "derivation") → Told out end (derivationInput s) → Answers
                 unfolding commandText
-                helps t = fixed usage (sym (rw (not-reduce, not-value, not-check, not-pack, not-unpack))) t
+                derives is t = fixed (derivationInput s) (sym (rw (not-reduce, not-value, not-check, not-pack, not-unpack, is))) t
+
+                module _ (not-derivation : Not word (bytes "derivation")) where
+                  pub helps : Told out end usage → Answers
+                  unfolding commandText
+                  helps t = fixed usage (sym (rw (not-reduce, not-value, not-check, not-pack, not-unpack, not-derivation))) t

@@ -7,6 +7,7 @@ ghost use Rattle.specification.specs.Commands.{isCommand, Commanded, CommandAns
 ghost use Rattle.printer_call.specs.Answers.{printingOf};
 ghost use Rattle.telling.specs.Told.{AnswerTold};
 use decide_word::decide_text;
+use derivation_word::derivation_text;
 use lines::words::same_bytes;
 use log_words::check_text;
 use log_words::pack_text;
@@ -39,7 +40,10 @@ pub fn is_command(word: &[u8]) -> bool
     if same_bytes(word, b"pack") {
         return true;
     }
-    same_bytes(word, b"unpack")
+    if same_bytes(word, b"unpack") {
+        return true;
+    }
+    same_bytes(word, b"derivation")
 }
 
 // The answer told into bytes of our own: a position beyond their end says that there is no room for it.
@@ -66,6 +70,9 @@ fn answer(word: &[u8], s: &[u8], out: &mut [u8]) -> usize
     }
     if same_bytes(word, b"unpack") {
         return unpack_text(s, out);
+    }
+    if same_bytes(word, b"derivation") {
+        return derivation_text(s, out);
     }
     tell_usage(out)
 }

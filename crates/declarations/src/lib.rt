@@ -112,7 +112,7 @@ pub struct Names {
 }
 
 // The names of a line, put behind those declared.
-fn declare(line: &[u8], names: &mut [u8], table: &mut [u8], count: usize) -> Names
+pub fn declare(line: &[u8], names: &mut [u8], table: &mut [u8], count: usize) -> Names
     requires { ⌜ (count ≤ 24) × (24 ≤ length (now names)) × (24 ≤ length (now table)) ⌝ }
     ensures { λ r. ⌜ NamesRead (declared (now (line .entry)) (namedOf count (now (names .entry)) (now (table .entry)))) r (now (names .exit)) (now (table .exit)) ⌝ }
 {
@@ -142,7 +142,7 @@ fn declare(line: &[u8], names: &mut [u8], table: &mut [u8], count: usize) -> Nam
 }
 
 // Whether a line declares names.
-fn is_declaration(line: &[u8]) -> bool
+pub fn is_declaration(line: &[u8]) -> bool
     ensures { λ r. ⌜ r ≡ isDeclaration (now (line .entry)) ⌝ }
 {
     let at = past_blanks(line, 0);

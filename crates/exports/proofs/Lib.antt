@@ -3,3 +3,4 @@ pub mod Returning
 pub mod ReturnedLogs
 pub mod ReturnedAudits
 pub mod ReturnedTexts
+pub mod ReturnedOpenLogs

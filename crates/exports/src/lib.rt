@@ -3,6 +3,7 @@ ghost use mathlib.Core.Path.{_≡_};
 ghost use Prim.Native.Nat.{_≤_};
 ghost use lib.ListN.{length};
 ghost use Rattle.specification.specs.Returns.{threeInto, valueReturned, reduceReturned, insertReturned, checkReturned, DecideReturned, ShortenReturned, AuditReturned, readTextReturned, printReturned};
+ghost use Rattle.specification.specs.Returns.{openReturned, addReturned, lookReturned, DecideOpenReturned, closeReturned};
 ghost use Rattle.evaluation.specs.Vectors.{vecOf};
 use audit::Verdict;
 use audit::audit;
@@ -19,6 +20,13 @@ use insertion::Inserted;
 use insertion::insert;
 use letters::check_table;
 use named_printing::print_named;
+use open_log::Answered;
+use open_log::Closed;
+use open_log::add;
+use open_log::close;
+use open_log::decide_open;
+use open_log::look;
+use open_log::open;
 use printer_call::Printing;
 use reduction::Reduced;
 use reduction::reduce;
@@ -226,5 +234,72 @@ pub extern "C" fn kalzunbi_print(table: &[u8], names: &[u8], form: &[u8], out: &
     match r {
         Printing::Printed(n) => written(n),
         Printing::Refused(m) => refusal(m),
+    }
+}
+
+// A log opened with a table and a first form, its state written into the bytes lent: the state's length, or minus 1, 2, 11, 5 or 6.
+#[no_mangle]
+pub extern "C" fn kalzunbi_open(table: &[u8], form: &[u8], state: &mut [u8]) -> i64
+    ensures { λ r. ⌜ (r, now (state .exit)) ≡ openReturned (now (table .entry)) (now (form .entry)) (now (state .entry)) ⌝ }
+{
+    let r = open(table, form, state);
+    match r {
+        Answered::Written(n) => written(n),
+        Answered::Refused(m) => refusal(m),
+    }
+}
+
+// A step added to an open log, the next state written into the bytes lent: its length, or minus 11 for the state, 2, 14, 11 for the step, 5 or 6, then 6, 8, 9 or 10.
+#[no_mangle]
+pub extern "C" fn kalzunbi_add(state: &[u8], step: &[u8], next: &mut [u8]) -> i64
+    ensures { λ r. ⌜ (r, now (next .exit)) ≡ addReturned (now (state .entry)) (now (step .entry)) (now (next .entry)) ⌝ }
+{
+    let r = add(state, step, next);
+    match r {
+        Answered::Written(n) => written(n),
+        Answered::Refused(m) => refusal(m),
+    }
+}
+
+// The form that an open log has reached, its record written into the bytes lent: its length, or minus 11 or 2.
+#[no_mangle]
+pub extern "C" fn kalzunbi_look(state: &[u8], out: &mut [u8]) -> i64
+    ensures { λ r. ⌜ (r, now (out .exit)) ≡ lookReturned (now (state .entry)) (now (out .entry)) ⌝ }
+{
+    let r = look(state, out);
+    match r {
+        Answered::Written(n) => written(n),
+        Answered::Refused(m) => refusal(m),
+    }
+}
+
+// Whether the form that an open log has reached and another are equal under every assignment: 0, or 1 with the first assignment under which they differ in the
+// buffer, or minus 11 for the state, 2, 11 for the form, 5 or 6.
+#[no_mangle]
+pub extern "C" fn kalzunbi_decide_open(
+    state: &[u8],
+    form: &[u8],
+    buffer: &mut [u8],
+    work: &mut [u8],
+) -> i64
+    ensures { λ r. ⌜ DecideOpenReturned (now (state .entry)) (now (form .entry)) (now (buffer .entry)) (now (work .entry)) r (now (buffer .exit)) (now (work .exit)) ⌝ }
+{
+    let d = decide_open(state, form, buffer, work);
+    match d {
+        Decision::Holds => 0,
+        Decision::Differs => 1,
+        Decision::Refused(n) => refusal(n),
+    }
+}
+
+// An open log closed with a last form: 0 where it is accepted, or minus 11 for the state, 11 for the form, 5, 6 or 13.
+#[no_mangle]
+pub extern "C" fn kalzunbi_close(state: &[u8], form: &[u8]) -> i64
+    ensures { λ r. ⌜ r ≡ closeReturned (now (state .entry)) (now (form .entry)) ⌝ }
+{
+    let c = close(state, form);
+    match c {
+        Closed::Accepted => 0,
+        Closed::Refused(n) => refusal(n),
     }
 }

@@ -3,7 +3,12 @@ use command::command;
 use command::is_command;
 use libc::STDIN_FILENO;
 use libc::STDOUT_FILENO;
+use lines::words::same_bytes;
 use printer_call::Printing;
+use typing::derive;
+use typing::refuse_input;
+
+mod typing;
 
 // Writes the answer.
 fn answer(word: &[u8], s: &[u8]) {
@@ -24,15 +29,16 @@ fn is_at_end(fd: i32) -> bool {
     libc::read(fd, &mut more) == 0
 }
 
-// Writes the answer to what a file or standard input holds.
+// Writes the answer to what a file or standard input holds; a derivation is answered while it is typed.
 fn answer_input(word: &[u8], fd: i32) {
+    if same_bytes(word, b"derivation") {
+        derive(fd);
+        return;
+    }
     let mut input = io::large_buffer();
     let n = io::read_full(fd, &mut input);
     if !is_at_end(fd) {
-        io::write_all(
-            STDOUT_FILENO,
-            b"refused 3: more than 65536 bytes, or an input that cannot be read\n",
-        );
+        refuse_input();
         return;
     }
     answer(word, &input[..n]);

@@ -27,7 +27,7 @@ pub fn line_end(s: &[u8], at: usize) -> usize
 }
 
 // Whether a line has blanks alone.
-fn is_empty_line(line: &[u8]) -> bool
+pub fn is_empty_line(line: &[u8]) -> bool
     ensures { λ r. ⌜ r ≡ isEmptyLine (now (line .entry)) ⌝ }
 {
     let mut i: usize = 0;

@@ -88,7 +88,7 @@ fn tell_names_line(out: &mut [u8], at: usize, names: &[u8], table: &[u8]) -> usi
 }
 
 // The line of a form: its kind and its text.
-fn tell_form(out: &mut [u8], at: usize, names: &[u8], f: Form) -> usize
+pub fn tell_form(out: &mut [u8], at: usize, names: &[u8], f: Form) -> usize
     requires { ⌜ Printable (now names) f ⌝ }
     ensures { λ r. ⌜ Tells (now (out .entry)) (now (out .exit)) at r (formLine (now (names .entry)) (formOf f)) ⌝ }
 {

@@ -67,7 +67,7 @@ fn kind_at(names: &[u8], table: &[u8], line: &[u8], kind: u8, at: usize) -> Text
 }
 
 // A line that is refused at a column.
-fn unread(n: u8, column: usize) -> TextForm
+pub fn unread(n: u8, column: usize) -> TextForm
     ensures { λ r. ⌜ (r .refusal ≡ n) × (r .column ≡ column) ⌝ }
 {
     let o = refuse(n);

@@ -46,7 +46,7 @@ fn step_at(s: &[u8], p: Place, names: &[u8], table: &[u8]) -> StepLine
 }
 
 // Whether a line begins with the word `rule`.
-fn is_step_line(line: &[u8]) -> bool
+pub fn is_step_line(line: &[u8]) -> bool
     ensures { λ r. ⌜ r ≡ isStepLine (now (line .entry)) ⌝ }
 {
     let at = past_blanks(line, 0);

@@ -67,7 +67,7 @@ pub struct StepLine {
 }
 
 // A refusal at a column.
-fn no_step_line(n: u8, column: usize) -> StepLine
+pub fn no_step_line(n: u8, column: usize) -> StepLine
     ensures { λ r. ⌜ (r .refusal ≡ n) × (r .column ≡ column) ⌝ }
 {
     let s = no_step();

@@ -30,7 +30,7 @@ fn write_letters(out: &mut [u8], at: usize, letters: [u8; 6], n: usize) -> usize
 }
 
 // The record of a step: the rule's number, its letters, and the term M.
-fn write_step(out: &mut [u8], at: usize, s: Step) -> usize
+pub fn write_step(out: &mut [u8], at: usize, s: Step) -> usize
     requires { ⌜ StepValid s × (at + 23 ≤ length (now out)) ⌝ }
     ensures { λ r. ⌜ Written (now (out .entry)) (now (out .exit)) at r (writeStep (stepOf s)) ⌝ }
 {

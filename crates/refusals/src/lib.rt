@@ -61,11 +61,11 @@ fn tell_reason(out: &mut [u8], at: usize, n: u8) -> usize
 }
 
 // The first line of a refusal.
-fn tell_place(out: &mut [u8], n: u8, line: usize, column: usize) -> usize
+fn tell_place(out: &mut [u8], at: usize, n: u8, line: usize, column: usize) -> usize
     requires { ⌜ column + 1 ≤ 18446744073709551615 ⌝ }
-    ensures { λ r. ⌜ Told (now (out .exit)) r (placeText n line column) ⌝ }
+    ensures { λ r. ⌜ Tells (now (out .entry)) (now (out .exit)) at r (placeText n line column) ⌝ }
 {
-    let a = put(out, 0, b"refused ");
+    let a = put(out, at, b"refused ");
     let b = put_number(out, a, n as u64);
     let c = put(out, b, b" at line ");
     let d = put_number(out, c, line as u64);
@@ -73,12 +73,19 @@ fn tell_place(out: &mut [u8], n: u8, line: usize, column: usize) -> usize
     put_number(out, e, column as u64 + 1)
 }
 
-// A refusal in words, in front of the bytes lent.
-pub fn tell_refusal(out: &mut [u8], n: u8, line: usize, column: usize, text: &[u8]) -> usize
+// A refusal in words.
+pub fn tell_refusal(
+    out: &mut [u8],
+    at: usize,
+    n: u8,
+    line: usize,
+    column: usize,
+    text: &[u8],
+) -> usize
     requires { ⌜ column ≤ length (now text) ⌝ }
-    ensures { λ r. ⌜ Told (now (out .exit)) r (refusalText n line column (now (text .entry))) ⌝ }
+    ensures { λ r. ⌜ Tells (now (out .entry)) (now (out .exit)) at r (refusalText n line column (now (text .entry))) ⌝ }
 {
-    let a = tell_place(out, n, line, column);
+    let a = tell_place(out, at, n, line, column);
     let b = put(out, a, b": ");
     let c = tell_reason(out, b, n);
     let d = put(out, c, b"\n");
@@ -88,12 +95,12 @@ pub fn tell_refusal(out: &mut [u8], n: u8, line: usize, column: usize, text: &[u
     put(out, g, b"^\n")
 }
 
-// The refusal of the line at a place of an input.
+// The refusal of the line at a place of an input, in front of the bytes lent.
 pub fn tell_line(s: &[u8], n: u8, p: Place, column: usize, out: &mut [u8]) -> usize
     requires { ⌜ Inside (now s) p × (column ≤ length (lineOf (placeOf (now s) p))) ⌝ }
     ensures { λ r. ⌜ Told (now (out .exit)) r (refusalText n (p .number) column (lineOf (placeOf (now (s .entry)) p))) ⌝ }
 {
     let at = p.at;
     let end = line_end(s, at);
-    tell_refusal(out, n, p.number, column, &s[at..end])
+    tell_refusal(out, 0, n, p.number, column, &s[at..end])
 }

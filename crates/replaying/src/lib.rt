@@ -80,7 +80,7 @@ fn same_row(t: Term, r: &[u32; 8], c: i64) -> bool
 }
 
 // Whether a form is that of a kind in lent rows.
-fn same_form(f: Form, kind: u8, rows: &[[u32; 8]], coefs: &[i64], count: usize) -> bool
+pub fn same_form(f: Form, kind: u8, rows: &[[u32; 8]], coefs: &[i64], count: usize) -> bool
     requires { ⌜ FormValid f × Run count (now rows) (now coefs) ⌝ }
     ensures { λ r. ⌜ r ≡ sameForm (formOf f) (formBy kind count (now (rows .entry)) (now (coefs .entry))) ⌝ }
 {

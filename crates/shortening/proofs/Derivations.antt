@@ -8,21 +8,20 @@ use lib.Dec.{T}
 use lib.IntN.{ℤ}
 use lib.ListN.{length, length-map, length-set, take, set}
 use lib.Seq.{length-take-le}
-use Rattle.specification.specs.Results.{Test, given, _>>=_, _>>_}
+use Rattle.specification.specs.Results.{given}
 use Rattle.specification.specs.Terms.{gather, gatherInto}
 use Rattle.specification.specs.Terms as S
 use Rattle.specification.specs.Records.{testTerms}
-use Rattle.specification.specs.Rules.{stepInShape, testStepLetters, stepTerms, takeStep}
+use Rattle.specification.specs.Rules.{stepInShape, stepTerms, takeStep}
 use Rattle.specification.specs.Rules as R
 use Rattle.specification.specs.Logs.{takeSteps}
 use Rattle.theory.specs.Elements.{All, all-append}
 use Rattle.theory.specs.Shape.Forms.{FormInShape, form-gathered, within-given}
 use Rattle.theory.specs.Gathering.Gathered.{gather-onto}
-use Rattle.theory.specs.Tests.{given-same, bound, tested}
 use Rattle.theory.specs.Shape.Letters.{AllKnown, terms-known, known-terms}
 use Rattle.theory.specs.Rules.Steps.{step-closes, step-taken, step-admitted}
 use Rattle.theory.specs.Records.Logs.{StepsInShape}
-use Rattle.theory.specs.Replay.Accepted.{testSteps}
+use Rattle.theory.specs.Replay.Accepted.{testSteps, steps-more, tests-more}
 use Rattle.theory.specs.Replay.Ends.{steps-keep}
 use Rattle.theory.specs.Shortening.Candidates.{NoCandidate}
 use Rattle.theory.specs.Shortening.Completeness.{no-candidate-shortest}
@@ -42,24 +41,6 @@ use Rattle.shortening.specs.declared.rounds.Rounds.{Rounds}
 use Rattle.searching.specs.Searching.{Shorter, SearchedBy}
 use Rattle.logs.specs.Steps.{stepsOf}
 use Rattle.shortening.specs.Derived.{Leads, RoundsTaken, Derived}
-
--- ════ one step more
-
-steps-more : (f : S.Form) (ss : List R.Step) (s : R.Step) (g h : S.Form) → takeSteps f ss ≡ given g → takeStep g s ≡ given h
-    → takeSteps f (ss ++ s ∷ []) ≡ given h
-unfolding takeSteps
-steps-more f [] s g h e q = ap (λ (f : S.Form). takeStep f s >>= λ (k : S.Form). given k) (given-same e) ∙ ap (λ r. r >>= λ (k : S.Form). given k) q
-steps-more f (t ∷ ss) s g h e q =
-    let r = bound (takeStep f t) (λ (k : S.Form). takeSteps k ss) g e in
-    ap (λ x. x >>= λ (k : S.Form). takeSteps k (ss ++ s ∷ [])) (r .1) ∙ steps-more (r .0) ss s g h (r .2) q
-
-tests-more : (table : List ℕ) (ss : List R.Step) (s : R.Step) → testSteps table ss ≡ given tt → testStepLetters table s ≡ given tt
-    → testSteps table (ss ++ s ∷ []) ≡ given tt
-unfolding testSteps
-tests-more table [] s e q = ap (λ (r : Test). r >> given tt) q
-tests-more table (t ∷ ss) s e q =
-    let r = tested (testStepLetters table t) (testSteps table ss) tt e in
-    ap (λ (x : Test). x >> testSteps table (ss ++ s ∷ [])) (r .0) ∙ tests-more table ss s (r .1) q
 
 -- ════ the rounds so far
 

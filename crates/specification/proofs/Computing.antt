@@ -18,6 +18,8 @@ use Rattle.specification.specs.Evaluation.{restIsZero, goodAssignment, a
 use Rattle.specification.specs.Rules.{rule1, rule2, rule3, rule4, bracket, rule5, sides, ruleLetters, ruleKind, isRule, stepKindsFit, stepTerms, takeStep, testStepLetters, stepInShape, stepAt}
 use Rattle.specification.specs.Logs.{writeStep, writeSteps, writeLog, readStepAt, readSteps, readLog, sameCoef, sameTerms, sameForm, stepsLetters, replay, takeSteps, checkCall}
 use Rattle.specification.specs.Decision.{takeTwoForms, decideTested, letterInRange, whole, DecidedBy, Decided}
+use Rattle.specification.specs.OpenLogs.{writeState, stateTable, stateCount, stateForm, elseShape, readState, answerState, openTested, openCall, readStep, stepFrom, addTo, addTested, addCall}
+use Rattle.specification.specs.OpenLogs.{closeAt, closeCall, added, closed, run}
 use Rattle.specification.specs.Shortening.{shortenTested, Shortest, ShortenedBy, Shortened}
 use Rattle.specification.specs.Printing.{digits, decimal, printFactor, printPart, isNothing, printSize, printStar, printTerm, printFirstSign, printSign, printTerms}
 use Rattle.specification.specs.Printing.{printForm, printTested, printResult, printCall}
@@ -32,6 +34,7 @@ unfolding flatMap order each all select joined ascend follows firstDifference co
     letterForm constantForm workWith reduced reduceCall factorTree timesFactors timesPart termTree plusTerms leafWith insertTerms insertForm takeInsertion withInserted insertCall factorValue factorsValue partValue termValue termsValue value exprKind exprValue signedByte sixOrLess
     restIsZero goodAssignment assignment valueCall rule1 rule2 rule3 rule4 bracket rule5 sides ruleLetters ruleKind isRule stepKindsFit stepTerms takeStep testStepLetters
     stepInShape stepAt writeStep writeSteps writeLog readStepAt readSteps readLog sameCoef sameTerms sameForm stepsLetters replay takeSteps checkCall takeTwoForms
-    decideTested letterInRange whole DecidedBy Decided shortenTested Shortest ShortenedBy Shortened digits decimal printFactor printPart isNothing printSize
+    decideTested letterInRange whole DecidedBy Decided writeState stateTable stateCount stateForm elseShape readState answerState openTested openCall readStep stepFrom addTo addTested addCall
+    closeAt closeCall added closed run shortenTested Shortest ShortenedBy Shortened digits decimal printFactor printPart isNothing printSize
     printStar printTerm printFirstSign printSign printTerms printForm printTested printResult printCall
 computing = tt

@@ -2,13 +2,13 @@
 -- Behind them K2's order of assignments, at two letters. Assumes nothing.
 use mathlib.Core.Path.{_≡_, refl}
 use mathlib.Core.Bool.{Bool, true, false, _&&_}
-use mathlib.Core.List.{List, [], _∷_}
+use mathlib.Core.List.{List, [], _∷_, _++_}
 use Prim.Native.Nat.{ℕ, zero, suc, _+_, _*_, _<_}
 use native.Mathlib.Omega.{arith}
 use lib.IntN.{ℤ, pos, negsuc}
 use lib.Dec.{T, eqb}
-use lib.ListN.{getD}
-use Rattle.specification.specs.Results.{Result, refused, given}
+use lib.ListN.{length, getD}
+use Rattle.specification.specs.Results.{Result, Test, refused, given, _>>=_}
 use Rattle.specification.specs.Lists.{all}
 use Rattle.specification.specs.Values.{Vec, wedge}
 use Rattle.specification.specs.Letters.{vector}
@@ -19,6 +19,7 @@ use Rattle.specification.specs.Rules.{sides, Step, takeStep}
 use Rattle.specification.specs.Evaluation.{termsValue}
 use Rattle.specification.specs.Logs.{sameCoef, sameForm}
 use Rattle.specification.specs.Decision.{whole, Before}
+use Rattle.specification.specs.OpenLogs.{stateBytes, State, writeState, readState, addTo, closeCall, adding, OpenLog, run}
 use Rattle.specification.specs.Printing.{printCall}
 use Rattle.specification.proofs.Computing.{computing}
 
@@ -35,6 +36,14 @@ data Example : Type 0 where
   insertRefused : (form : List ℕ) (letter : ℕ) (inserted : List ℕ) (number : ℕ) → Example
   -- a form, a step, and the number that it is refused with
   stepRefused : (f : Form) (s : Step) (number : ℕ) → Example
+  -- the bytes of an open log's state, a step's bytes, and the bytes of the state behind it
+  adds : (state step next : List ℕ) → Example
+  -- or the number that the step is refused with
+  addRefused : (state step : List ℕ) (number : ℕ) → Example
+  -- the bytes of an open log's state and of a last form, and the number that closing is refused with, 0 where it is accepted
+  closes : (state form : List ℕ) (number : ℕ) → Example
+  -- the bytes of an open log's state, the steps that two callers add one after the other, the bytes of the state afterwards, and how many steps were taken
+  leaves : (state one other next : List ℕ) (taken : ℕ) → Example
   -- two vectors and their wedge
   wedges : (a b c : Vec) → Example
   -- numbers in a row, and what they assign to a letter
@@ -48,6 +57,25 @@ vec x y z = record { x = x; y = y; z = z }
 -- the letters 0 to 5 as vectors of small numbers
 abbrev numbers : ℕ → Vec
 numbers n = vec (pos (n * n + 1)) (negsuc (3 * n)) (pos (n * n * n + 2))
+
+-- four vectors, and (bcd)a − (acd)b + (abd)c − (abc)d, which rule 2 makes 0
+abbrev fourVectors : List ℕ
+fourVectors = 1 ∷ 1 ∷ 1 ∷ 1 ∷ []
+
+abbrev fourTerms : List ℕ
+fourTerms = 0x01 ∷ 0x04 ∷ 0x18 ∷ 1 ∷ 1 ∷ 2 ∷ 3 ∷ 0 ∷ 0x19 ∷ 0xff ∷ 0xff ∷ 0xff ∷ 0xff ∷ 1 ∷ 0 ∷ 2 ∷ 3 ∷ 1 ∷ 0x18 ∷ 1 ∷ 0 ∷ 1 ∷ 3 ∷ 2
+    ∷ 0x19 ∷ 0xff ∷ 0xff ∷ 0xff ∷ 0xff ∷ 1 ∷ 0 ∷ 1 ∷ 2 ∷ 3 ∷ []
+
+-- the state of a log with them, so many steps taken
+abbrev fourState : (count : ℕ) → List ℕ
+fourState count = 4 ∷ fourVectors ++ count ∷ fourTerms
+
+-- rule 2, a b c d, M = 1; and rule 3, whose sides are scalars
+abbrev goodStep : List ℕ
+goodStep = 2 ∷ 0 ∷ 1 ∷ 2 ∷ 3 ∷ 0 ∷ []
+
+abbrev unlikeStep : List ℕ
+unlikeStep = 3 ∷ 0 ∷ 1 ∷ 2 ∷ 3 ∷ 0 ∷ 0 ∷ []
 
 examples : List Example
 examples =
@@ -95,6 +123,20 @@ examples =
     3 ∷ 1 ∷ 0 ∷ 3 ∷ 1 ∷ 1 ∷ 3 ∷ 1 ∷ 2 ∷ 3 ∷ 1 ∷ 3 ∷ 3 ∷ 1 ∷ 4 ∷ 3 ∷ 1 ∷ 5 ∷ 1 ∷ 6 ∷ []) (82 ∷ 55 ∷ 10 ∷ [])
     -- "Steps in a log still count beforehand": rule 1 with a a a a, times (abc), would vanish
     ∷ stepRefused (record { kind = vector; terms = [] }) (record { rule = 1; letters = 0 ∷ 0 ∷ 0 ∷ 0 ∷ []; m = plus (tripleOf 0 1 2 ∷ []) [] }) 8
+    -- K5: the table's length, the table, the count and the form's record; the next state has one step more and the form reached, here the empty one
+    ∷ adds (fourState 0) goodStep (4 ∷ 1 ∷ 1 ∷ 1 ∷ 1 ∷ 1 ∷ 1 ∷ 0 ∷ [])
+    -- "admissible at the form reached": the kinds do not agree
+    ∷ addRefused (fourState 0) unlikeStep 6
+    -- "14 for a 65th step, tested before anything in that step": no byte of it is there; a count of 65 breaks a rule
+    ∷ addRefused (fourState 64) [] 14
+    ∷ addRefused (fourState 65) [] 11
+    -- "refused 11 before all else": the letter b of a table of one letter, in the state and in the form to close with
+    ∷ closes (1 ∷ 1 ∷ 0 ∷ 1 ∷ 1 ∷ 0x10 ∷ 1 ∷ []) (1 ∷ 1 ∷ 0x10 ∷ 1 ∷ []) 11
+    -- "A refused step leaves the log open as before"
+    ∷ leaves (fourState 0) unlikeStep goodStep (4 ∷ 1 ∷ 1 ∷ 1 ∷ 1 ∷ 1 ∷ 1 ∷ 0 ∷ []) 1
+    -- closing with the form reached; the empty form has its value, and is another
+    ∷ closes (fourState 3) fourTerms 0
+    ∷ closes (fourState 3) (0x01 ∷ 0 ∷ []) 13
     -- "a∧b is (a2b3−a3b2, a3b1−a1b3, a1b2−a2b1)"
     ∷ wedges (vec (pos 1) (pos 2) (pos 3)) (vec (pos 4) (pos 5) (pos 7)) (vec (negsuc 0) (pos 5) (negsuc 2))
     -- K2, "whole numbers", "letter by letter and component by component"
@@ -133,6 +175,25 @@ hasRecord : Result Form → List ℕ → Bool
 hasRecord (refused n) bytes = false
 hasRecord (given f) bytes = same (writeForm f) bytes
 
+hasState : Result State → List ℕ → Bool
+hasState (refused n) bytes = false
+hasState (given state) bytes = same (writeState state) bytes
+
+isState : Result State → ℕ → Bool
+isState (refused n) m = eqb n m
+isState (given state) m = false
+
+passes : Test → ℕ → Bool
+passes (refused n) m = eqb n m
+passes (given u) m = eqb 0 m
+
+zeros : ℕ → List ℕ
+zeros zero = []
+zeros (suc n) = 0 ∷ zeros n
+
+leavesBy : OpenLog → List ℕ → ℕ → Bool
+leavesBy log next taken = same (log .state) next && eqb (length (log .steps)) taken
+
 -- the example holds
 exampleHolds : Example → Bool
 exampleHolds (prints input text) = same (printCall input) text
@@ -140,13 +201,18 @@ exampleHolds (isRecord f bytes) = same (writeForm f) bytes && isForm (readForm b
 exampleHolds (inserts form letter inserted bytes) = hasRecord (withInserted sixVectors form letter inserted) bytes
 exampleHolds (insertRefused form letter inserted n) = isNumber (withInserted sixVectors form letter inserted) n
 exampleHolds (stepRefused f s n) = isNumber (takeStep f s) n
+exampleHolds (adds state step next) = hasState (readState state >>= λ before. addTo before step) next
+exampleHolds (addRefused state step n) = isState (readState state >>= λ before. addTo before step) n
+exampleHolds (closes state form n) = passes (closeCall state form) n
+exampleHolds (leaves state one other next taken) =
+    leavesBy (run (record { state = state; steps = [] }) (adding one (zeros stateBytes) ∷ adding other (zeros stateBytes) ∷ [])) next taken
 exampleHolds (wedges a b c) = sameVec (wedge a b) c
 exampleHolds (assigns numbers letter v) = sameVec (whole numbers letter) v
 exampleHolds (balances rule) =
     let s = sides rule (0 ∷ 1 ∷ 2 ∷ 3 ∷ 4 ∷ 5 ∷ []) in sameVec (termsValue numbers (s .left)) (termsValue numbers (s .right))
 
 examples-hold : T (all exampleHolds examples)
-unfolding examples exampleHolds same sameVec isForm isNumber sixVectors hasRecord computing
+unfolding examples exampleHolds same sameVec isForm isNumber sixVectors hasRecord hasState isState passes zeros leavesBy computing
 examples-hold = tt
 
 -- ════ K2: the order of assignments

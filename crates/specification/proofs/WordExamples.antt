@@ -9,6 +9,8 @@ use Rattle.specification.specs.Lines.{refusedIn, lined}
 use Rattle.specification.specs.Evaluation.{signedByte, sixOrLess, restIsZero, goodAssignment, assignment, value}
 use Rattle.specification.specs.Commands.{numeral, signedNumeral, reason, blanks, refusalText, stepReason, countText, checkedText, answerText, packInput}
 use Rattle.specification.specs.Commands.{valueText, valueInput, paired, readSides, assignmentText, decisionText, readOneLine, testedLog, testedText, unpackedText, unpackLog, unpackInput}
+use Rattle.specification.specs.Lines.{inFront, linesOf}
+use Rattle.specification.specs.Commands.{lineRead, namesAnswer, readFirst, firstAnswer, readOneStep, stepAnswer, answerLine, passLine, answerLines, endText, derivationInput}
 use Rattle.specification.specs.AssignmentTexts.{readComponent, readValue, putThree, noneYet, readAssigned}
 use Rattle.specification.proofs.Computing.{computing}
 use Rattle.specification.proofs.TextExamples.{computingText}
@@ -18,7 +20,7 @@ use Rattle.specification.proofs.LogTextExamples.{computingLines}
 unfoldable pub computingWords : Unit {0}
 unfolding computing computingText computingLines signedByte sixOrLess restIsZero goodAssignment assignment value numeral signedNumeral reason blanks refusalText
     stepReason countText checkedText answerText packInput readComponent readValue putThree noneYet readAssigned valueText valueInput paired readSides assignmentText decisionText readOneLine testedLog testedText
-    unpackedText unpackLog unpackInput
+    unpackedText unpackLog unpackInput inFront linesOf lineRead namesAnswer readFirst firstAnswer readOneStep stepAnswer answerLine passLine answerLines endText derivationInput
 computingWords = tt
 
 -- a value, its assignment in another order than the names
@@ -79,3 +81,21 @@ differs-example : decisionText (bytes "am") (1 ∷ 0 ∷ []) (record { kind = 1;
     (record { kind = 1; terms = [] }) (0 ∷ 0 ∷ 1 ∷ 0 ∷ 0 ∷ 0 ∷ []) differs ≡ bytes "differs\na = (0, 0, 1), m = 0\nleft = (0, 0, 2)\nright = (0, 0, 0)\n"
 unfolding computingWords
 differs-example = refl
+
+-- a derivation: each line is answered by itself, a refused one leaves all as before, and at the end stands the log
+derivation-example : derivationInput (bytes "vectors a b c\nvectors a\nscalars d\n\nvector e\nvector (a^b)^c+d*a\nrule 1: a b c a, M = 1\nrule 6\nrule 3: a b c b a, M = 1")
+    ≡ bytes "refused 1 at line 2, column 9: no name, more than 24 names, or a name twice\nvectors a\n        ^\n"
+    ++ bytes "refused 5 at line 5, column 8: a name that is not declared\nvector e\n       ^\n"
+    ++ bytes "vector d*a-(b.c)*a+(a.c)*b\n"
+    ++ bytes "vector d*a-(b.c)*a+(abc)*a+(a.c)*b-(a.c)*(a^b)+(a.b)*(a^c)-(a.a)*(b^c)\n"
+    ++ bytes "refused 4 at line 8, column 6: torn\nrule 6\n     ^\n"
+    ++ bytes "refused 6 at step 2: kinds that do not fit\n"
+    ++ bytes "\nvectors a b c scalars d\nvector d*a-(b.c)*a+(a.c)*b\nrule 1: a b c a, M = 1\n"
+    ++ bytes "vector d*a-(b.c)*a+(abc)*a+(a.c)*b-(a.c)*(a^b)+(a.b)*(a^c)-(a.a)*(b^c)\n"
+unfolding computingWords
+derivation-example = refl
+
+-- nothing is open at the end
+unopened-example : derivationInput (bytes "vectors a\n") ≡ bytes "refused 4 at line 2, column 1: torn\n\n^\n"
+unfolding computingWords
+unopened-example = refl

@@ -16,12 +16,14 @@ use Rattle.specification.specs.Records.{writeInto, testTerms}
 use Rattle.specification.specs.Evaluation.{value, assignment}
 use Rattle.specification.specs.Decision.{Decision, holds, differs, undecided, DecidedBy}
 use Rattle.specification.specs.Logs as C
+use Rattle.specification.specs.Rules.{Step}
+use Rattle.specification.specs.OpenLogs.{State, addTo}
 use Rattle.specification.specs.Shortening.{Shortens}
 use Rattle.specification.specs.Printing.{digits, printForm, alphabet, inputTable}
 use Rattle.specification.specs.Words.{bytes}
 use Rattle.specification.specs.Text.{Placed, refusedAt, placed, _>>=_, placeOf, skip, textForm}
-use Rattle.specification.specs.Lines.{Place, lineOf, nextLine, toLine, atEnd, Lined, refusedIn, lined, inLine, _>>>_, sameBytes, Named, readHeader}
-use Rattle.specification.specs.LogTexts.{from, nothingLeft, logText, readLogText, logBytesOf}
+use Rattle.specification.specs.Lines.{linesOf, Place, lineOf, nextLine, isEmptyLine, toLine, atEnd, Lined, refusedIn, lined, inLine, _>>>_, sameBytes, Named, isDeclaration, declared, readHeader}
+use Rattle.specification.specs.LogTexts.{formLine, logText, from, readFormLine, isStepLine, readStepLine, nothingLeft, readLogText, logBytesOf}
 use Rattle.specification.specs.AssignmentTexts.{noneYet, readAssigned}
 
 -- ════ numbers and refusals in words
@@ -93,6 +95,7 @@ stepReason n =
     if eqb n 10 then bytes "more than 48 terms" else
     if eqb n 11 then bytes "not in the one written shape" else
     if eqb n 13 then bytes "the last form is not the one reached" else
+    if eqb n 14 then bytes "more than 64 steps" else
     bytes "a table that is none"
 
 -- `1 step`, `2 steps`
@@ -213,6 +216,69 @@ pub record ShorteningTold (names table : List ℕ) (first : Form) (text : List �
   pub shortens : Shortens table first log
   pub is : text ≡ logText names table (log .first) (log .steps) (log .last)
 
+-- ════ derivation: names, a first form and the steps of a log that stays open (K5), a line each, and each line is answered by itself
+
+-- a derivation while it goes on: the names and the table of their kinds; from its first form on the state of the log that is open, and the steps taken
+pub data Derivation : Type 0 where
+  unopened : (names table : List ℕ) → Derivation
+  underway : (names : List ℕ) (first : Form) (state : State) (steps : List Step) → Derivation
+
+-- what the line k leaves, and what is told for it, where it is read; where it is refused, the refusal, and all is as before
+unfoldable pub lineRead : {A : Type 0} → (k : ℕ) (line : List ℕ) (before : Derivation) → Placed A → (A → Derivation × List ℕ) → Derivation × List ℕ
+lineRead k line before (refusedAt n c) answer = (before, refusalText n k c line)
+lineRead k line before (placed a) answer = answer a
+
+-- names, for which nothing is told
+unfoldable pub namesAnswer : Named → Derivation × List ℕ
+namesAnswer n = (unopened (n .0) (n .1), [])
+
+-- the line of the first form: 1 where no names are declared
+unfoldable pub readFirst : (names table line : List ℕ) → Placed Form
+readFirst names table line = if leb 1 (length names) then readFormLine names table line else refusedAt 1 0
+
+-- "open with a table .. and a first form": the form is told
+unfoldable pub firstAnswer : (names table : List ℕ) → Form → Derivation × List ℕ
+firstAnswer names table f = (underway names f (record { table = table; count = 0; form = f }) [], formLine names f)
+
+-- the line of a step: 4 for a line that is none
+unfoldable pub readOneStep : (names table line : List ℕ) → Placed Step
+readOneStep names table line = if isStepLine line then readStepLine names table line else refusedAt 4 (skip line 0)
+
+-- "add a step": the form reached is told, or the refusal with the step's number; "A refused step leaves the log open as before"
+unfoldable pub stepAnswer : (names : List ℕ) (first : Form) (state : State) (steps : List Step) (step : Step) → Result State → Derivation × List ℕ
+stepAnswer names first state steps step (refused n) = (underway names first state steps, checkedText 0 0 (C.refusedAt n (state .count + 1)))
+stepAnswer names first state steps step (given next) = (underway names first next (steps ++ step ∷ []), formLine names (next .form))
+
+-- what the line k leaves, and what is told for it
+unfoldable pub answerLine : (k : ℕ) (line : List ℕ) → Derivation → Derivation × List ℕ
+answerLine k line (unopened names table) =
+    if isDeclaration line
+    then lineRead k line (unopened names table) (declared line (names, table)) namesAnswer
+    else lineRead k line (unopened names table) (readFirst names table line) (firstAnswer names table)
+answerLine k line (underway names first state steps) =
+    lineRead k line (underway names first state steps) (readOneStep names (state .table) line)
+    λ step. stepAnswer names first state steps step (addTo state (C.writeStep step))
+
+-- "blank lines are passed"
+unfoldable pub passLine : (k : ℕ) (line : List ℕ) → Derivation → Derivation × List ℕ
+passLine k line d = if isEmptyLine line then (d, []) else answerLine k line d
+
+-- what lines leave, the first of them the line k, and what is told for them behind what was told before
+unfoldable pub answerLines : (k : ℕ) (lines : List (List ℕ)) → Derivation → (before : List ℕ) → Derivation × List ℕ
+answerLines k [] d before = (d, before)
+answerLines k (line ∷ ls) d before = answerLines (k + 1) ls (passLine k line d .0) (before ++ passLine k line d .1)
+
+-- at the end, the line k, the log behind an empty line, closed with the form reached; where none is open, what is missing
+unfoldable pub endText : (k : ℕ) → Derivation → List ℕ
+endText k (unopened names table) = answerLine k [] (unopened names table) .1
+endText k (underway names first state steps) = bytes "\n" ++ logText names (state .table) first steps (state .form)
+
+-- what is told for all lines, and at the end
+unfoldable pub derivationInput : (s : List ℕ) → List ℕ
+derivationInput s =
+    let told = answerLines 1 (linesOf s) (unopened [] []) [] in
+    told .1 ++ endText (length (linesOf s) + 1) (told .0)
+
 -- ════ one line behind the names, and nothing more
 
 unfoldable pub readOneLine : {A : Type 0} → (read : (names table line : List ℕ) → Placed A) (s : List ℕ) → Lined (Named × A)
@@ -240,20 +306,21 @@ ShortenAnswer s text = Answered (readOneLine textForm s) ShorteningTold text
 unfoldable pub usage : List ℕ
 usage =
     bytes "kalzunbi WORD [FILE]: vector algebra in letters, proved. The input is the file or standard input, at most 65536 bytes.\n"
-    ++ bytes "  reduce   names, then formulas, a line each: the form of each\n"
-    ++ bytes "  decide   names, then formula = formula: holds, or an assignment under which they differ\n"
-    ++ bytes "  value    names, a formula, a line like a = (1, 0, -2), m = 3: the formula's value\n"
-    ++ bytes "  shorten  names, then a formula: the log that shortens it, as text\n"
-    ++ bytes "  check    a log as text: accepted, or the refusal and its step\n"
-    ++ bytes "  pack     a log as text: the table's length byte, the table and the log's bytes\n"
-    ++ bytes "  unpack   the table's length byte, the table and the log's bytes: the log as text\n"
+    ++ bytes "  reduce      names, then formulas, a line each: the form of each\n"
+    ++ bytes "  decide      names, then formula = formula: holds, or an assignment under which they differ\n"
+    ++ bytes "  value       names, a formula, a line like a = (1, 0, -2), m = 3: the formula's value\n"
+    ++ bytes "  shorten     names, then a formula: the log that shortens it, as text\n"
+    ++ bytes "  derivation  names, a form, then steps, each line answered with the form reached: the log, as text\n"
+    ++ bytes "  check       a log as text: accepted, or the refusal and its step\n"
+    ++ bytes "  pack        a log as text: the table's length byte, the table and the log's bytes\n"
+    ++ bytes "  unpack      the table's length byte, the table and the log's bytes: the log as text\n"
     ++ bytes "Names come first, as in 'vectors a b c' and 'scalars m n'. A refusal begins with the word refused.\n"
 
 -- a word that is known
 unfoldable pub isCommand : (word : List ℕ) → Bool
 isCommand word =
     sameBytes word (bytes "reduce") || sameBytes word (bytes "decide") || sameBytes word (bytes "value") || sameBytes word (bytes "shorten")
-    || sameBytes word (bytes "check") || sameBytes word (bytes "pack") || sameBytes word (bytes "unpack")
+    || sameBytes word (bytes "check") || sameBytes word (bytes "pack") || sameBytes word (bytes "unpack") || sameBytes word (bytes "derivation")
 
 -- the answer to a word that fixes it
 unfoldable pub commandText : (word s : List ℕ) → List ℕ
@@ -263,6 +330,7 @@ commandText word s =
     if sameBytes word (bytes "check") then answerText (checkInput s) else
     if sameBytes word (bytes "pack") then answerText (packInput s) else
     if sameBytes word (bytes "unpack") then unpackInput s else
+    if sameBytes word (bytes "derivation") then derivationInput s else
     usage
 
 -- the one, or the other

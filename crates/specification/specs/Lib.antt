@@ -13,6 +13,7 @@ pub mod Evaluation
 pub mod Rules
 pub mod Logs
 pub mod Decision
+pub mod OpenLogs
 pub mod Shortening
 pub mod Auditing
 pub mod Printing

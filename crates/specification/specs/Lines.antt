@@ -25,6 +25,16 @@ unfoldable pub behindLine : List ℕ → List ℕ
 behindLine [] = []
 behindLine (b ∷ s) = let more = behindLine s in if eqb b 10 then s else more
 
+-- a byte in front of the first of lines
+unfoldable pub inFront : ℕ → List (List ℕ) → List (List ℕ)
+inFront b [] = (b ∷ []) ∷ []
+inFront b (line ∷ ls) = (b ∷ line) ∷ ls
+
+-- all lines of a text: each ends at a newline, the last one there or at the end
+unfoldable pub linesOf : List ℕ → List (List ℕ)
+linesOf [] = []
+linesOf (b ∷ s) = let more = inFront b (linesOf s) in if eqb b 10 then [] ∷ linesOf s else more
+
 -- where a line begins: its number, and all from it on
 abbrev pub Place : Type 0
 Place = ℕ × List ℕ

@@ -14,6 +14,7 @@ use Rattle.specification.specs.Evaluation.{valueCall}
 use Rattle.specification.specs.Logs.{Checked, refusedAt, accepted, atStep, checkCall}
 use Rattle.specification.specs.Terms.{Form}
 use Rattle.specification.specs.Decision as D
+use Rattle.specification.specs.OpenLogs.{openCall, addCall, lookCall, DecidedOpen, closeCall}
 use Rattle.specification.specs.Shortening.{shortenTested, ShortenedTo}
 use Rattle.specification.specs.Auditing.{agreed, auditTested, AllAgree}
 use Rattle.specification.specs.Text.{textCall, printNamedCall}
@@ -102,6 +103,30 @@ pub record DecideReturned (table first second buffer work : List ℕ) (r : ℤ) 
   pub answer : D.Decision
   pub is : r ≡ decisionReturned answer
   pub decided : D.Decided table first second buffer work answer buffer′ work′
+
+-- ════ a log that stays open
+
+-- the call that opens a log
+unfoldable pub openReturned : (table form state : List ℕ) → ℤ × List ℕ
+openReturned table form state = handed (openCall table form state)
+
+-- the call that adds a step
+unfoldable pub addReturned : (state step next : List ℕ) → ℤ × List ℕ
+addReturned state step next = handed (addCall state step next)
+
+-- the call that looks at the form reached
+unfoldable pub lookReturned : (state out : List ℕ) → ℤ × List ℕ
+lookReturned state out = handed (lookCall state out)
+
+-- the call that decides the form reached against another: the number returned is that of an answer which is decided
+pub record DecideOpenReturned (state form buffer work : List ℕ) (r : ℤ) (buffer′ work′ : List ℕ) : Type 0 where
+  pub answer : D.Decision
+  pub is : r ≡ decisionReturned answer
+  pub decided : DecidedOpen state form buffer work answer buffer′ work′
+
+-- the call that closes a log: 0 where it is accepted
+unfoldable pub closeReturned : (state form : List ℕ) → ℤ
+closeReturned state form = returned (closeCall state form >> given 0)
 
 -- ════ shortening
 

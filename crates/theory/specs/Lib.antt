@@ -13,6 +13,7 @@ pub mod Reduction
 pub mod Rules
 pub mod Records
 pub mod Replay
+pub mod OpenLogs
 pub mod Shortening
 pub mod Lines
 pub mod Text

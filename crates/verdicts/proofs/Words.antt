@@ -12,10 +12,10 @@ use Rattle.checker.specs.declared.Checked.the-variants.{Accepted, Refused}
 use Rattle.checker.specs.Answers.{checkedOf}
 
 -- the last reason
-pub reason-else : (n : ℕ) → (n ≡ 5 → ⊥) → (n ≡ 6 → ⊥) → (n ≡ 8 → ⊥) → (n ≡ 9 → ⊥) → (n ≡ 10 → ⊥) → (n ≡ 11 → ⊥) → (n ≡ 13 → ⊥)
+pub reason-else : (n : ℕ) → (n ≡ 5 → ⊥) → (n ≡ 6 → ⊥) → (n ≡ 8 → ⊥) → (n ≡ 9 → ⊥) → (n ≡ 10 → ⊥) → (n ≡ 11 → ⊥) → (n ≡ 13 → ⊥) → (n ≡ 14 → ⊥)
     → bytes "a table that is none" ≡ stepReason n
 unfolding stepReason
-reason-else n a b c d e f g = rw (ne-eqb n 5 a, ne-eqb n 6 b, ne-eqb n 8 c, ne-eqb n 9 d, ne-eqb n 10 e, ne-eqb n 11 f, ne-eqb n 13 g)
+reason-else n a b c d e f g h = rw (ne-eqb n 5 a, ne-eqb n 6 b, ne-eqb n 8 c, ne-eqb n 9 d, ne-eqb n 10 e, ne-eqb n 11 f, ne-eqb n 13 g, ne-eqb n 14 h)
 
 -- one, and more than one
 pub one-text : (n : ℕ) (word : List ℕ) → n ≡ 1 → numeral n ++ bytes " " ++ word ++ [] ≡ countText n word

@@ -36,6 +36,9 @@ fn tell_step_reason(out: &mut [u8], at: usize, n: u8) -> usize
     if n == 13 {
         return put(out, at, b"the last form is not the one reached");
     }
+    if n == 14 {
+        return put(out, at, b"more than 64 steps");
+    }
     put(out, at, b"a table that is none")
 }
 
@@ -52,17 +55,24 @@ fn tell_count(out: &mut [u8], at: usize, n: usize, word: &[u8]) -> usize
     put(out, c, b"s")
 }
 
-// A log refused at a step.
-pub fn tell_refused(out: &mut [u8], n: u8, step: u8) -> usize
-    ensures { λ r. ⌜ Told (now (out .exit)) r (checkedText 0 0 (refusedAt n step)) ⌝ }
+// A step refused, told behind a text.
+pub fn tell_step_refusal(out: &mut [u8], at: usize, n: u8, step: u8) -> usize
+    ensures { λ r. ⌜ Tells (now (out .entry)) (now (out .exit)) at r (checkedText 0 0 (refusedAt n step)) ⌝ }
 {
-    let a = put(out, 0, b"refused ");
+    let a = put(out, at, b"refused ");
     let b = put_number(out, a, n as u64);
     let c = put(out, b, b" at step ");
     let d = put_number(out, c, step as u64);
     let e = put(out, d, b": ");
     let f = tell_step_reason(out, e, n);
     put(out, f, b"\n")
+}
+
+// A log refused at a step.
+pub fn tell_refused(out: &mut [u8], n: u8, step: u8) -> usize
+    ensures { λ r. ⌜ Told (now (out .exit)) r (checkedText 0 0 (refusedAt n step)) ⌝ }
+{
+    tell_step_refusal(out, 0, n, step)
 }
 
 // A log accepted, with its steps and the terms of its ends.

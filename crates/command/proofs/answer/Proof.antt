@@ -2,7 +2,7 @@
 use denote.Ref.{now}
 use mathlib.Core.Path.{sym, _∙_}
 use Rattle.specification.specs.Words.{bytes}
-use Rattle.command.proofs.Answers.{decides, shortens, reduces, values, checks, packs, unpacks, helps}
+use Rattle.command.proofs.Answers.{decides, shortens, reduces, values, checks, packs, unpacks, derives, helps}
 use borrow.Author.Needs.{needs}
 use Rattle.command.proofs.answer.Statement.{statement}
 use Rattle.command.proofs.answer.Tie as tie
@@ -208,8 +208,14 @@ returns-7 c =
     (sym (c14 .same-bytes4 .ensures) ∙ (c13 .if4 .left)) (sym (c11 .same-bytes5 .ensures) ∙ (c10 .if5 .left)) (sym (c8 .same-bytes6 .ensures) ∙ (c7 .if6 .left))
     (sym (c5 .same-bytes7 .ensures) ∙ (c4 .if7 .taken)) (c2 .unpack-text .ensures)
 
-tell-usage-requires : tie.Need-tell-usage-requires
-tell-usage-requires c κs = search needs
+slice-aggregate-same-bytes-8 : tie.Need-slice-aggregate-same-bytes-8
+slice-aggregate-same-bytes-8 c = search needs
+
+same-bytes-requires-8 : tie.Need-same-bytes-requires-8
+same-bytes-requires-8 c κs = search needs
+
+derivation-text-requires : tie.Need-derivation-text-requires
+derivation-text-requires c κs = search needs
 
 same-length-8 : tie.Need-same-length-8
 same-length-8 c = search needs
@@ -232,11 +238,45 @@ returns-8 c =
     let c20 = c19 .before in
     let c22 = c20 .before .before in
     let c23 = c22 .before in
-    let c28 = c23 .before .before .before .before .before in
-    helps (now (c28 .args .word)) (now (c28 .args .s)) _ _ (sym (c23 .same-bytes .ensures) ∙ (c22 .if1 .left))
-    (sym (c20 .same-bytes2 .ensures) ∙ (c19 .if2 .left)) (sym (c17 .same-bytes3 .ensures) ∙ (c16 .if3 .left))
-    (sym (c14 .same-bytes4 .ensures) ∙ (c13 .if4 .left)) (sym (c11 .same-bytes5 .ensures) ∙ (c10 .if5 .left)) (sym (c8 .same-bytes6 .ensures) ∙ (c7 .if6 .left))
-    (sym (c5 .same-bytes7 .ensures) ∙ (c4 .if7 .left)) (c2 .tell-usage .ensures)
+    let c25 = c23 .before .before in
+    let c26 = c25 .before in
+    let c31 = c26 .before .before .before .before .before in
+    derives (now (c31 .args .word)) (now (c31 .args .s)) _ _ (sym (c26 .same-bytes .ensures) ∙ (c25 .if1 .left))
+    (sym (c23 .same-bytes2 .ensures) ∙ (c22 .if2 .left)) (sym (c20 .same-bytes3 .ensures) ∙ (c19 .if3 .left))
+    (sym (c17 .same-bytes4 .ensures) ∙ (c16 .if4 .left)) (sym (c14 .same-bytes5 .ensures) ∙ (c13 .if5 .left)) (sym (c11 .same-bytes6 .ensures) ∙ (c10 .if6 .left))
+    (sym (c8 .same-bytes7 .ensures) ∙ (c7 .if7 .left)) (sym (c5 .same-bytes8 .ensures) ∙ (c4 .if8 .taken)) (c2 .derivation-text .ensures)
+
+tell-usage-requires : tie.Need-tell-usage-requires
+tell-usage-requires c κs = search needs
+
+same-length-9 : tie.Need-same-length-9
+same-length-9 c = search needs
+
+returns-9 : tie.Need-returns-9
+unfolding bytes
+returns-9 c =
+    let c2 = c .before .before in
+    let c4 = c2 .before .before in
+    let c5 = c4 .before in
+    let c7 = c5 .before .before in
+    let c8 = c7 .before in
+    let c10 = c8 .before .before in
+    let c11 = c10 .before in
+    let c13 = c11 .before .before in
+    let c14 = c13 .before in
+    let c16 = c14 .before .before in
+    let c17 = c16 .before in
+    let c19 = c17 .before .before in
+    let c20 = c19 .before in
+    let c22 = c20 .before .before in
+    let c23 = c22 .before in
+    let c25 = c23 .before .before in
+    let c26 = c25 .before in
+    let c31 = c26 .before .before .before .before .before in
+    helps (now (c31 .args .word)) (now (c31 .args .s)) _ _ (sym (c26 .same-bytes .ensures) ∙ (c25 .if1 .left))
+    (sym (c23 .same-bytes2 .ensures) ∙ (c22 .if2 .left)) (sym (c20 .same-bytes3 .ensures) ∙ (c19 .if3 .left))
+    (sym (c17 .same-bytes4 .ensures) ∙ (c16 .if4 .left)) (sym (c14 .same-bytes5 .ensures) ∙ (c13 .if5 .left)) (sym (c11 .same-bytes6 .ensures) ∙ (c10 .if6 .left))
+    (sym (c8 .same-bytes7 .ensures) ∙ (c7 .if7 .left)) (sym (c5 .same-bytes8 .ensures) ∙ (c4 .if8 .left)) (c2 .tell-usage .ensures)
 
 pub answer-spec : {M : Type 1} → statement M
 answer-spec =
@@ -277,6 +317,11 @@ answer-spec =
     unpack-text-requires
     same-length-7
     returns-7
-    tell-usage-requires
+    slice-aggregate-same-bytes-8
+    same-bytes-requires-8
+    derivation-text-requires
     same-length-8
-    returns-8)
+    returns-8
+    tell-usage-requires
+    same-length-9
+    returns-9)

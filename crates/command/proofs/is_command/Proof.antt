@@ -1,7 +1,7 @@
 -- `command::is_command` meets its contract. Assumes nothing.
 use mathlib.Core.Path.{sym, _∙_}
 use Rattle.specification.specs.Words.{bytes}
-use Rattle.command.proofs.Answers.{known-reduce, known-decide, known-value, known-shorten, known-check, known-pack, known-unpack}
+use Rattle.command.proofs.Answers.{known-reduce, known-decide, known-value, known-shorten, known-check, known-pack, known-unpack, known-derivation}
 use borrow.Author.Needs.{needs}
 use Rattle.command.proofs.is_command.Statement.{statement}
 use Rattle.command.proofs.is_command.Tie as tie
@@ -117,6 +117,32 @@ same-bytes-requires-7 c κs = search needs
 returns-7 : tie.Need-returns-7
 unfolding bytes
 returns-7 c =
+    let c1 = c .before in
+    let c3 = c1 .before .before in
+    let c4 = c3 .before in
+    let c6 = c4 .before .before in
+    let c7 = c6 .before in
+    let c9 = c7 .before .before in
+    let c10 = c9 .before in
+    let c12 = c10 .before .before in
+    let c13 = c12 .before in
+    let c15 = c13 .before .before in
+    let c16 = c15 .before in
+    let c18 = c16 .before .before in
+    let c19 = c18 .before in
+    known-unpack _ (sym (c19 .same-bytes .ensures) ∙ (c18 .if1 .left)) (sym (c16 .same-bytes2 .ensures) ∙ (c15 .if2 .left))
+    (sym (c13 .same-bytes3 .ensures) ∙ (c12 .if3 .left)) (sym (c10 .same-bytes4 .ensures) ∙ (c9 .if4 .left)) (sym (c7 .same-bytes5 .ensures) ∙ (c6 .if5 .left))
+    (sym (c4 .same-bytes6 .ensures) ∙ (c3 .if6 .left)) (sym (c1 .same-bytes7 .ensures) ∙ (c .if7 .taken))
+
+slice-aggregate-same-bytes-8 : tie.Need-slice-aggregate-same-bytes-8
+slice-aggregate-same-bytes-8 c = search needs
+
+same-bytes-requires-8 : tie.Need-same-bytes-requires-8
+same-bytes-requires-8 c κs = search needs
+
+returns-8 : tie.Need-returns-8
+unfolding bytes
+returns-8 c =
     let c2 = c .before .before in
     let c3 = c2 .before in
     let c5 = c3 .before .before in
@@ -129,9 +155,11 @@ returns-7 c =
     let c15 = c14 .before in
     let c17 = c15 .before .before in
     let c18 = c17 .before in
-    (c .same-bytes7 .ensures) ∙ known-unpack _ (sym (c18 .same-bytes .ensures) ∙ (c17 .if1 .left)) (sym (c15 .same-bytes2 .ensures) ∙ (c14 .if2 .left))
-    (sym (c12 .same-bytes3 .ensures) ∙ (c11 .if3 .left)) (sym (c9 .same-bytes4 .ensures) ∙ (c8 .if4 .left)) (sym (c6 .same-bytes5 .ensures) ∙ (c5 .if5 .left))
-    (sym (c3 .same-bytes6 .ensures) ∙ (c2 .if6 .left))
+    let c20 = c18 .before .before in
+    let c21 = c20 .before in
+    (c .same-bytes8 .ensures) ∙ known-derivation _ (sym (c21 .same-bytes .ensures) ∙ (c20 .if1 .left)) (sym (c18 .same-bytes2 .ensures) ∙ (c17 .if2 .left))
+    (sym (c15 .same-bytes3 .ensures) ∙ (c14 .if3 .left)) (sym (c12 .same-bytes4 .ensures) ∙ (c11 .if4 .left)) (sym (c9 .same-bytes5 .ensures) ∙ (c8 .if5 .left))
+    (sym (c6 .same-bytes6 .ensures) ∙ (c5 .if6 .left)) (sym (c3 .same-bytes7 .ensures) ∙ (c2 .if7 .left))
 
 pub is-command-spec : {M : Type 1} → statement M
 is-command-spec =
@@ -157,4 +185,7 @@ is-command-spec =
     returns-6
     slice-aggregate-same-bytes-7
     same-bytes-requires-7
-    returns-7)
+    returns-7
+    slice-aggregate-same-bytes-8
+    same-bytes-requires-8
+    returns-8)

@@ -6,6 +6,7 @@ use Prim.Native.Nat.{ℕ, _≤_}
 use denote.Ref.{now}
 use Rattle.specification.specs.Commands.{refusalText}
 use Rattle.telling.specs.Told.{Told}
+use Rattle.telling.proofs.Pieces.{told-first}
 use Rattle.lines.proofs.Ends.{line-at}
 use borrow.Author.Needs.{needs}
 use Rattle.refusals.proofs.tell_line.Statement.{statement}
@@ -38,7 +39,7 @@ returns c =
     let c8 = c5 .before .before .before in
     let a = c8 .args in
     subst (λ (l : List ℕ). Told (c2 .tell-refusal .last .0) (c2 .tell-refusal .result) (refusalText (a .n) (a .p .number) (a .column) l))
-    (line-at (now (a .s)) (a .p) _ (c5 .line-end .ensures)) (c2 .tell-refusal .ensures)
+    (line-at (now (a .s)) (a .p) _ (c5 .line-end .ensures)) (told-first (c2 .tell-refusal .ensures))
 
 pub tell-line-spec : {M : Type 1} → statement M
 tell-line-spec =

@@ -2,7 +2,7 @@
 use Rattle.refusals.specs.Places.{placeText}
 use Rattle.specification.specs.Words.{bytes}
 use native.Mathlib.Omega.{arith}
-use Rattle.telling.proofs.Pieces.{tells-then, told-first}
+use Rattle.telling.proofs.Pieces.{tells-then}
 use borrow.Author.Needs.{needs}
 use Rattle.refusals.proofs.tell_place.Statement.{statement}
 use Rattle.refusals.proofs.tell_place.Tie as tie
@@ -49,9 +49,8 @@ returns c =
     let c15 = c11 .before .before .before .before in
     let c20 = c15 .before .before .before .before .before in
     let c24 = c20 .before .before .before .before in
-    told-first
-    (tells-then (tells-then (tells-then (tells-then (tells-then (c24 .put .ensures) (c20 .put-number .ensures)) (c15 .put2 .ensures))
-    (c11 .put-number2 .ensures)) (c6 .put3 .ensures)) (c2 .put-number3 .ensures))
+    tells-then (tells-then (tells-then (tells-then (tells-then (c24 .put .ensures) (c20 .put-number .ensures)) (c15 .put2 .ensures))
+    (c11 .put-number2 .ensures)) (c6 .put3 .ensures)) (c2 .put-number3 .ensures)
 
 pub tell-place-spec : {M : Type 1} → statement M
 tell-place-spec =

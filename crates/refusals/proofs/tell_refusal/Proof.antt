@@ -69,9 +69,8 @@ returns c =
     let c25 = c20 .before .before .before .before .before in
     let c29 = c25 .before .before .before .before in
     let c34 = c29 .before .before .before .before .before in
-    c2 .put5 .ensures .is _
-    (c7 .put-blanks .ensures .is _ (c11 .put4 .ensures .is _ (c16 .put3 .ensures .is _ (c20 .put2 .ensures .is _ (c25 .tell-reason .ensures .is _
-    (c29 .put .ensures .is _ (c34 .tell-place .ensures)))))))
+    tells-then (tells-then (tells-then (tells-then (tells-then (tells-then (tells-then (c34 .tell-place .ensures) (c29 .put .ensures)) (c25 .tell-reason .ensures))
+    (c20 .put2 .ensures)) (c16 .put3 .ensures)) (c11 .put4 .ensures)) (c7 .put-blanks .ensures)) (c2 .put5 .ensures)
 
 pub tell-refusal-spec : {M : Type 1} → statement M
 tell-refusal-spec =

@@ -4,12 +4,12 @@ use mathlib.Core.Bool.{_&&_}
 use mathlib.Core.List.{List, [], _∷_, _++_, append-nil}
 use Prim.Native.Nat.{ℕ, zero, suc, _+_, _≤_, _<_}
 use native.Mathlib.Omega.{arith}
-use lib.ListN.{length, getD, length-append}
-use lib.Seq.{append-snoc}
+use lib.ListN.{length, getD, drop, length-append}
+use lib.Seq.{append-snoc, drop-append-seam}
 use lib.Dec.{T, ltb, leb, eqb, ltb→lt, leb→le, eqb→eq}
 use borrow.Author.Tests.{lt-ltb, le-leb, eq-eqb}
 use Rattle.specification.specs.Lists.{joined}
-use Rattle.specification.specs.Results.{given}
+use Rattle.specification.specs.Results.{Result, given, _>>=_, _>>_, require}
 use Rattle.specification.specs.Terms.{Form, termInShape}
 use Rattle.specification.specs.Records.{writeTerm, writeForm, readLetters, readTermAt, readFormAt}
 use Rattle.specification.specs.Rules.{Step, isRule, ruleLetters, stepInShape}
@@ -30,7 +30,7 @@ StepsInShape steps = All (λ (st : Step). T (stepInShape st)) steps
 -- ════ steps
 
 -- a step in shape is read back, wherever its record stands
-step-read : (s : List ℕ) (a b : ℕ) (st : Step) → T (stepInShape st) → Spells s a b (writeStep st) → readStepAt s a ≡ given (st, b)
+pub step-read : (s : List ℕ) (a b : ℕ) (st : Step) → T (stepInShape st) → Spells s a b (writeStep st) → readStepAt s a ≡ given (st, b)
 unfolding writeStep readStepAt
 step-read s a b st h p =
     let o : StepShape st = step-opens st h in
@@ -47,12 +47,12 @@ step-read s a b st h p =
     )
 
 -- what reading a step gives
-record StepRead (s : List ℕ) (a b : ℕ) (st : Step) : Type 0 where
-  inShape : T (stepInShape st)
-  spelled : Spells s a b (writeStep st)
+pub record StepRead (s : List ℕ) (a b : ℕ) (st : Step) : Type 0 where
+  pub inShape : T (stepInShape st)
+  pub spelled : Spells s a b (writeStep st)
 
 -- a step that is read is in shape, and its bytes are those that are written
-step-written : (s : List ℕ) (a b : ℕ) (st : Step) → Bytes s → readStepAt s a ≡ given (st, b) → StepRead s a b st
+pub step-written : (s : List ℕ) (a b : ℕ) (st : Step) → Bytes s → readStepAt s a ≡ given (st, b) → StepRead s a b st
 unfolding readStepAt writeStep stepInShape
 step-written s a b st bs e =
     let rule = getD s a 0 in
@@ -129,32 +129,75 @@ pub record LogInShape (first : Form) (steps : List Step) (last : Form) : Type 0 
   pub everyStep : StepsInShape steps
   pub lastForm : FormInShape last
 
--- reading a written log gives its parts and positions
-pub log-read-back : (first : Form) (steps : List Step) (last : Form) → LogInShape first steps last
-    → readLog (writeLog first steps last) ≡ given (logOf first steps last)
-unfolding readLog writeLog
-log-read-back first steps last h =
-    let s = writeLog first steps last in
+-- reading a log's last form from a position on: what is left once the first form and the steps are read
+unfoldable pub readLast : (first : Form) (firstEnd : ℕ) (steps : List Step) (lastStart : ℕ) (s : List ℕ) → Result Log
+readLast first firstEnd steps lastStart s = do
+  (last, next) ← readFormAt s lastStart
+  require (eqb next (length s)) 11
+  given (record { first = first; firstEnd = firstEnd; steps = steps; lastStart = lastStart; last = last })
+
+-- a written first form, count and steps are read back, whatever follows
+pub log-splits : (first : Form) (steps : List Step) (w : List ℕ) → FormInShape first → length steps ≤ 64 → StepsInShape steps
+    → readLog (writeForm first ++ length steps ∷ writeSteps steps ++ w)
+    ≡ readLast first (length (writeForm first)) steps (lastStartOf first steps) (writeForm first ++ length steps ∷ writeSteps steps ++ w)
+unfolding readLog readLast
+log-splits first steps w shape few shapes =
     let u = writeForm first in
     let v = length steps ∷ writeSteps steps in
-    let w = writeForm last in
+    let s = u ++ v ++ w in
     let p : Spells s 0 (length s) (u ++ v ++ w) = spells-all s in
     let e : 0 + length u ≡ length u = omega arith in
     let f : 0 + length (u ++ v) ≡ lastStartOf first steps = simp length-append (omega arith) in
     let p₁ = spells-first s 0 (length s) (u ++ v) w p in
     let q₁ : Spells s 0 (length u) u = rw e at (spells-first s 0 _ u v p₁) in
     let q₂ : Spells s (length u) (lastStartOf first steps) v = rw (e, f) at (spells-rest s 0 _ u v p₁) in
-    let q₃ : Spells s (lastStartOf first steps) (length s) w = rw f at (spells-rest s 0 (length s) (u ++ v) w p) in
-    let r₂ = steps-read s [] steps (length u + 1) (lastStartOf first steps) (h .everyStep) (spelled-tail s (length u) _ (length steps) (writeSteps steps) q₂) in
+    let r₂ = steps-read s [] steps (length u + 1) (lastStartOf first steps) shapes (spelled-tail s (length u) _ (length steps) (writeSteps steps) q₂) in
     simp (
-      form-read s 0 (length u) first (h .firstForm) q₁,
+      form-read s 0 (length u) first shape q₁,
       lt-ltb (length u) (length s) (spelled-there s (length u) _ (length steps) (writeSteps steps) q₂),
       spelled-byte s (length u) _ (length steps) (writeSteps steps) q₂,
-      le-leb (length steps) 64 (h .stepCount),
+      le-leb (length steps) 64 few,
       r₂,
-      form-read s (lastStartOf first steps) (length s) last (h .lastForm) q₃,
-      eq-eqb (length s) (length s) refl,
     )
+
+-- reading a written log gives its parts and positions
+pub log-read-back : (first : Form) (steps : List Step) (last : Form) → LogInShape first steps last
+    → readLog (writeLog first steps last) ≡ given (logOf first steps last)
+unfolding writeLog readLast
+log-read-back first steps last h =
+    let s = writeLog first steps last in
+    let front = writeForm first ++ length steps ∷ writeSteps steps in
+    let w = writeForm last in
+    let f : 0 + length front ≡ lastStartOf first steps = simp length-append (omega arith) in
+    let q : Spells s (lastStartOf first steps) (length s) w = rw f at (spells-rest s 0 (length s) front w (spells-all s)) in
+    log-splits first steps w (h .firstForm) (h .stepCount) (h .everyStep)
+    ∙ simp (form-read s (lastStartOf first steps) (length s) last (h .lastForm) q, eq-eqb (length s) (length s) refl)
+
+-- the parts of a log that begins with a written first form, count and steps are these, and what follows is its last form's record
+pub record SameParts (first : Form) (steps : List Step) (w : List ℕ) (first′ : Form) (steps′ : List Step) (last′ : Form) : Type 0 where
+  pub sameFirst : first ≡ first′
+  pub sameSteps : steps ≡ steps′
+  pub follows : w ≡ writeForm last′
+
+pub log-one-split : (first : Form) (steps : List Step) (w : List ℕ) (first′ : Form) (steps′ : List Step) (last′ : Form) → FormInShape first → length steps ≤ 64 → StepsInShape steps
+    → LogInShape first′ steps′ last′ → writeForm first ++ length steps ∷ writeSteps steps ++ w ≡ writeLog first′ steps′ last′ → SameParts first steps w first′ steps′ last′
+unfolding readLast writeLog
+log-one-split first steps w first′ steps′ last′ shape few shapes h e =
+    let front = writeForm first ++ length steps ∷ writeSteps steps in
+    let front′ = writeForm first′ ++ length steps′ ∷ writeSteps steps′ in
+    let read : readLast first (length (writeForm first)) steps (lastStartOf first steps) (front ++ w) ≡ given (logOf first′ steps′ last′) =
+    sym (log-splits first steps w shape few shapes) ∙ ap readLog e ∙ log-read-back first′ steps′ last′ h in
+    into (readFormAt (front ++ w) (lastStartOf first steps)) _ (logOf first′ steps′ last′) read λ l e₁ e₂.
+    past (eqb (l .1) (length (front ++ w))) 11 _ (logOf first′ steps′ last′) e₂ λ ends e₃.
+    let same = given-same e₃ in
+    let f : first ≡ first′ = ap (λ (log : Log). log .first) same in
+    let g : steps ≡ steps′ = ap (λ (log : Log). log .steps) same in
+    let q : front ≡ front′ = λ i. writeForm (f i) ++ length (g i) ∷ writeSteps (g i) in
+    record {
+      sameFirst = f;
+      sameSteps = g;
+      follows = sym (drop-append-seam front w) ∙ (λ i. drop (length (q i)) (e i)) ∙ drop-append-seam front′ (writeForm last′);
+    }
 
 -- what bytes that are read as a log say
 pub record LogRead (s : List ℕ) (log : Log) : Type 0 where

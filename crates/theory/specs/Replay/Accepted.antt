@@ -1,7 +1,7 @@
 -- What the replay accepts: exactly the written logs whose parts are in shape, whose letters are in the table, and whose steps lead from the first form to the last. Assumes nothing.
 use mathlib.Core.Path.{_≡_, refl, sym, _∙_, ap}
 use mathlib.Core.Bool.{Bool, true, false, _&&_}
-use mathlib.Core.List.{List, [], _∷_}
+use mathlib.Core.List.{List, [], _∷_, _++_}
 use Prim.Native.Nat.{ℕ, _+_, Ordering, Ordering·lt, Ordering·eq, Ordering·gt}
 use native.Mathlib.Omega.{arith}
 use lib.IntN.{ℤ, pos, negsuc}
@@ -14,7 +14,7 @@ use Rattle.specification.specs.Terms.{Term, Form, compareTerms}
 use Rattle.specification.specs.Records.{writeForm, testTerms}
 use Rattle.specification.specs.Rules.{Step, takeStep, testStepLetters}
 use Rattle.specification.specs.Logs.{Log, sameCoef, sameTerms, sameForm, Checked, refusedAt, accepted, atStep, readLog, stepsLetters, replay, checkCall, writeLog, takeSteps}
-use Rattle.theory.specs.Tests.{is-true, holds, and-split, given-same, tested, into}
+use Rattle.theory.specs.Tests.{is-true, holds, and-split, given-same, tested, bound, into}
 use Rattle.theory.specs.Shape.Letters.{table-good}
 use Rattle.theory.specs.Order.{compareTerms-eq, eq-compareTerms}
 use Rattle.theory.specs.Records.Positions.{Bytes}
@@ -63,7 +63,7 @@ sameForm-eq f g h =
     let w = and-split (eqb (f .kind) (g .kind)) (sameTerms (f .terms) (g .terms)) h in
     λ i. record { kind = eqb→eq (f .kind) (g .kind) (w .0) i; terms = sameTerms-eq (f .terms) (g .terms) (w .1) i }
 
-sameForm-same : (f : Form) → sameForm f f ≡ true
+pub sameForm-same : (f : Form) → sameForm f f ≡ true
 unfolding sameForm
 sameForm-same f = simp (eq-eqb (f .kind) (f .kind) refl, sameTerms-same)
 
@@ -75,6 +75,22 @@ testSteps table [] = given tt
 testSteps table (s ∷ ss) = do
   testStepLetters table s
   testSteps table ss
+
+-- one step more
+pub steps-more : (f : Form) (ss : List Step) (s : Step) (g h : Form) → takeSteps f ss ≡ given g → takeStep g s ≡ given h → takeSteps f (ss ++ s ∷ []) ≡ given h
+unfolding takeSteps
+steps-more f [] s g h e q = ap (λ (f : Form). takeStep f s >>= λ (k : Form). given k) (given-same e) ∙ ap (λ r. r >>= λ (k : Form). given k) q
+steps-more f (t ∷ ss) s g h e q =
+    let r = bound (takeStep f t) (λ (k : Form). takeSteps k ss) g e in
+    ap (λ x. x >>= λ (k : Form). takeSteps k (ss ++ s ∷ [])) (r .1) ∙ steps-more (r .0) ss s g h (r .2) q
+
+-- and its letters
+pub tests-more : (table : List ℕ) (ss : List Step) (s : Step) → testSteps table ss ≡ given tt → testStepLetters table s ≡ given tt → testSteps table (ss ++ s ∷ []) ≡ given tt
+unfolding testSteps
+tests-more table [] s e q = ap (λ (r : Test). r >> given tt) q
+tests-more table (t ∷ ss) s e q =
+    let r = tested (testStepLetters table t) (testSteps table ss) tt e in
+    ap (λ (x : Test). x >> testSteps table (ss ++ s ∷ [])) (r .0) ∙ tests-more table ss s (r .1) q
 
 -- steps in shape that lead from the first form to the last, with letters of the table
 pub record Derives (table : List ℕ) (first : Form) (steps : List Step) (last : Form) : Type 0 where

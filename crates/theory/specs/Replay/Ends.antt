@@ -2,29 +2,31 @@
 use mathlib.Core.Path.{_≡_, refl, sym, _∙_, ap, subst}
 use mathlib.Core.Bool.{true}
 use mathlib.Core.List.{List, [], _∷_, _++_, append-assoc}
-use Prim.Native.Nat.{ℕ, _≤_}
+use Prim.Native.Nat.{ℕ, _≤_, _<_}
 use native.Mathlib.Omega.{arith}
 use lib.ListN.{length, take, drop, length-append}
 use lib.Seq.{take-at, drop-append-seam}
+use lib.Dec.{T}
 use borrow.Author.Tests.{eq-eqb, le-leb}
 use Rattle.specification.specs.Results.{Result, given}
 use Rattle.specification.specs.Letters.{testTable, goodTable}
 use Rattle.specification.specs.Terms.{Form}
 use Rattle.specification.specs.Records.{writeForm, readForm, testTerms, takeBoth}
-use Rattle.specification.specs.Rules.{Step, takeStep, testStepLetters}
+use Rattle.specification.specs.Rules.{Step, takeStep, testStepLetters, stepInShape, stepAt}
 use Rattle.specification.specs.Evaluation.{value, assignment}
 use Rattle.specification.specs.Logs.{accepted, checkCall, writeSteps, writeLog, takeSteps}
 use Rattle.specification.specs.Promises.{EndsAgree, EndsRead, AcceptedEnds}
 use Rattle.specification.specs.Decision.{bufferBytes, workBytes, Decision, holds, differs, undecided, takeTwoForms, decideTested, DecidedBy, Decided}
 use Rattle.theory.specs.Tests.{is-true, given-same, tested, bound}
 use Rattle.theory.specs.Shape.Forms.{FormInShape}
-use Rattle.theory.specs.Shape.Letters.{AllKnown, terms-known}
+use Rattle.theory.specs.Elements.{all-append}
+use Rattle.theory.specs.Shape.Letters.{AllKnown, terms-known, known-terms}
 use Rattle.theory.specs.Reduction.Products.{Denotes}
-use Rattle.theory.specs.Rules.Steps.{step-keeps}
+use Rattle.theory.specs.Rules.Steps.{step-closes, step-admitted, step-keeps}
 use Rattle.theory.specs.Records.Positions.{Bytes}
 use Rattle.theory.specs.Records.Forms.{form-read-back}
 use Rattle.theory.specs.Records.Logs.{StepsInShape, lastStartOf}
-use Rattle.theory.specs.Replay.Accepted.{testSteps, Derives, Accepted, accepted-derives}
+use Rattle.theory.specs.Replay.Accepted.{testSteps, steps-more, tests-more, Derives, Accepted, accepted-derives}
 
 -- ════ equal values
 
@@ -40,6 +42,36 @@ steps-keep table f (s ∷ ss) g shape known shapes tests e =
     let d = step-keeps table f s (r .0) shape known (shapes .0) (t .0) (r .1) in
     let rest = steps-keep table (r .0) ss g (d .inShape) (d .known) (shapes .1) (t .1) (r .2) in
     record { kindIs = rest .kindIs ∙ d .kindIs; inShape = rest .inShape; known = rest .known; valueIs = λ σ. rest .valueIs σ ∙ d .valueIs σ }
+
+-- no steps lead from a form to itself
+pub derives-none : (table : List ℕ) (f : Form) → T (goodTable table) → FormInShape f → testTerms table (f .terms) ≡ given tt → Derives table f [] f
+unfolding takeSteps testSteps
+derives-none table f good shape letters = record {
+  tableGood = good;
+  inShape = record { firstForm = shape; stepCount = omega arith; everyStep = tt; lastForm = shape };
+  firstTested = letters;
+  stepsTested = refl;
+  lastTested = letters;
+  reaches = refl;
+}
+
+-- and a step that is admissible at the form reached leads on
+pub derives-more : (table : List ℕ) (first : Form) (steps : List Step) (f : Form) (s : Step) (g : Form) → Derives table first steps f → length steps < 64
+    → stepAt table f s ≡ given g → Derives table first (steps ++ s ∷ []) g
+derives-more table first steps f s g d l e =
+    let a = step-admitted table f s g e in
+    let shapes = all-append (λ (st : Step). T (stepInShape st)) steps (s ∷ []) (d .inShape .everyStep) (step-closes s (a .shape), tt) in
+    let tests = tests-more table steps s (d .stepsTested) (a .known) in
+    let reaches = steps-more first steps s f g (d .reaches) (a .takes) in
+    let k = steps-keep table first (steps ++ s ∷ []) g (d .inShape .firstForm) (terms-known table (first .terms) (d .firstTested)) shapes tests reaches in
+    record {
+      tableGood = d .tableGood;
+      inShape = record { firstForm = d .inShape .firstForm; stepCount = omega (arith, length-append steps (s ∷ [])); everyStep = shapes; lastForm = k .inShape };
+      firstTested = d .firstTested;
+      stepsTested = tests;
+      lastTested = known-terms table (g .terms) (k .known);
+      reaches = reaches;
+    }
 
 -- P5: the ends of a derivation have equal values under every assignment, and the same kind
 pub derivation-ends : (table : List ℕ) (first : Form) (steps : List Step) (last : Form) → Derives table first steps last → EndsAgree first last

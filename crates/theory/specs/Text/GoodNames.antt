@@ -101,7 +101,7 @@ names-good (suc most) kind line at n m k h e =
     go false false false false o p f hl hp hf again e = absurd (refused≢placed e)
 
 -- those of a line
-declared-good : (line : List ℕ) (n m : Named) → GoodSoFar n → declared line n ≡ placed m → GoodSoFar m
+pub declared-good : (line : List ℕ) (n m : Named) → GoodSoFar n → declared line n ≡ placed m → GoodSoFar m
 unfolding declared
 declared-good line n m h e = names-good (length line) vector line (skip line 0) n m vector-kind h e
 
@@ -125,30 +125,37 @@ pub record HeaderGood (names table : List ℕ) : Type 0 where
   pub tableGood : T (goodTable table)
   pub namesGood : T (goodNames names table)
 
+-- none yet
+pub none-good : GoodSoFar ([], [])
+unfolding all distinct
+none-good = record { many = refl; few = omega arith; letters = tt; apart = tt; kinds = tt }
+
+-- at least one name
+pub some-good : (names table : List ℕ) → GoodSoFar (names, table) → 1 ≤ length names → HeaderGood names table
+unfolding goodTable goodNames
+some-good names table g one =
+    let low : 1 ≤ length table = omega (arith, g .many) in
+    let high : length table ≤ 24 = omega (arith, g .many, g .few) in
+    record {
+      tableGood = and-both (leb 1 (length table) && leb (length table) 24) (all isKind table)
+          (and-both (leb 1 (length table)) (leb (length table) 24) (le→leb 1 (length table) low) (le→leb (length table) 24 high)) (g .kinds);
+      namesGood = and-both (eqb (length names) (length table) && all isLetter names) (distinct names)
+          (and-both (eqb (length names) (length table)) (all isLetter names) (eqb-T (length names) (length table) (g .many)) (g .letters)) (g .apart);
+    }
+
 -- the names of a text are good
 pub header-good : (s : List ℕ) (names table : List ℕ) (p : Place) → readHeader s ≡ lined ((names, table), p) → HeaderGood names table
-unfolding readHeader someNames goodTable goodNames all distinct
+unfolding readHeader someNames
 header-good s names table p e = first (readDeclared (length s) (toLine (1, s)) ([], [])) refl e
   where
-    none : GoodSoFar ([], [])
-    none = record { many = refl; few = omega arith; letters = tt; apart = tt; kinds = tt }
-
     good : (r : Named × Place) → GoodSoFar (r .0) → (b : Bool) → (T b → 1 ≤ length (r .0 .0)) → (if b then lined r else refusedIn 1 (r .1 .0) 0 (lineOf (r .1))) ≡ lined ((names, table), p)
         → HeaderGood names table
     good r h true f e =
         let q : r ≡ ((names, table), p) = lined-same e in
         let g : GoodSoFar (names, table) = subst (λ (x : Named × Place). GoodSoFar (x .0)) q h in
-        let one : 1 ≤ length names = subst (λ (x : Named × Place). 1 ≤ length (x .0 .0)) q (f tt) in
-        let low : 1 ≤ length table = omega (arith, g .many) in
-        let high : length table ≤ 24 = omega (arith, g .many, g .few) in
-        record {
-          tableGood = and-both (leb 1 (length table) && leb (length table) 24) (all isKind table)
-              (and-both (leb 1 (length table)) (leb (length table) 24) (le→leb 1 (length table) low) (le→leb (length table) 24 high)) (g .kinds);
-          namesGood = and-both (eqb (length names) (length table) && all isLetter names) (distinct names)
-              (and-both (eqb (length names) (length table)) (all isLetter names) (eqb-T (length names) (length table) (g .many)) (g .letters)) (g .apart);
-        }
+        some-good names table g (subst (λ (x : Named × Place). 1 ≤ length (x .0 .0)) q (f tt))
     good r h false f e = absurd (never-lined e)
 
     first : (x : Lined (Named × Place)) → readDeclared (length s) (toLine (1, s)) ([], []) ≡ x → (x >>> someNames) ≡ lined ((names, table), p) → HeaderGood names table
     first (refusedIn n k c t) q e = absurd (never-lined e)
-    first (lined r) q e = good r (header-so-far (length s) (toLine (1, s)) ([], []) r none q) (leb 1 (length (r .0 .0))) (leb→le 1 (length (r .0 .0))) e
+    first (lined r) q e = good r (header-so-far (length s) (toLine (1, s)) ([], []) r none-good q) (leb 1 (length (r .0 .0))) (leb→le 1 (length (r .0 .0))) e

@@ -44,7 +44,7 @@ line-within p (refusedAt n c) h = h
 line-within p (placed a) h = tt
 
 -- names
-names-within : (most kind : ℕ) (line : List ℕ) (at : ℕ) (n : Named) → ColumnWithin line (readNames most kind line at n)
+pub names-within : (most kind : ℕ) (line : List ℕ) (at : ℕ) (n : Named) → ColumnWithin line (readNames most kind line at n)
 unfolding readNames ColumnWithin
 names-within zero kind line at n = tt
 names-within (suc most) kind line at n =

@@ -61,6 +61,12 @@ slice-aggregate-put-9 c = search needs
 put-requires-9 : tie.Need-put-requires-9
 put-requires-9 c κs = search needs
 
+slice-aggregate-put-10 : tie.Need-slice-aggregate-put-10
+slice-aggregate-put-10 c = search needs
+
+put-requires-10 : tie.Need-put-requires-10
+put-requires-10 c κs = search needs
+
 same-length : tie.Need-same-length
 same-length c =
     let c2 = c .before .before in
@@ -72,8 +78,9 @@ same-length c =
     let c32 = c27 .before .before .before .before .before in
     let c37 = c32 .before .before .before .before .before in
     let c42 = c37 .before .before .before .before .before in
-    (c2 .put9 .kept .0) ∙ (c7 .put8 .kept .0) ∙ (c12 .put7 .kept .0) ∙ (c17 .put6 .kept .0) ∙ (c22 .put5 .kept .0) ∙ (c27 .put4 .kept .0) ∙ (c32 .put3 .kept .0)
-    ∙ (c37 .put2 .kept .0) ∙ (c42 .put .kept .0)
+    let c47 = c42 .before .before .before .before .before in
+    (c2 .put10 .kept .0) ∙ (c7 .put9 .kept .0) ∙ (c12 .put8 .kept .0) ∙ (c17 .put7 .kept .0) ∙ (c22 .put6 .kept .0) ∙ (c27 .put5 .kept .0) ∙ (c32 .put4 .kept .0)
+    ∙ (c37 .put3 .kept .0) ∙ (c42 .put2 .kept .0) ∙ (c47 .put .kept .0)
 
 returns : tie.Need-returns
 unfolding usage bytes
@@ -87,9 +94,11 @@ returns c =
     let c32 = c27 .before .before .before .before .before in
     let c37 = c32 .before .before .before .before .before in
     let c42 = c37 .before .before .before .before .before in
+    let c47 = c42 .before .before .before .before .before in
     told-first
-    (tells-then (tells-then (tells-then (tells-then (tells-then (tells-then (tells-then (tells-then (c42 .put .ensures) (c37 .put2 .ensures))
-    (c32 .put3 .ensures)) (c27 .put4 .ensures)) (c22 .put5 .ensures)) (c17 .put6 .ensures)) (c12 .put7 .ensures)) (c7 .put8 .ensures)) (c2 .put9 .ensures))
+    (tells-then (tells-then (tells-then (tells-then (tells-then (tells-then (tells-then (tells-then (tells-then (c47 .put .ensures) (c42 .put2 .ensures))
+    (c37 .put3 .ensures)) (c32 .put4 .ensures)) (c27 .put5 .ensures)) (c22 .put6 .ensures)) (c17 .put7 .ensures)) (c12 .put8 .ensures)) (c7 .put9 .ensures))
+    (c2 .put10 .ensures))
 
 pub tell-usage-spec : {M : Type 1} → statement M
 tell-usage-spec =
@@ -113,5 +122,7 @@ tell-usage-spec =
     put-requires-8
     slice-aggregate-put-9
     put-requires-9
+    slice-aggregate-put-10
+    put-requires-10
     same-length
     returns)

@@ -109,8 +109,21 @@ same-length-8 : tie.Need-same-length-8
 same-length-8 c = search needs
 
 returns-8 : tie.Need-returns-8
+unfolding stepReason bytes
+returns-8 c = tells-as _ (ap stepReason (sym (c .before .before .before .before .before .if8 .taken))) (c .before .before .put8 .ensures)
+
+slice-aggregate-put-9 : tie.Need-slice-aggregate-put-9
+slice-aggregate-put-9 c = search needs
+
+put-requires-9 : tie.Need-put-requires-9
+put-requires-9 c κs = search needs
+
+same-length-9 : tie.Need-same-length-9
+same-length-9 c = search needs
+
+returns-9 : tie.Need-returns-9
 unfolding bytes
-returns-8 c =
+returns-9 c =
     let c2 = c .before .before in
     let c5 = c2 .before .before .before in
     let c6 = c5 .before in
@@ -119,8 +132,9 @@ returns-8 c =
     let c9 = c8 .before in
     let c10 = c9 .before in
     let c11 = c10 .before in
-    tells-as _ (reason-else _ (c11 .if1 .left) (c10 .if2 .left) (c9 .if3 .left) (c8 .if4 .left) (c7 .if5 .left) (c6 .if6 .left) (c5 .if7 .left))
-    (c2 .put8 .ensures)
+    let c12 = c11 .before in
+    tells-as _ (reason-else _ (c12 .if1 .left) (c11 .if2 .left) (c10 .if3 .left) (c9 .if4 .left) (c8 .if5 .left) (c7 .if6 .left) (c6 .if7 .left) (c5 .if8 .left))
+    (c2 .put9 .ensures)
 
 pub tell-step-reason-spec : {M : Type 1} → statement M
 tell-step-reason-spec =
@@ -157,4 +171,8 @@ tell-step-reason-spec =
     slice-aggregate-put-8
     put-requires-8
     same-length-8
-    returns-8)
+    returns-8
+    slice-aggregate-put-9
+    put-requires-9
+    same-length-9
+    returns-9)

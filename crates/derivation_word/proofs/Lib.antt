@@ -1,0 +1,3 @@
+-- Lemmas that belong to no one function.
+pub mod Answers
+pub mod Turns
