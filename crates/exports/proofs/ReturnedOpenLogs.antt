@@ -1,97 +1,40 @@
 -- What the calls for open logs return and leave. Assumes nothing.
-use mathlib.Core.Path.{_≡_, refl, ap, sym, subst, _∙_}
+use mathlib.Core.Path.{_≡_, ap, sym, _∙_}
 use mathlib.Core.List.{List}
-use Prim.Native.Nat.{ℕ, _≤_}
+use Prim.Native.Nat.{ℕ, _<_, _^_}
+use native.Mathlib.Omega.{arith}
 use lib.IntN.{ℤ, pos}
-use Rattle.specification.specs.Records.{formBytes}
 use Rattle.specification.specs.Results.{Result, Test, refused, given, _>>_}
-use Rattle.specification.specs.Decision as D
-use Rattle.specification.specs.OpenLogs.{stateBytes, openCall, addCall, lookCall, DecidedOpen, closeCall}
-use Rattle.specification.specs.Returns.{returned, handed, decisionReturned, openReturned, addReturned, lookReturned, DecideOpenReturned, closeReturned}
+use Rattle.specification.specs.OpenLogs.{openCall, addCall, lookCall, closeCall}
+use Rattle.specification.specs.Returns.{returned, handed, closeReturned}
 use Rattle.theory.specs.Records.Positions.{Bytes}
-use Rattle.decision.specs.declared.Decision.{Decision}
-use Rattle.decision.specs.declared.Decision.the-variants as decided
-use Rattle.decision.specs.Answers.{decisionOf}
 use Rattle.open_log.specs.declared.Answered.{Answered}
-use Rattle.open_log.specs.declared.Answered.the-variants as A
 use Rattle.open_log.specs.declared.Closed.{Closed}
 use Rattle.open_log.specs.declared.Closed.the-variants as C
 use Rattle.open_log.specs.Answers.{answeredOf, closedOf}
 use Rattle.open_log.proofs.Lengths.{open-length, add-length, look-length}
-use Rattle.exports.proofs.Returning.{answered}
 
--- ════ calls that write a state or a form
+-- what is returned of an answer, with the bytes as the call left them
+pub handed-as : (call : Result ℕ × List ℕ) (a : Answered) (after : List ℕ) (r : ℤ) → (answeredOf a, after) ≡ call → r ≡ returned (answeredOf a) → (r, after) ≡ handed call
+unfolding handed
+handed-as call a after r contract e = (λ i. (e i, after)) ∙ ap handed contract
 
-module _ (call : Result ℕ × List ℕ) (after : List ℕ) (a : Answered) (contract : (answeredOf a, after) ≡ call) where
-  -- a refusal is returned
-  call-refused : (m : ℕ) → a ≡ A.Refused m → (r : ℤ) → r ≡ returned (refused m) → (r, after) ≡ handed call
-  unfolding answeredOf
-  call-refused m g r p = answered call _ (refused m) after r contract (rw g) p
+module _ (a : Answered) (after : List ℕ) (n : ℕ) (g : answeredOf a ≡ given n) where
+  -- the number given by a call
+  call-given : (call : Result ℕ × List ℕ) → (answeredOf a, after) ≡ call → call .0 ≡ given n
+  call-given call contract = ap (λ (x : Result ℕ × List ℕ). x .0) (sym contract) ∙ g
 
-  -- a length is returned
-  call-written : (n : ℕ) → a ≡ A.Written n → (r : ℤ) → r ≡ returned (given n) → (r, after) ≡ handed call
-  unfolding answeredOf
-  call-written n g r p = answered call _ (given n) after r contract (rw g) p
+  -- a length fits: of an opening,
+  pub open-fits : (table form state : List ℕ) → Bytes form → (answeredOf a, after) ≡ openCall table form state → n < 2 ^ 63
+  open-fits table form state bs contract = omega (arith, open-length table form state n bs (call-given (openCall table form state) contract))
 
-  -- the number given
-  call-given : (n : ℕ) → a ≡ A.Written n → call .0 ≡ given n
-  unfolding answeredOf
-  call-given n g = ap (λ (x : Result ℕ × List ℕ). x .0) (sym contract) ∙ rw g
+  -- of an adding,
+  pub add-fits : (state step next : List ℕ) → Bytes state → (answeredOf a, after) ≡ addCall state step next → n < 2 ^ 63
+  add-fits state step next bs contract = omega (arith, add-length state step next n bs (call-given (addCall state step next) contract))
 
-module _ (table form state after : List ℕ) (a : Answered) (contract : (answeredOf a, after) ≡ openCall table form state) where
-  pub open-refused : (m : ℕ) → a ≡ A.Refused m → (r : ℤ) → r ≡ returned (refused m) → (r, after) ≡ openReturned table form state
-  unfolding openReturned
-  open-refused = call-refused (openCall table form state) after a contract
-
-  pub open-returned : (n : ℕ) → a ≡ A.Written n → (r : ℤ) → r ≡ returned (given n) → (r, after) ≡ openReturned table form state
-  unfolding openReturned
-  open-returned = call-written (openCall table form state) after a contract
-
-  pub open-fits : (n : ℕ) → a ≡ A.Written n → Bytes form → n ≤ stateBytes
-  open-fits n g bs = open-length table form state n bs (call-given (openCall table form state) after a contract n g)
-
-module _ (state step next after : List ℕ) (a : Answered) (contract : (answeredOf a, after) ≡ addCall state step next) where
-  pub add-refused : (m : ℕ) → a ≡ A.Refused m → (r : ℤ) → r ≡ returned (refused m) → (r, after) ≡ addReturned state step next
-  unfolding addReturned
-  add-refused = call-refused (addCall state step next) after a contract
-
-  pub add-returned : (n : ℕ) → a ≡ A.Written n → (r : ℤ) → r ≡ returned (given n) → (r, after) ≡ addReturned state step next
-  unfolding addReturned
-  add-returned = call-written (addCall state step next) after a contract
-
-  pub add-fits : (n : ℕ) → a ≡ A.Written n → Bytes state → n ≤ stateBytes
-  add-fits n g bs = add-length state step next n bs (call-given (addCall state step next) after a contract n g)
-
-module _ (state out after : List ℕ) (a : Answered) (contract : (answeredOf a, after) ≡ lookCall state out) where
-  pub look-refused : (m : ℕ) → a ≡ A.Refused m → (r : ℤ) → r ≡ returned (refused m) → (r, after) ≡ lookReturned state out
-  unfolding lookReturned
-  look-refused = call-refused (lookCall state out) after a contract
-
-  pub look-returned : (n : ℕ) → a ≡ A.Written n → (r : ℤ) → r ≡ returned (given n) → (r, after) ≡ lookReturned state out
-  unfolding lookReturned
-  look-returned = call-written (lookCall state out) after a contract
-
-  pub look-fits : (n : ℕ) → a ≡ A.Written n → Bytes state → n ≤ formBytes
-  look-fits n g bs = look-length state out n bs (call-given (lookCall state out) after a contract n g)
-
--- ════ deciding
-
-module _ (state form buffer work buffer′ work′ : List ℕ) (d : Decision) (h : DecidedOpen state form buffer work (decisionOf d) buffer′ work′) where
-  -- the answer with its number
-  told : (r : ℤ) → r ≡ decisionReturned (decisionOf d) → DecideOpenReturned state form buffer work r buffer′ work′
-  told r e = record { answer = decisionOf d; is = e; decided = h }
-
-  pub open-holds : d ≡ decided.Holds → DecideOpenReturned state form buffer work (pos 0) buffer′ work′
-  unfolding decisionReturned decisionOf
-  open-holds e = told (pos 0) (rw e)
-
-  pub open-differs : d ≡ decided.Differs → DecideOpenReturned state form buffer work (pos 1) buffer′ work′
-  unfolding decisionReturned decisionOf
-  open-differs e = told (pos 1) (rw e)
-
-  pub open-undecided : (n : ℕ) → d ≡ decided.Refused n → (r : ℤ) → r ≡ returned (refused n) → DecideOpenReturned state form buffer work r buffer′ work′
-  unfolding decisionReturned decisionOf returned
-  open-undecided n e r q = told r (q ∙ rw e)
+  -- and of a look
+  pub look-fits : (state out : List ℕ) → Bytes state → (answeredOf a, after) ≡ lookCall state out → n < 2 ^ 63
+  look-fits state out bs contract = omega (arith, look-length state out n bs (call-given (lookCall state out) contract))
 
 -- ════ closing
 

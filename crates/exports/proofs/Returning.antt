@@ -1,5 +1,5 @@
 -- What the calls for C return and leave, from the tests that they make. Assumes nothing.
-use mathlib.Core.Path.{_≡_, refl, ap, sym, subst, _∙_}
+use mathlib.Core.Path.{_≡_, ap, sym, _∙_}
 use mathlib.Core.List.{List, [], _∷_}
 use Prim.Native.Nat.{ℕ, _≤_, _<_}
 use native.Mathlib.Omega.{arith}
@@ -18,7 +18,6 @@ use Rattle.specification.specs.Logs.{Checked, refusedAt, atStep, checkCall}
 use Rattle.checker.specs.declared.Checked as checked
 use Rattle.checker.specs.declared.Checked.the-variants as variants
 use Rattle.checker.specs.Answers.{checkedOf}
-use Rattle.specification.specs.Decision as D
 use Rattle.letters.specs.Tested.{testOf}
 use Rattle.evaluation.specs.declared.vectors.Vector.{Vector}
 use Rattle.evaluation.specs.declared.Valued.{Valued}
@@ -31,15 +30,12 @@ use Rattle.reduction.specs.Answers.{reducedOf}
 use Rattle.insertion.specs.declared.Inserted.{Inserted}
 use Rattle.insertion.specs.declared.Inserted.the-variants as I
 use Rattle.insertion.specs.Answers.{insertedOf}
-use Rattle.decision.specs.declared.Decision.{Decision}
-use Rattle.decision.specs.declared.Decision.the-variants as decided
-use Rattle.decision.specs.Answers.{decisionOf}
 use Rattle.letters.proofs.LetterTests.{test-passed, test-refused}
 use Rattle.reduction.proofs.KeptValue.{reduce-keeps-value}
 use Rattle.insertion.proofs.KeptValue.{insert-short}
 use Rattle.theory.specs.Records.Positions.{Bytes}
 use Rattle.specification.specs.Returns.{returned, handed, threeInto, answerVec, valueTested, valueReturned, reduceReturned, insertReturned, returnedAt, placesInto, answerLog}
-use Rattle.specification.specs.Returns.{checkReturned, decisionReturned, DecideReturned}
+use Rattle.specification.specs.Returns.{checkReturned}
 
 -- ════ three numbers
 
@@ -178,21 +174,3 @@ module _ (table log places : List ℕ) where
         pub log-accepted : (a b k : ℕ) → c ≡ variants.Accepted a b k → (after : List ℕ) → after ≡ placesInto a b k places → (pos 0, after) ≡ checkReturned table log places
         unfolding checkReturned answerLog checkedOf
         log-accepted a b k q after p = rw (by-check ∙ ap checkedOf q, p)
-
--- ════ the decision
-
-module _ (table first second buffer work buffer′ work′ : List ℕ) (d : Decision) (h : D.Decided table first second buffer work (decisionOf d) buffer′ work′) where
-  -- the two forms are equal
-  pub holds-returned : d ≡ decided.Holds → DecideReturned table first second buffer work (pos 0) buffer′ work′
-  unfolding decisionReturned decisionOf
-  holds-returned e = record { answer = D.holds; is = refl; decided = subst (λ (x : Decision). D.Decided table first second buffer work (decisionOf x) buffer′ work′) e h }
-
-  -- they differ
-  pub differs-returned : d ≡ decided.Differs → DecideReturned table first second buffer work (pos 1) buffer′ work′
-  unfolding decisionReturned decisionOf
-  differs-returned e = record { answer = D.differs; is = refl; decided = subst (λ (x : Decision). D.Decided table first second buffer work (decisionOf x) buffer′ work′) e h }
-
-  -- a refusal
-  pub undecided-returned : (n : ℕ) → d ≡ decided.Refused n → (r : ℤ) → r ≡ returned (refused n) → DecideReturned table first second buffer work r buffer′ work′
-  unfolding decisionReturned decisionOf returned
-  undecided-returned n e r q = record { answer = D.undecided n; is = q; decided = subst (λ (x : Decision). D.Decided table first second buffer work (decisionOf x) buffer′ work′) e h }

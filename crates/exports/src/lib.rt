@@ -1,10 +1,13 @@
 // The calls for C: each answers with one signed number, at least 0 where something is given, minus the number of the refusal otherwise.
 ghost use mathlib.Core.Path.{_≡_};
-ghost use Prim.Native.Nat.{_≤_};
+ghost use Prim.Native.Nat.{ℕ, _≤_, _<_, _^_};
 ghost use lib.ListN.{length};
-ghost use Rattle.specification.specs.Returns.{threeInto, valueReturned, reduceReturned, insertReturned, checkReturned, DecideReturned, ShortenReturned, AuditReturned, readTextReturned, printReturned};
+ghost use Rattle.specification.specs.Results.{given};
+ghost use Rattle.specification.specs.Returns.{returned, decisionReturned, threeInto, valueReturned, reduceReturned, insertReturned, checkReturned, DecideReturned, ShortenReturned, AuditReturned, readTextReturned, printReturned};
 ghost use Rattle.specification.specs.Returns.{openReturned, addReturned, lookReturned, DecideOpenReturned, closeReturned};
 ghost use Rattle.evaluation.specs.Vectors.{vecOf};
+ghost use Rattle.decision.specs.Answers.{decisionOf};
+ghost use Rattle.open_log.specs.Answers.{answeredOf};
 use audit::Verdict;
 use audit::audit;
 use checker::Checked;
@@ -48,6 +51,28 @@ fn put(values: &mut [i64], v: Vector)
     values[0] = x;
     values[1] = y;
     values[2] = z;
+}
+
+// What a decision returns.
+fn verdict_of(d: Decision) -> i64
+    ensures { λ r. ⌜ r ≡ decisionReturned (decisionOf d) ⌝ }
+{
+    match d {
+        Decision::Holds => 0,
+        Decision::Differs => 1,
+        Decision::Refused(n) => refusal(n),
+    }
+}
+
+// What a call on an open log returns that writes a state or a form.
+fn returned_of(a: Answered) -> i64
+    requires { ⌜ ((n : ℕ) → answeredOf a ≡ given n → n < 2 ^ 63) ⌝ }
+    ensures { λ r. ⌜ r ≡ returned (answeredOf a) ⌝ }
+{
+    match a {
+        Answered::Written(n) => written(n),
+        Answered::Refused(m) => refusal(m),
+    }
 }
 
 // The value of a form under an assignment, written into the first three of the numbers lent: 0, or minus 1, 2, 11, 5, 6 or 12.
@@ -141,11 +166,7 @@ pub extern "C" fn kalzunbi_decide(
     ensures { λ r. ⌜ DecideReturned (now (table .entry)) (now (first .entry)) (now (second .entry)) (now (buffer .entry)) (now (work .entry)) r (now (buffer .exit)) (now (work .exit)) ⌝ }
 {
     let d = decide(table, first, second, buffer, work);
-    match d {
-        Decision::Holds => 0,
-        Decision::Differs => 1,
-        Decision::Refused(n) => refusal(n),
-    }
+    verdict_of(d)
 }
 
 // The log of a form's shortening, written into the bytes lent, and the number of its steps into the first of the numbers lent: the log's length, or minus 1, 2, 11, 5 or 6.
@@ -243,10 +264,7 @@ pub extern "C" fn kalzunbi_open(table: &[u8], form: &[u8], state: &mut [u8]) -> 
     ensures { λ r. ⌜ (r, now (state .exit)) ≡ openReturned (now (table .entry)) (now (form .entry)) (now (state .entry)) ⌝ }
 {
     let r = open(table, form, state);
-    match r {
-        Answered::Written(n) => written(n),
-        Answered::Refused(m) => refusal(m),
-    }
+    returned_of(r)
 }
 
 // A step added to an open log, the next state written into the bytes lent: its length, or minus 11 for the state, 2, 14, 11 for the step, 5 or 6, then 6, 8, 9 or 10.
@@ -255,10 +273,7 @@ pub extern "C" fn kalzunbi_add(state: &[u8], step: &[u8], next: &mut [u8]) -> i6
     ensures { λ r. ⌜ (r, now (next .exit)) ≡ addReturned (now (state .entry)) (now (step .entry)) (now (next .entry)) ⌝ }
 {
     let r = add(state, step, next);
-    match r {
-        Answered::Written(n) => written(n),
-        Answered::Refused(m) => refusal(m),
-    }
+    returned_of(r)
 }
 
 // The form that an open log has reached, its record written into the bytes lent: its length, or minus 11 or 2.
@@ -267,10 +282,7 @@ pub extern "C" fn kalzunbi_look(state: &[u8], out: &mut [u8]) -> i64
     ensures { λ r. ⌜ (r, now (out .exit)) ≡ lookReturned (now (state .entry)) (now (out .entry)) ⌝ }
 {
     let r = look(state, out);
-    match r {
-        Answered::Written(n) => written(n),
-        Answered::Refused(m) => refusal(m),
-    }
+    returned_of(r)
 }
 
 // Whether the form that an open log has reached and another are equal under every assignment: 0, or 1 with the first assignment under which they differ in the
@@ -285,11 +297,7 @@ pub extern "C" fn kalzunbi_decide_open(
     ensures { λ r. ⌜ DecideOpenReturned (now (state .entry)) (now (form .entry)) (now (buffer .entry)) (now (work .entry)) r (now (buffer .exit)) (now (work .exit)) ⌝ }
 {
     let d = decide_open(state, form, buffer, work);
-    match d {
-        Decision::Holds => 0,
-        Decision::Differs => 1,
-        Decision::Refused(n) => refusal(n),
-    }
+    verdict_of(d)
 }
 
 // An open log closed with a last form: 0 where it is accepted, or minus 11 for the state, 11 for the form, 5, 6 or 13.

@@ -1,6 +1,6 @@
 // Logs written into lent bytes.
 ghost use Prim.Native.Nat.{_+_, _*_, _≤_};
-ghost use lib.ListN.{length, take};
+ghost use lib.ListN.{length};
 ghost use Rattle.specification.specs.Records.{formBytes};
 ghost use Rattle.specification.specs.Logs.{writeStep, writeSteps};
 ghost use Rattle.terms.specs.Abstraction.{formOf};
@@ -16,11 +16,12 @@ use rules::steps::Step;
 use rules::steps::rule_letters;
 use terms::types::Form;
 
-// The first n letters.
-fn write_letters(out: &mut [u8], at: usize, letters: [u8; 6], n: usize) -> usize
-    requires { ⌜ (n ≤ 6) × (at + n ≤ length (now out)) ⌝ }
-    ensures { λ r. ⌜ Written (now (out .entry)) (now (out .exit)) at r (take n letters) ⌝ }
+// Letters, a rule's or a table's, from a position on.
+pub fn write_letters(out: &mut [u8], at: usize, letters: &[u8]) -> usize
+    requires { ⌜ at + length (now letters) ≤ length (now out) ⌝ }
+    ensures { λ r. ⌜ Written (now (out .entry)) (now (out .exit)) at r (now (letters .entry)) ⌝ }
 {
+    let n = letters.len();
     let mut i: usize = 0;
     while i < n {
         out[at + i] = letters[i];
@@ -38,7 +39,7 @@ pub fn write_step(out: &mut [u8], at: usize, s: Step) -> usize
     let letters = s.letters;
     let n = rule_letters(s.rule);
     out[at] = s.rule;
-    let behind = write_letters(out, at + 1, letters, n);
+    let behind = write_letters(out, at + 1, &letters[..n]);
     write_term(out, behind, m)
 }
 

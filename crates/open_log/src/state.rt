@@ -1,14 +1,14 @@
 // The state of an open log, read from any bytes and written.
 ghost use mathlib.Core.Path.{_≡_};
-ghost use Prim.Native.Nat.{_+_, _≤_};
+ghost use Prim.Native.Nat.{_≤_};
 ghost use lib.ListN.{length, take};
 ghost use Rattle.specification.specs.Results.{refused};
 ghost use Rattle.specification.specs.OpenLogs.{stateBytes, readState};
-ghost use Rattle.record_writing.specs.Written.{Written};
 ghost use Rattle.open_log.specs.States.{stateOf, StateValid, StateReadAs, StateWritten};
 use forms::read_form;
 use forms::write_form;
 use letters::check_table;
+use logs::writing::write_letters;
 use terms::build::refuse;
 use terms::types::Form;
 
@@ -103,19 +103,6 @@ pub fn read_state(s: &[u8]) -> StateReading
     }
 }
 
-// The first n letters of a table, from the byte 1 on.
-fn write_table(out: &mut [u8], table: [u8; 24], n: usize) -> usize
-    requires { ⌜ (n ≤ 24) × (1 + n ≤ length (now out)) ⌝ }
-    ensures { λ r. ⌜ Written (now (out .entry)) (now (out .exit)) 1 r (take n table) ⌝ }
-{
-    let mut i: usize = 0;
-    while i < n {
-        out[1 + i] = table[i];
-        i += 1;
-    }
-    1 + n
-}
-
 // The bytes of a state: the table's length, the table, the count, the form's record.
 pub fn write_state(out: &mut [u8], state: State) -> usize
     requires { ⌜ StateValid state × (stateBytes ≤ length (now out)) ⌝ }
@@ -125,7 +112,7 @@ pub fn write_state(out: &mut [u8], state: State) -> usize
     let table = state.table;
     let form = state.form;
     out[0] = n as u8;
-    let a = write_table(out, table, n);
+    let a = write_letters(out, 1, &table[..n]);
     out[a] = state.count;
     let b = a + 1;
     b + write_form(&mut out[b..], form)

@@ -1,11 +1,11 @@
 -- `exports::kalzunbi_add` meets its contract. Assumes nothing.
 use mathlib.Core.Path.{_∙_}
 use Prim.Native.Nat.{ℕ}
-use native.Mathlib.Omega.{arith}
 use denote.Ref.{now}
+use Rattle.specification.specs.Returns.{addReturned}
 use Rattle.integers.proofs.Machine.{back-is}
 use Rattle.forms.proofs.Takers.{bytes-all}
-use Rattle.exports.proofs.ReturnedOpenLogs.{add-fits, add-returned, add-refused}
+use Rattle.exports.proofs.ReturnedOpenLogs.{add-fits, handed-as}
 use borrow.Author.Needs.{needs}
 use Rattle.exports.proofs.kalzunbi_add.Statement.{statement}
 use Rattle.exports.proofs.kalzunbi_add.Tie as tie
@@ -13,52 +13,20 @@ use Rattle.exports.proofs.kalzunbi_add.Tie as tie
 add-requires : tie.Need-add-requires
 add-requires c κs = search needs
 
-enum-known-r : tie.Need-enum-known-r
-enum-known-r c = search needs
-
-written-requires : tie.Need-written-requires
-written-requires c κs =
-    let c5 = c .before .before .before .before .before in
-    let c9 = c5 .before .before .before .before in
-    let s = c9 .before in
-    omega (
-      arith,
-      add-fits _ _ _ _ _ (c5 .add .ensures) _ (c .before .r .given .1)
-          (bytes-all (now (s .args .state)) (λ (k : ℕ). c9 .shared-slice-known .given k .fits)),
-    )
-
-enum-known-r-2 : tie.Need-enum-known-r-2
-enum-known-r-2 c = search needs
-
-refusal-requires : tie.Need-refusal-requires
-refusal-requires c κs = search needs
+returned-of-requires : tie.Need-returned-of-requires
+returned-of-requires c κs =
+    let c2 = c .before .before in
+    let c6 = c2 .before .before .before .before in
+    let s = c6 .before in
+    λ n g. add-fits _ _ n g (now (s .args .state)) (now (s .args .step)) (now (s .args .next))
+    (bytes-all (now (s .args .state)) (λ (k : ℕ). c6 .shared-slice-known .given k .fits)) (c2 .add .ensures)
 
 same-length : tie.Need-same-length
 same-length c = search needs
 
 returns : tie.Need-returns
-returns c =
-    add-returned _ _ _ _ _ (c .before .before .before .before .before .before .add .ensures) _ (c .before .before .r .given .1) _
-    (back-is (record { sfits = c .written .ok }) ∙ c .written .ensures)
-
-same-length-2 : tie.Need-same-length-2
-same-length-2 c = search needs
-
-returns-2 : tie.Need-returns-2
-returns-2 c =
-    add-refused _ _ _ _ _ (c .before .before .before .before .before .before .add .ensures) _ (c .before .before .r2 .given .1) _
-    (back-is (record { sfits = c .refusal .ok }) ∙ c .refusal .ensures)
+unfolding addReturned
+returns c = handed-as _ _ _ _ (c .before .before .before .add .ensures) (back-is (record { sfits = c .returned-of .ok }) ∙ c .returned-of .ensures)
 
 pub kalzunbi-add-spec : {M : Type 1} → statement M
-kalzunbi-add-spec =
-    tie.close
-    (tie.spec
-    add-requires
-    enum-known-r
-    written-requires
-    enum-known-r-2
-    refusal-requires
-    same-length
-    returns
-    same-length-2
-    returns-2)
+kalzunbi-add-spec = tie.close (tie.spec add-requires returned-of-requires same-length returns)

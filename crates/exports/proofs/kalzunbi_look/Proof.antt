@@ -1,11 +1,11 @@
 -- `exports::kalzunbi_look` meets its contract. Assumes nothing.
 use mathlib.Core.Path.{_∙_}
 use Prim.Native.Nat.{ℕ}
-use native.Mathlib.Omega.{arith}
 use denote.Ref.{now}
+use Rattle.specification.specs.Returns.{lookReturned}
 use Rattle.integers.proofs.Machine.{back-is}
 use Rattle.forms.proofs.Takers.{bytes-all}
-use Rattle.exports.proofs.ReturnedOpenLogs.{look-fits, look-returned, look-refused}
+use Rattle.exports.proofs.ReturnedOpenLogs.{look-fits, handed-as}
 use borrow.Author.Needs.{needs}
 use Rattle.exports.proofs.kalzunbi_look.Statement.{statement}
 use Rattle.exports.proofs.kalzunbi_look.Tie as tie
@@ -13,52 +13,20 @@ use Rattle.exports.proofs.kalzunbi_look.Tie as tie
 look-requires : tie.Need-look-requires
 look-requires c κs = search needs
 
-enum-known-r : tie.Need-enum-known-r
-enum-known-r c = search needs
-
-written-requires : tie.Need-written-requires
-written-requires c κs =
-    let c5 = c .before .before .before .before .before in
-    let c8 = c5 .before .before .before in
-    let s = c8 .before in
-    omega (
-      arith,
-      look-fits _ _ _ _ (c5 .look .ensures) _ (c .before .r .given .1)
-          (bytes-all (now (s .args .state)) (λ (k : ℕ). c8 .shared-slice-known .given k .fits)),
-    )
-
-enum-known-r-2 : tie.Need-enum-known-r-2
-enum-known-r-2 c = search needs
-
-refusal-requires : tie.Need-refusal-requires
-refusal-requires c κs = search needs
+returned-of-requires : tie.Need-returned-of-requires
+returned-of-requires c κs =
+    let c2 = c .before .before in
+    let c5 = c2 .before .before .before in
+    let s = c5 .before in
+    λ n g. look-fits _ _ n g (now (s .args .state)) (now (s .args .out))
+    (bytes-all (now (s .args .state)) (λ (k : ℕ). c5 .shared-slice-known .given k .fits)) (c2 .look .ensures)
 
 same-length : tie.Need-same-length
 same-length c = search needs
 
 returns : tie.Need-returns
-returns c =
-    look-returned _ _ _ _ (c .before .before .before .before .before .before .look .ensures) _ (c .before .before .r .given .1) _
-    (back-is (record { sfits = c .written .ok }) ∙ c .written .ensures)
-
-same-length-2 : tie.Need-same-length-2
-same-length-2 c = search needs
-
-returns-2 : tie.Need-returns-2
-returns-2 c =
-    look-refused _ _ _ _ (c .before .before .before .before .before .before .look .ensures) _ (c .before .before .r2 .given .1) _
-    (back-is (record { sfits = c .refusal .ok }) ∙ c .refusal .ensures)
+unfolding lookReturned
+returns c = handed-as _ _ _ _ (c .before .before .before .look .ensures) (back-is (record { sfits = c .returned-of .ok }) ∙ c .returned-of .ensures)
 
 pub kalzunbi-look-spec : {M : Type 1} → statement M
-kalzunbi-look-spec =
-    tie.close
-    (tie.spec
-    look-requires
-    enum-known-r
-    written-requires
-    enum-known-r-2
-    refusal-requires
-    same-length
-    returns
-    same-length-2
-    returns-2)
+kalzunbi-look-spec = tie.close (tie.spec look-requires returned-of-requires same-length returns)

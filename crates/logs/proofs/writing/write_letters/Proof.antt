@@ -1,29 +1,26 @@
 -- `logs::writing::write_letters` meets its contract: after i turns the first i letters stand. Assumes nothing.
-use mathlib.Core.Path.{_≡_, refl, _∙_}
-use Prim.Native.Nat.{_+_, _-_, _≤_}
+use mathlib.Core.Path.{_≡_, refl, ap, subst, _∙_}
+use Prim.Native.Nat.{ℕ, _+_, _-_, _≤_}
 use native.Mathlib.Omega.{arith}
+use lib.Seq.{take-length}
 use lib.ListN.{length, length-set, take}
-use borrow.Author.Needs.{needs}
+use denote.Ref.{now}
 use Rattle.record_writing.specs.Written.{Written}
 use Rattle.logs.proofs.WrittenLogs.{letters-none, letter-written}
 use Rattle.logs.proofs.writing.write_letters.Statement.{statement}
 use Rattle.logs.proofs.writing.write_letters.Tie as tie
 
 abbrev Inv-loop : tie.InvT-loop
-Inv-loop out₀ at n letters i₀ out i = (i ≤ n) × (length out ≡ length out₀) × Written out₀ out at (at + i) (take i letters)
+Inv-loop out₀ at letters n i₀ out i = (i ≤ length letters) × (length out ≡ length out₀) × Written out₀ out at (at + i) (take i letters)
 
 abbrev μ-loop : tie.MeasureT-loop
-μ-loop out₀ at n letters i₀ out i = n - i
-
--- there are six letters
-places : (c : tie.Start Inv-loop μ-loop) → length (c .args .t3) ≡ 6
-places c = search needs
+μ-loop out₀ at letters n i₀ out i = length letters - i
 
 loop-holds : tie.Need-loop-holds Inv-loop μ-loop
-loop-holds c = (omega arith, refl, letters-none (c .args .t3) _ _)
+loop-holds c = (omega arith, refl, letters-none (now (c .args .letters)) _ _)
 
-array-read-out : tie.Need-array-read-out Inv-loop μ-loop
-array-read-out c = search needs
+shared-slice-read-out : tie.Need-shared-slice-read-out Inv-loop μ-loop
+shared-slice-read-out c = omega arith
 
 add-out : tie.Need-add-out Inv-loop μ-loop
 add-out c = omega arith
@@ -39,11 +36,11 @@ loop-less c = omega arith
 
 loop-again : tie.Need-loop-again Inv-loop μ-loop
 loop-again c =
-    let v = c .before .loop in
-    let s = c .before .before in (
+    let v = c .before .before .loop in
+    let s = c .before .before .before in (
       omega arith,
       length-set (v .out) _ _ ∙ v .inv .1,
-      letter-written (s .args .t3) (v .i) _ _ _ (omega (arith, places s, s .pre .0)) (omega (arith, s .pre .1)) (v .inv .2),
+      letter-written (now (s .args .letters)) (v .i) _ _ _ (omega arith) (omega (arith, s .pre)) (v .inv .2),
     )
 
 add-result : tie.Need-add-result Inv-loop μ-loop
@@ -53,7 +50,12 @@ same-length : tie.Need-same-length Inv-loop μ-loop
 same-length c = c .before .loop .inv .1
 
 returns : tie.Need-returns Inv-loop μ-loop
-returns c = let e : c .before .loop .i ≡ c .before .before .args .n = omega (arith, c .before .loop .inv .0) in rw (← e) (c .before .loop .inv .2)
+returns c =
+    let v = c .before .loop in
+    let l = now (c .before .before .args .letters) in
+    let e : v .i ≡ length l = omega (arith, v .inv .0) in
+    let whole : take (v .i) l ≡ l = ap (λ (n : ℕ). take n l) e ∙ take-length l in
+    rw (← e) (subst (Written _ (v .out) _ _) whole (v .inv .2))
 
 pub write-letters-spec : {M : Type 1} → statement M
 write-letters-spec =
@@ -62,7 +64,7 @@ write-letters-spec =
     Inv-loop
     μ-loop
     loop-holds
-    array-read-out
+    shared-slice-read-out
     add-out
     slice-write-out
     add-i
