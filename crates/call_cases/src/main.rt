@@ -8,7 +8,10 @@ ghost use lib.ListN.{length};
 use audit::Verdict;
 use audit::audit;
 use case_lines::FILLING;
+use case_lines::behind;
 use case_lines::byte_at;
+use case_lines::front;
+use case_lines::lend;
 use case_lines::print_accepted;
 use case_lines::print_assignment;
 use case_lines::print_bytes;
@@ -33,30 +36,6 @@ use integers::within;
 const NUMBER: u64 = 170;
 
 const SIGNED: i64 = 170;
-
-// The first n bytes, or all where there are fewer.
-fn front(s: &[u8], n: usize) -> &[u8] {
-    if s.len() < n {
-        return s;
-    }
-    &s[..n]
-}
-
-// The bytes behind the first n, or all where there are fewer.
-fn behind(s: &[u8], n: usize) -> &[u8] {
-    if s.len() < n {
-        return s;
-    }
-    &s[n..]
-}
-
-// The first n bytes of memory that is lent, or all where there are fewer.
-fn lend(s: &mut [u8], n: usize) -> &mut [u8] {
-    if s.len() < n {
-        return s;
-    }
-    &mut s[..n]
-}
 
 // How many bytes a number returned says are written: none where it is a refusal.
 fn written(r: i64) -> usize {

@@ -28,6 +28,30 @@ pub fn two_bytes_at(s: &[u8], i: usize) -> usize
     byte_at(s, i) * 256 + byte_at(s, i + 1)
 }
 
+// The first n bytes, or all where there are fewer.
+pub fn front(s: &[u8], n: usize) -> &[u8] {
+    if s.len() < n {
+        return s;
+    }
+    &s[..n]
+}
+
+// The bytes behind the first n, or all where there are fewer.
+pub fn behind(s: &[u8], n: usize) -> &[u8] {
+    if s.len() < n {
+        return s;
+    }
+    &s[n..]
+}
+
+// The first n bytes of memory that is lent, or all where there are fewer.
+pub fn lend(s: &mut [u8], n: usize) -> &mut [u8] {
+    if s.len() < n {
+        return s;
+    }
+    &mut s[..n]
+}
+
 // One character.
 pub fn print_character(c: u8) {
     io::write_all(1, &[c]);

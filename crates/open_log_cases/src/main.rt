@@ -7,7 +7,10 @@
 ghost use Prim.Native.Nat.{_<_};
 ghost use lib.ListN.{length};
 use case_lines::FILLING;
+use case_lines::behind;
 use case_lines::byte_at;
+use case_lines::front;
+use case_lines::lend;
 use case_lines::print_assignment;
 use case_lines::print_bytes;
 use case_lines::print_character;
@@ -27,30 +30,6 @@ use open_log::open;
 struct Place {
     at: usize,
     size: usize,
-}
-
-// The first n bytes, or all where there are fewer.
-fn front(s: &[u8], n: usize) -> &[u8] {
-    if s.len() < n {
-        return s;
-    }
-    &s[..n]
-}
-
-// The bytes behind the first n, or all where there are fewer.
-fn behind(s: &[u8], n: usize) -> &[u8] {
-    if s.len() < n {
-        return s;
-    }
-    &s[n..]
-}
-
-// The first n bytes of memory that is lent, or all where there are fewer.
-fn lend(s: &mut [u8], n: usize) -> &mut [u8] {
-    if s.len() < n {
-        return s;
-    }
-    &mut s[..n]
 }
 
 // The table in the bytes of a state; nothing where it is cut off.

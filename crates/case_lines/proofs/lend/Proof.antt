@@ -1,9 +1,9 @@
--- `open_log_cases::front` is safe. Assumes nothing.
+-- `case_lines::lend` is safe. Assumes nothing.
 use mathlib.Core.Path.{sym}
 use lib.Seq.{length-take-le}
 use borrow.Author.Needs.{needs}
-use Rattle.open_log_cases.proofs.front.Statement.{statement}
-use Rattle.open_log_cases.proofs.front.Tie as tie
+use Rattle.case_lines.proofs.lend.Statement.{statement}
+use Rattle.case_lines.proofs.lend.Tie as tie
 
 returns : tie.Need-returns
 returns c = search needs
@@ -14,5 +14,5 @@ slice-aggregate-result c = sym (length-take-le _ _ (c .before .if1 .left))
 returns-2 : tie.Need-returns-2
 returns-2 c = search needs
 
-pub front-spec : {M : Type 1} → statement M
-front-spec = tie.close (tie.spec returns slice-aggregate-result returns-2)
+pub lend-spec : {M : Type 1} → statement M
+lend-spec = tie.close (tie.spec returns slice-aggregate-result returns-2)
