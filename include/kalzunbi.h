@@ -1,7 +1,7 @@
 /* Kalzunbi for C: vector algebra in letters. C99 or C++, x86-64 Linux; link libexports.a (rt staticlib exports), which needs memcpy and memset of the C
  * library and nothing else.
  *
- * A call answers with one signed number: 0 or more where it gives something, minus the number of the refusal otherwise; for a log the step is told too.
+ * A call answers with one signed number: 0 or more where it gives something, minus the number of the refusal otherwise; the check call tells the step too.
  * The numbers stand below with their names. docs/FORMAT.md explains expressions, forms and logs byte by byte, and the text of a formula.
  *
  * What the caller owes:
@@ -268,6 +268,7 @@ int64_t kalzunbi_decide_open(const uint8_t *state, size_t state_length, const ui
                              uint8_t *work, size_t work_length);
 
 /* Closes an open log with a last form, which has to be the form reached: not one of the same value alone. Nothing is written.
+ * With that the log has ended; the bytes of its state do not tell, so the caller keeps it in mind.
  *
  * state: as above. form: the record of a form.
  *

@@ -261,6 +261,8 @@ class Derivation:
         """A step: the form reached, or the refusal with the step's number."""
         if first_word(line) != b"rule":
             raise Stop(4, number, past(line, 0), line)
+        if len(self.steps) == 64:  # tested before anything in the step
+            return step_refusal(14, 65)
         step = step_line(self.table(), self.names(), number, line)
         what, _, state = open_log_cases.answer(open_log_cases.added(step), self.state)
         if what != open_log_cases.GIVEN:

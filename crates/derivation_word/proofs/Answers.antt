@@ -18,7 +18,7 @@ use Rattle.specification.specs.OpenLogs as O
 use Rattle.specification.specs.Text.{Placed, refusedAt, placed, skip}
 use Rattle.specification.specs.Lines.{declared}
 use Rattle.specification.specs.LogTexts.{formLine, readFormLine, isStepLine, readStepLine}
-use Rattle.specification.specs.Commands.{refusalText, checkedText, unopened, underway, lineRead, namesAnswer, readFirst, firstAnswer, readOneStep, stepAnswer}
+use Rattle.specification.specs.Commands.{refusalText, checkedText, unopened, underway, lineRead, namesAnswer, readFirst, firstAnswer, readOneStep, stepRefused, stepAnswer}
 use Rattle.specification.specs.Commands as C
 use Rattle.theory.specs.Tests.{past, into, given-same}
 use Rattle.theory.specs.Elements.{All, all-append}
@@ -317,7 +317,7 @@ module _ (d : Derivation) (valid : DerivationValid d) (e : d .begun ≡ true) (k
     -- the step is refused
     pub add-refused : (n : ℕ) → a .answer ≡ Refused n → (before after : List ℕ) (at end : ℕ) → Tells before after at end (checkedText 0 0 (L.refusedAt n (d .state .count + 1)))
         → LineTold (lineRead k line (derivationOf d) (readOneStep (namesOf d) (kindsOf d) line) added) before after at (record { derivation = d; end = end })
-    unfolding stepAnswer answerOf stateOf
+    unfolding stepRefused stepAnswer answerOf stateOf
     add-refused n h before after at end t =
         let s = stood-refused (stateOf (d .state)) (stateOf (a .state)) (addTo (stateOf (d .state)) (writeStep (stepOf (q .step)))) n
         (ap (λ (x : adding.Answer). (answerOf x, stateOf (a .state))) (sym h) ∙ was .is) in

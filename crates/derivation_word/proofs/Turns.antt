@@ -1,18 +1,19 @@
 -- The lines of an input answered one after the other. Assumes nothing.
 use mathlib.Core.Path.{_≡_, refl, sym, _∙_, ap, subst}
-use mathlib.Core.Bool.{Bool, true, false}
+use mathlib.Core.Bool.{Bool, true, false, _&&_}
 use mathlib.Core.List.{List, [], _∷_, _++_}
 use Prim.Native.Nat.{ℕ, suc, _+_, _-_, _≤_, _<_}
 use native.Mathlib.Omega.{arith}
-use lib.Dec.{eqb}
+use lib.Dec.{leb, eqb}
 use lib.ListN.{length, take, drop, length-drop, drop-of-length-le}
 use Rattle.specification.specs.Results.{if_then_else_}
 use Rattle.specification.specs.Words.{bytes}
 use Rattle.specification.specs.Lines.{firstLine, behindLine, linesOf, nextLine, isEmptyLine, isWordAt, isDeclaration, declared}
-use Rattle.specification.specs.LogTexts.{logText}
-use Rattle.specification.specs.Commands.{Derivation, unopened, underway, lineRead, namesAnswer, readFirst, firstAnswer, readOneStep, stepAnswer, answerLine, passLine, answerLines, endText, derivationInput}
+use Rattle.specification.specs.LogTexts.{isStepLine, logText}
+use Rattle.specification.specs.Commands.{Derivation, unopened, underway, lineRead, namesAnswer, readFirst, firstAnswer, readOneStep, stepRefused, stepAnswer, checkedText, answerLine, passLine, answerLines, endText, derivationInput}
 use Rattle.specification.specs.OpenLogs.{addTo}
 use Rattle.specification.specs.Logs.{writeStep}
+use Rattle.specification.specs.Logs as Logs
 use Rattle.specification.specs.Lines as L
 use Rattle.specification.proofs.Computing.{computing}
 use Rattle.specification.proofs.TextExamples.{computingText}
@@ -30,6 +31,16 @@ use Rattle.derivation_word.specs.declared.reading.Answered.{Answered}
 use Rattle.derivation_word.specs.Derivations.{namesOf, kindsOf, derivationOf, DerivationValid, LineTold}
 use Rattle.derivation_word.proofs.Answers.{is-open}
 
+-- ════ a step behind so many
+
+-- the first test fails
+pub no-and : (b x y : Bool) → b ≡ x → b ≡ false → false ≡ (x && y)
+no-and b x y e h = subst (λ t. false ≡ (t && y)) (sym h ∙ e) refl
+
+-- or the second decides
+pub some-and : (b x y : Bool) → b ≡ x → b ≡ true → y ≡ (x && y)
+some-and b x y e h = subst (λ t. y ≡ (t && y)) (sym h ∙ e) refl
+
 -- ════ a line of any kind
 
 module _ (d : D.Derivation) (k : ℕ) (line before after : List ℕ) (at : ℕ) where
@@ -40,22 +51,43 @@ module _ (d : D.Derivation) (k : ℕ) (line before after : List ℕ) (at : ℕ) 
       subst (λ t. LineTold (if t then (derivationOf d, []) else answerLine k line (derivationOf d)) before before at (record { derivation = d; end = at })) (sym h ∙ e)
       (record { is = refl; tells = tells-nothing before at; valid = valid })
 
-  module _ (b : Bool) (e : b ≡ isEmptyLine line) (h : b ≡ false) (r : Answered) where
-    answered : LineTold (answerLine k line (derivationOf d)) before after at r → LineTold (passLine k line (derivationOf d)) before after at r
-    unfolding passLine
-    answered t = subst (λ x. LineTold (if x then (derivationOf d, []) else answerLine k line (derivationOf d)) before after at r) (sym h ∙ e) t
+  -- a line of an open log
+  module _ (valid : DerivationValid d) (o : d .begun ≡ true) (c : Bool) (q : c ≡ (isStepLine line && leb 64 (d .state .count))) where
+    -- what is told for it, by whether it is one step too many
+    told-open : (r : Answered)
+        → LineTold (if c then stepRefused (namesOf d) (formOf (d .first)) (stateOf (d .state)) (stepsOf (d .steps)) 14
+        else lineRead k line (underway (namesOf d) (formOf (d .first)) (stateOf (d .state)) (stepsOf (d .steps))) (readOneStep (namesOf d) (kindsOf d) line)
+        (λ step. stepAnswer (namesOf d) (formOf (d .first)) (stateOf (d .state)) (stepsOf (d .steps)) step (addTo (stateOf (d .state)) (writeStep step)))) before after at r
+        → LineTold (answerLine k line (derivationOf d)) before after at r
+    unfolding answerLine stateOf kindsOf
+    told-open r t =
+        subst (λ x. LineTold (answerLine k line x) before after at r) (sym (is-open d valid o))
+        (subst (λ x. LineTold (if x then stepRefused (namesOf d) (formOf (d .first)) (stateOf (d .state)) (stepsOf (d .steps)) 14
+        else lineRead k line (underway (namesOf d) (formOf (d .first)) (stateOf (d .state)) (stepsOf (d .steps))) (readOneStep (namesOf d) (kindsOf d) line)
+        (λ step. stepAnswer (namesOf d) (formOf (d .first)) (stateOf (d .state)) (stepsOf (d .steps)) step (addTo (stateOf (d .state)) (writeStep step)))) before after at r) q t)
 
-    -- a step
-    pub answered-step : (valid : DerivationValid d) (o : d .begun ≡ true)
+    -- it is
+    pub open-full : c ≡ true → (end : ℕ) → Tells before after at end (checkedText 0 0 (Logs.refusedAt 14 (d .state .count + 1)))
+        → LineTold (answerLine k line (derivationOf d)) before after at (record { derivation = d; end = end })
+    unfolding stepRefused stateOf
+    open-full w end t =
+        told-open (record { derivation = d; end = end }) (rw w (record { is = is-open d valid o; tells = t; valid = valid }))
+
+    -- it is not
+    pub open-step : c ≡ false → (r : Answered)
         → LineTold (lineRead k line (derivationOf d) (readOneStep (namesOf d) (kindsOf d) line)
         (λ step. stepAnswer (namesOf d) (formOf (d .first)) (stateOf (d .state)) (stepsOf (d .steps)) step (addTo (stateOf (d .state)) (writeStep step)))) before after at r
-        → LineTold (passLine k line (derivationOf d)) before after at r
-    unfolding answerLine stateOf kindsOf
-    answered-step valid o t =
-        let is = is-open d valid o in
-        answered (subst (λ x. LineTold (answerLine k line x) before after at r) (sym is)
-        (subst (λ x. LineTold (lineRead k line x (readOneStep (namesOf d) (kindsOf d) line)
-        (λ step. stepAnswer (namesOf d) (formOf (d .first)) (stateOf (d .state)) (stepsOf (d .steps)) step (addTo (stateOf (d .state)) (writeStep step)))) before after at r) is t))
+        → LineTold (answerLine k line (derivationOf d)) before after at r
+    open-step w r t =
+        told-open r (rw w (subst (λ x. LineTold (lineRead k line x (readOneStep (namesOf d) (kindsOf d) line)
+        (λ step. stepAnswer (namesOf d) (formOf (d .first)) (stateOf (d .state)) (stepsOf (d .steps)) step (addTo (stateOf (d .state)) (writeStep step)))) before after at r)
+        (is-open d valid o) t))
+
+  module _ (b : Bool) (e : b ≡ isEmptyLine line) (h : b ≡ false) (r : Answered) where
+    -- another one is answered
+    pub answered : LineTold (answerLine k line (derivationOf d)) before after at r → LineTold (passLine k line (derivationOf d)) before after at r
+    unfolding passLine
+    answered t = subst (λ x. LineTold (if x then (derivationOf d, []) else answerLine k line (derivationOf d)) before after at r) (sym h ∙ e) t
 
     module _ (o : d .begun ≡ false) (c : Bool) (q : c ≡ isDeclaration line) where
       not-open : derivationOf d ≡ unopened (namesOf d) (kindsOf d)

@@ -1,5 +1,5 @@
 -- Worked examples of document 01 that are not starred, and of document 02, as rows of one table with one computed test: a wrong definition is refused in this crate, before any theorem stands on it.
--- Behind them K2's order of assignments, at two letters. Assumes nothing.
+-- Behind them K5's lists of calls, and K2's order of assignments at two letters. Assumes nothing.
 use mathlib.Core.Path.{_≡_, refl}
 use mathlib.Core.Bool.{Bool, true, false, _&&_}
 use mathlib.Core.List.{List, [], _∷_, _++_}
@@ -19,7 +19,7 @@ use Rattle.specification.specs.Rules.{sides, Step, takeStep}
 use Rattle.specification.specs.Evaluation.{termsValue}
 use Rattle.specification.specs.Logs.{sameCoef, sameForm}
 use Rattle.specification.specs.Decision.{whole, Before}
-use Rattle.specification.specs.OpenLogs.{stateBytes, State, writeState, readState, addTo, closeCall, adding, OpenLog, run}
+use Rattle.specification.specs.OpenLogs.{stateBytes, State, writeState, readState, addTo, closeCall, Call, adding, closing, run}
 use Rattle.specification.specs.Printing.{printCall}
 use Rattle.specification.proofs.Computing.{computing}
 
@@ -42,8 +42,6 @@ data Example : Type 0 where
   addRefused : (state step : List ℕ) (number : ℕ) → Example
   -- the bytes of an open log's state and of a last form, and the number that closing is refused with, 0 where it is accepted
   closes : (state form : List ℕ) (number : ℕ) → Example
-  -- the bytes of an open log's state, the steps that two callers add one after the other, the bytes of the state afterwards, and how many steps were taken
-  leaves : (state one other next : List ℕ) (taken : ℕ) → Example
   -- two vectors and their wedge
   wedges : (a b c : Vec) → Example
   -- numbers in a row, and what they assign to a letter
@@ -76,6 +74,13 @@ goodStep = 2 ∷ 0 ∷ 1 ∷ 2 ∷ 3 ∷ 0 ∷ []
 
 abbrev unlikeStep : List ℕ
 unlikeStep = 3 ∷ 0 ∷ 1 ∷ 2 ∷ 3 ∷ 0 ∷ 0 ∷ []
+
+-- the record of the empty form, to which rule 2 leads, and the state behind that step
+abbrev emptyForm : List ℕ
+emptyForm = 0x01 ∷ 0 ∷ []
+
+abbrev behindGood : List ℕ
+behindGood = 4 ∷ fourVectors ++ 1 ∷ emptyForm
 
 examples : List Example
 examples =
@@ -124,7 +129,7 @@ examples =
     -- "Steps in a log still count beforehand": rule 1 with a a a a, times (abc), would vanish
     ∷ stepRefused (record { kind = vector; terms = [] }) (record { rule = 1; letters = 0 ∷ 0 ∷ 0 ∷ 0 ∷ []; m = plus (tripleOf 0 1 2 ∷ []) [] }) 8
     -- K5: the table's length, the table, the count and the form's record; the next state has one step more and the form reached, here the empty one
-    ∷ adds (fourState 0) goodStep (4 ∷ 1 ∷ 1 ∷ 1 ∷ 1 ∷ 1 ∷ 1 ∷ 0 ∷ [])
+    ∷ adds (fourState 0) goodStep behindGood
     -- "admissible at the form reached": the kinds do not agree
     ∷ addRefused (fourState 0) unlikeStep 6
     -- "14 for a 65th step, tested before anything in that step": no byte of it is there; a count of 65 breaks a rule
@@ -132,11 +137,8 @@ examples =
     ∷ addRefused (fourState 65) [] 11
     -- "refused 11 before all else": the letter b of a table of one letter, in the state and in the form to close with
     ∷ closes (1 ∷ 1 ∷ 0 ∷ 1 ∷ 1 ∷ 0x10 ∷ 1 ∷ []) (1 ∷ 1 ∷ 0x10 ∷ 1 ∷ []) 11
-    -- "A refused step leaves the log open as before"
-    ∷ leaves (fourState 0) unlikeStep goodStep (4 ∷ 1 ∷ 1 ∷ 1 ∷ 1 ∷ 1 ∷ 1 ∷ 0 ∷ []) 1
-    -- closing with the form reached; the empty form has its value, and is another
+    -- closing with the form reached
     ∷ closes (fourState 3) fourTerms 0
-    ∷ closes (fourState 3) (0x01 ∷ 0 ∷ []) 13
     -- "a∧b is (a2b3−a3b2, a3b1−a1b3, a1b2−a2b1)"
     ∷ wedges (vec (pos 1) (pos 2) (pos 3)) (vec (pos 4) (pos 5) (pos 7)) (vec (negsuc 0) (pos 5) (negsuc 2))
     -- K2, "whole numbers", "letter by letter and component by component"
@@ -187,13 +189,6 @@ passes : Test → ℕ → Bool
 passes (refused n) m = eqb n m
 passes (given u) m = eqb 0 m
 
-zeros : ℕ → List ℕ
-zeros zero = []
-zeros (suc n) = 0 ∷ zeros n
-
-leavesBy : OpenLog → List ℕ → ℕ → Bool
-leavesBy log next taken = same (log .state) next && eqb (length (log .steps)) taken
-
 -- the example holds
 exampleHolds : Example → Bool
 exampleHolds (prints input text) = same (printCall input) text
@@ -204,16 +199,44 @@ exampleHolds (stepRefused f s n) = isNumber (takeStep f s) n
 exampleHolds (adds state step next) = hasState (readState state >>= λ before. addTo before step) next
 exampleHolds (addRefused state step n) = isState (readState state >>= λ before. addTo before step) n
 exampleHolds (closes state form n) = passes (closeCall state form) n
-exampleHolds (leaves state one other next taken) =
-    leavesBy (run (record { state = state; steps = [] }) (adding one (zeros stateBytes) ∷ adding other (zeros stateBytes) ∷ [])) next taken
 exampleHolds (wedges a b c) = sameVec (wedge a b) c
 exampleHolds (assigns numbers letter v) = sameVec (whole numbers letter) v
 exampleHolds (balances rule) =
     let s = sides rule (0 ∷ 1 ∷ 2 ∷ 3 ∷ 4 ∷ 5 ∷ []) in sameVec (termsValue numbers (s .left)) (termsValue numbers (s .right))
 
 examples-hold : T (all exampleHolds examples)
-unfolding examples exampleHolds same sameVec isForm isNumber sixVectors hasRecord hasState isState passes zeros leavesBy computing
+unfolding examples exampleHolds same sameVec isForm isNumber sixVectors hasRecord hasState isState passes computing
 examples-hold = tt
+
+-- ════ K5: closing, and lists of calls
+
+-- the empty form has the value of the form reached, and is another
+closing-another : closeCall (fourState 3) emptyForm ≡ refused 13
+unfolding computing
+closing-another = refl
+
+zeros : ℕ → List ℕ
+zeros zero = []
+zeros (suc n) = 0 ∷ zeros n
+
+-- how many steps were taken by calls after an opening, and whether the state is as given
+leaves : (calls : List Call) (state : List ℕ) → ℕ × Bool
+leaves calls state = let log = run (record { state = fourState 0; steps = [] }) calls in (length (log .steps), same (log .state) state)
+
+-- "A refused step leaves the log open as before"
+refused-step-stands : leaves (adding unlikeStep (zeros stateBytes) ∷ adding goodStep (zeros stateBytes) ∷ []) behindGood ≡ (1, true)
+unfolding leaves zeros same computing
+refused-step-stands = refl
+
+-- "So does a refused closing";
+refused-closing-stands : leaves (closing emptyForm ∷ adding goodStep (zeros stateBytes) ∷ []) behindGood ≡ (1, true)
+unfolding leaves zeros same computing
+refused-closing-stands = refl
+
+-- "an accepted one ends the list"
+accepted-closing-ends : leaves (closing fourTerms ∷ adding goodStep (zeros stateBytes) ∷ []) (fourState 0) ≡ (0, true)
+unfolding leaves zeros same computing
+accepted-closing-ends = refl
 
 -- ════ K2: the order of assignments
 

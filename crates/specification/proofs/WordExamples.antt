@@ -10,7 +10,7 @@ use Rattle.specification.specs.Evaluation.{signedByte, sixOrLess, restIs
 use Rattle.specification.specs.Commands.{numeral, signedNumeral, reason, blanks, refusalText, stepReason, countText, checkedText, answerText, packInput}
 use Rattle.specification.specs.Commands.{valueText, valueInput, paired, readSides, assignmentText, decisionText, readOneLine, testedLog, testedText, unpackedText, unpackLog, unpackInput}
 use Rattle.specification.specs.Lines.{inFront, linesOf}
-use Rattle.specification.specs.Commands.{lineRead, namesAnswer, readFirst, firstAnswer, readOneStep, stepAnswer, answerLine, passLine, answerLines, endText, derivationInput}
+use Rattle.specification.specs.Commands.{underway, lineRead, namesAnswer, readFirst, firstAnswer, readOneStep, stepRefused, stepAnswer, answerLine, passLine, answerLines, endText, derivationInput}
 use Rattle.specification.specs.AssignmentTexts.{readComponent, readValue, putThree, noneYet, readAssigned}
 use Rattle.specification.proofs.Computing.{computing}
 use Rattle.specification.proofs.TextExamples.{computingText}
@@ -20,7 +20,7 @@ use Rattle.specification.proofs.LogTextExamples.{computingLines}
 unfoldable pub computingWords : Unit {0}
 unfolding computing computingText computingLines signedByte sixOrLess restIsZero goodAssignment assignment value numeral signedNumeral reason blanks refusalText
     stepReason countText checkedText answerText packInput readComponent readValue putThree noneYet readAssigned valueText valueInput paired readSides assignmentText decisionText readOneLine testedLog testedText
-    unpackedText unpackLog unpackInput inFront linesOf lineRead namesAnswer readFirst firstAnswer readOneStep stepAnswer answerLine passLine answerLines endText derivationInput
+    unpackedText unpackLog unpackInput inFront linesOf lineRead namesAnswer readFirst firstAnswer readOneStep stepRefused stepAnswer answerLine passLine answerLines endText derivationInput
 computingWords = tt
 
 -- a value, its assignment in another order than the names
@@ -99,3 +99,9 @@ derivation-example = refl
 unopened-example : derivationInput (bytes "vectors a\n") ≡ bytes "refused 4 at line 2, column 1: torn\n\n^\n"
 unfolding computingWords
 unopened-example = refl
+
+-- "14 for a 65th step, tested before anything in that step": a name that is not declared, and no letters at all, come behind it
+full-example : answerLine 70 (bytes "rule 2: x") (underway (bytes "a") (record { kind = 1; terms = [] }) (record { table = 1 ∷ []; count = 64; form = record { kind = 1; terms = [] } }) []) .1
+    ≡ bytes "refused 14 at step 65: more than 64 steps\n"
+unfolding computingWords
+full-example = refl

@@ -1,6 +1,7 @@
 -- What the program `kalzunbi` writes for a word and an input. Assumes nothing.
 --
--- A refusal is told alone: its number, line and column, the line, and a mark under the place. The first word of an answer is the verdict.
+-- A refusal is told alone: its number, line and column, the line, and a mark under the place. The first word of an answer is the verdict. But for `derivation`, which
+-- answers each line by itself.
 use mathlib.Core.Path.{_≡_}
 use mathlib.Core.Bool.{Bool, true, false, _&&_, _||_}
 use mathlib.Core.List.{List, [], _∷_, _++_}
@@ -244,19 +245,25 @@ firstAnswer names table f = (underway names f (record { table = table; count = 0
 unfoldable pub readOneStep : (names table line : List ℕ) → Placed Step
 readOneStep names table line = if isStepLine line then readStepLine names table line else refusedAt 4 (skip line 0)
 
--- "add a step": the form reached is told, or the refusal with the step's number; "A refused step leaves the log open as before"
+-- "A refused step leaves the log open as before": the refusal is told with the number that the step would have
+unfoldable pub stepRefused : (names : List ℕ) (first : Form) (state : State) (steps : List Step) (n : ℕ) → Derivation × List ℕ
+stepRefused names first state steps n = (underway names first state steps, checkedText 0 0 (C.refusedAt n (state .count + 1)))
+
+-- "add a step": the form reached is told, or the refusal
 unfoldable pub stepAnswer : (names : List ℕ) (first : Form) (state : State) (steps : List Step) (step : Step) → Result State → Derivation × List ℕ
-stepAnswer names first state steps step (refused n) = (underway names first state steps, checkedText 0 0 (C.refusedAt n (state .count + 1)))
+stepAnswer names first state steps step (refused n) = stepRefused names first state steps n
 stepAnswer names first state steps step (given next) = (underway names first next (steps ++ step ∷ []), formLine names (next .form))
 
--- what the line k leaves, and what is told for it
+-- what the line k leaves, and what is told for it; "14 for a 65th step, tested before anything in that step"
 unfoldable pub answerLine : (k : ℕ) (line : List ℕ) → Derivation → Derivation × List ℕ
 answerLine k line (unopened names table) =
     if isDeclaration line
     then lineRead k line (unopened names table) (declared line (names, table)) namesAnswer
     else lineRead k line (unopened names table) (readFirst names table line) (firstAnswer names table)
 answerLine k line (underway names first state steps) =
-    lineRead k line (underway names first state steps) (readOneStep names (state .table) line)
+    if isStepLine line && leb 64 (state .count)
+    then stepRefused names first state steps 14
+    else lineRead k line (underway names first state steps) (readOneStep names (state .table) line)
     λ step. stepAnswer names first state steps step (addTo state (C.writeStep step))
 
 -- "blank lines are passed"

@@ -20,7 +20,7 @@ use Rattle.specification.specs.Words.{bytes}
 use Rattle.specification.specs.Text.{Placed, refusedAt, placed, _>>=_, isLetter, placeOf, goodNames, skip, next, textForm}
 use Rattle.specification.specs.Lines.{firstLine, behindLine, inFront, linesOf, isEmptyLine, isWordAt, Named, isDeclaration, declared}
 use Rattle.specification.specs.LogTexts.{from, ofKind, kindAt, readFormLine, mark, readLettersAt, oneTerm, isStepLine, readStepLine}
-use Rattle.specification.specs.Commands.{Derivation, unopened, underway, lineRead, namesAnswer, readFirst, firstAnswer, readOneStep, stepAnswer, answerLine, passLine, answerLines}
+use Rattle.specification.specs.Commands.{Derivation, unopened, underway, lineRead, namesAnswer, readFirst, firstAnswer, readOneStep, stepRefused, stepAnswer, answerLine, passLine, answerLines}
 use Rattle.theory.specs.Tests.{and-both, and-split, eqb-T, given-same, past, into}
 use Rattle.theory.specs.Shape.Forms.{FormInShape}
 use Rattle.theory.specs.Records.Positions.{Spells, spells-all}
@@ -313,16 +313,14 @@ read-goes k line d (refusedAt n c) answer g h = g
 read-goes k line d (placed a) answer g h = h a refl
 
 answer-goes : (k : ℕ) (line : List ℕ) (d : Derivation) → Going d → Going (answerLine k line d .0)
-unfolding answerLine namesAnswer firstAnswer Going readOneStep stepAnswer
+unfolding answerLine namesAnswer firstAnswer Going readOneStep stepRefused stepAnswer
 answer-goes k line (unopened names table) g = go (isDeclaration line)
   where
     go : (b : Bool) → Going ((if b then lineRead k line (unopened names table) (declared line (names, table)) namesAnswer
         else lineRead k line (unopened names table) (readFirst names table line) (firstAnswer names table)) .0)
     go true = read-goes k line (unopened names table) (declared line (names, table)) namesAnswer g (λ n e. declared-good line (names, table) n g e)
     go false = read-goes k line (unopened names table) (readFirst names table line) (firstAnswer names table) g (λ f e. first-goes names table line f g e)
-answer-goes k line (underway names first state steps) g =
-    read-goes k line (underway names first state steps) (readOneStep names (state .table) line) (λ step. stepAnswer names first state steps step (addTo state (writeStep step))) g
-    (λ step e. stepped step (shape (isStepLine line) step e) (addTo state (writeStep step)) refl)
+answer-goes k line (underway names first state steps) g = go (isStepLine line && leb 64 (state .count))
   where
     shape : (b : Bool) (step : Step) → (if b then readStepLine names (state .table) line else refusedAt 4 (skip line 0)) ≡ placed step → T (stepInShape step)
     shape false step e = absurd (refused≢placed e)
@@ -331,6 +329,14 @@ answer-goes k line (underway names first state steps) g =
     stepped : (step : Step) → T (stepInShape step) → (r : Result State) → addTo state (writeStep step) ≡ r → Going (stepAnswer names first state steps step r .0)
     stepped step h (refused n) e = g
     stepped step h (given next) e = step-goes names first state steps step next g h e
+
+    go : (b : Bool) → Going ((if b then stepRefused names first state steps 14
+        else lineRead k line (underway names first state steps) (readOneStep names (state .table) line)
+        (λ step. stepAnswer names first state steps step (addTo state (writeStep step)))) .0)
+    go true = g
+    go false =
+        read-goes k line (underway names first state steps) (readOneStep names (state .table) line) (λ step. stepAnswer names first state steps step (addTo state (writeStep step))) g
+        (λ step e. stepped step (shape (isStepLine line) step e) (addTo state (writeStep step)) refl)
 
 pub pass-goes : (k : ℕ) (line : List ℕ) (d : Derivation) → Going d → Going (passLine k line d .0)
 unfolding passLine

@@ -1,6 +1,6 @@
 -- `derivation_word::answering::answer_line` meets its contract. Assumes nothing.
 use denote.Ref.{now}
-use Rattle.derivation_word.proofs.Turns.{passed-empty, answered-step, answered-names, answered-first}
+use Rattle.derivation_word.proofs.Turns.{passed-empty, answered, answered-names, answered-first}
 use borrow.Author.Needs.{needs}
 use Rattle.derivation_word.proofs.answering.answer_line.Statement.{statement}
 use Rattle.derivation_word.proofs.answering.answer_line.Tie as tie
@@ -14,8 +14,8 @@ returns c =
     passed-empty (s .args .d) (s .args .k) (now (s .args .line)) (now (s .args .out)) (now (s .args .out)) _ (s .pre) _ (c .before .is-empty-line .ensures)
     (c .if1 .taken)
 
-step-line-requires : tie.Need-step-line-requires
-step-line-requires c κs = search needs
+open-line-requires : tie.Need-open-line-requires
+open-line-requires c κs = search needs
 
 same-length : tie.Need-same-length
 same-length c = search needs
@@ -23,12 +23,10 @@ same-length c = search needs
 returns-2 : tie.Need-returns-2
 returns-2 c =
     let c2 = c .before .before in
-    let c4 = c2 .before .before in
-    let c5 = c4 .before in
+    let c5 = c2 .before .before .before in
     let c6 = c5 .before in
     let s = c6 .before .before .before in
-    answered-step (s .args .d) (s .args .k) (now (s .args .line)) _ _ _ _ (c6 .is-empty-line .ensures) (c5 .if1 .left) _ (s .pre) (c4 .if2 .taken)
-    (c2 .step-line .ensures)
+    answered (s .args .d) (s .args .k) (now (s .args .line)) _ _ _ _ (c6 .is-empty-line .ensures) (c5 .if1 .left) _ (c2 .open-line .ensures)
 
 is-declaration-requires : tie.Need-is-declaration-requires
 is-declaration-requires c κs = search needs
@@ -75,7 +73,7 @@ answer-line-spec =
     (tie.spec
     is-empty-line-requires
     returns
-    step-line-requires
+    open-line-requires
     same-length
     returns-2
     is-declaration-requires
