@@ -949,6 +949,12 @@ static void audit_calls(void)
 #define STATE(count) "0401010101" count FOUR
 #define EMPTY(count) "0401010101" count "0100"
 #define ONE "01010001011000"
+/* 24 vectors, and the form of 48 terms with each of them and 24 wedges */
+#define TWENTY_FOUR "010101010101010101010101010101010101010101010101"
+#define FULL \
+    "01301000100110021003100410051006100710081009100a100b100c100d100e100f1010101110121013101410151016101720000120000220000320" \
+    "000420000520000620000720000820000920000a20000b20000c20000d20000e20000f20001020001120001220001320001420001520001620001720" \
+    "0102"
 
 enum open_call { OPEN, ADD, LOOK, CLOSE };
 
@@ -1000,9 +1006,11 @@ static const struct open_row open_rows[] = {
     {ADD, STATE("00"), "03000102030000", 796, -6, ""},
     {ADD, STATE("00"), "0200010203080100" "0102", 796, -8, ""},
     {ADD, "0401010101" "00" LARGE, "020001020301" "00000002", 796, -9, ""},
+    {ADD, "18" TWENTY_FOUR "00" FULL, STEP, 796, -10, ""},
     /* looking */
     {LOOK, STATE("07"), "", 770, 0, FOUR},
     {LOOK, EMPTY("40"), "", 900, 0, "0100"},
+    {LOOK, "18" TWENTY_FOUR "00" FULL, "", 770, 0, FULL},
     {LOOK, STATE("41"), "", 0, -11, ""},
     {LOOK, STATE("07"), "", 769, -2, ""},
     /* closing: with the form reached; with others, of the same value, of the other kind; 11, 5, 6 */

@@ -296,7 +296,15 @@ def told_for_lines(data):
     return [*told, derivation.end(len(lines) + 1)]
 
 
+# The bytes of an input at most, and what the program tells for more.
+LONGEST = 65536
+TOO_LONG = b"refused 3: more than 65536 bytes, or an input that cannot be read\n"
+
+
 def derived(data):
+    if len(data) > LONGEST:
+        whole = data[:data.rfind(b"\n", 0, LONGEST + 1) + 1]  # lines are answered as far as one byte too many was read
+        return b"".join(told_for_lines(whole)[:-1]) + TOO_LONG
     return b"".join(told_for_lines(data))
 
 
@@ -613,7 +621,8 @@ def wrong_line(chance, names):
 
 
 def random_derivation(chance):
-    """The lines of a log, with blank lines and refused ones between them; now and then a full form, or more than 64 steps that are taken."""
+    """The lines of a log, with blank lines and refused ones between them; now and then a full form, more than 64 steps that are taken, or a length
+    at the limit."""
     table, log = check_cases.random_log(chance, *chance.choice(((3, 5), (2, 9), (9, 3))))
     if chance.random() < 0.03:
         kind = chance.randrange(2)
@@ -624,6 +633,7 @@ def random_derivation(chance):
     if chance.random() < 0.03:
         a, b, c, d, *_ = names
         steps += [f"rule {chance.choice((1, 2))}: {a} {b} {c} {d}, M = {chance.choice((1, -1))}{chance.choice(names[6:])}" for _ in range(70)]
+        steps += [wrong_line(chance, names) for _ in range(3)]
     lines = [line.encode() for line in (*names_lines(chance, names, table), first, *steps)]
     for _ in range(chance.choice((0, 0, 1, 1, 2, 3, 6))):
         line = wrong_line(chance, names).encode() if chance.random() < 0.7 else text_cases.damaged(chance, chance.choice(lines))
@@ -632,7 +642,11 @@ def random_derivation(chance):
         lines.insert(chance.randint(0, len(lines)), chance.choice((b"", b" ", b"   ")))
     if chance.random() < 0.05:
         del lines[chance.randint(0, len(lines)):]
-    return b"\n".join(lines) + b"\n" * chance.choice((1, 1, 1, 0, 2))
+    data = b"\n".join(lines) + b"\n" * chance.choice((1, 1, 1, 0, 2))
+    if chance.random() < 0.02:
+        at = chance.choice((data.rfind(b"\n"), len(data)))
+        data = data[:at] + chance.choice((b"\n", b" ", b"x")) * (LONGEST + chance.choice((-1, 0, 1, 2, 500)) - len(data)) + data[at:]
+    return data
 
 
 INPUTS = {
@@ -690,7 +704,7 @@ def main():
         for _ in range(int(sys.argv[1])):
             word = chance.choice(list(INPUTS)) if chance.random() < 0.99 else chance.choice(OTHERS)
             data = random_case(chance, word)
-            found = run_typed(chance, data) if word == "derivation" and chance.random() < 0.3 else run(word, data)
+            found = run_typed(chance, data) if word == "derivation" and len(data) <= LONGEST and chance.random() < 0.3 else run(word, data)
             expected = shortening_fault(data, found) if word == "shorten" else answer(word, data)
             refusals += found.startswith(b"refused")
             if expected != (None if word == "shorten" else found):
