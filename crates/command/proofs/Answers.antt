@@ -5,7 +5,8 @@ use mathlib.Core.List.{List}
 use Prim.Native.Nat.{ℕ}
 use Rattle.specification.specs.Words.{bytes}
 use Rattle.specification.specs.Lines.{sameBytes}
-use Rattle.specification.specs.Commands.{answerText, reduceInput, valueInput, checkInput, packInput, unpackInput, derivationInput, usage, isCommand, commandText, DecideAnswer, ShortenAnswer, eitherWay, Commanded}
+use Rattle.specification.specs.Commands.{answerText, reduceInput, valueInput, checkInput, packInput, unpackInput, derivationInput}
+use Rattle.specification.specs.Commands.{usage, isCommand, commandText, DecideAnswer, ShortenAnswer, eitherWay, Commanded}
 use Rattle.telling.specs.Told.{Told, AnswerTold}
 
 -- the word is this one

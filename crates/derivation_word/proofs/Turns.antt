@@ -10,7 +10,8 @@ use Rattle.specification.specs.Results.{if_then_else_}
 use Rattle.specification.specs.Words.{bytes}
 use Rattle.specification.specs.Lines.{firstLine, behindLine, linesOf, nextLine, isEmptyLine, isWordAt, isDeclaration, declared}
 use Rattle.specification.specs.LogTexts.{isStepLine, logText}
-use Rattle.specification.specs.Commands.{Derivation, unopened, underway, lineRead, namesAnswer, readFirst, firstAnswer, readOneStep, stepRefused, stepAnswer, checkedText, answerLine, passLine, answerLines, endText, derivationInput}
+use Rattle.specification.specs.Commands.{Derivation, unopened, underway, lineRead, namesAnswer, readFirst, firstAnswer, readOneStep, stepRefused, stepAnswer}
+use Rattle.specification.specs.Commands.{checkedText, answerLine, passLine, answerLines, endText, derivationInput}
 use Rattle.specification.specs.OpenLogs.{addTo}
 use Rattle.specification.specs.Logs.{writeStep}
 use Rattle.specification.specs.Logs as Logs
@@ -28,7 +29,7 @@ use Rattle.telling.specs.Told.{Told, Tells}
 use Rattle.telling.proofs.Pieces.{tells-nothing, told-nothing}
 use Rattle.derivation_word.specs.declared.reading.Derivation as D
 use Rattle.derivation_word.specs.declared.reading.Answered.{Answered}
-use Rattle.derivation_word.specs.Derivations.{namesOf, kindsOf, derivationOf, DerivationValid, LineTold}
+use Rattle.derivation_word.specs.Derivations.{namesOf, kindsOf, derivationOf, DerivationValid, readAsFirst, readAsStep, LineTold}
 use Rattle.derivation_word.proofs.Answers.{is-open}
 
 -- ════ a step behind so many
@@ -75,8 +76,7 @@ module _ (d : D.Derivation) (k : ℕ) (line before after : List ℕ) (at : ℕ) 
 
     -- it is not
     pub open-step : c ≡ false → (r : Answered)
-        → LineTold (lineRead k line (derivationOf d) (readOneStep (namesOf d) (kindsOf d) line)
-        (λ step. stepAnswer (namesOf d) (formOf (d .first)) (stateOf (d .state)) (stepsOf (d .steps)) step (addTo (stateOf (d .state)) (writeStep step)))) before after at r
+        → LineTold (readAsStep k line d) before after at r
         → LineTold (answerLine k line (derivationOf d)) before after at r
     open-step w r t =
         told-open r (rw w (subst (λ x. LineTold (lineRead k line x (readOneStep (namesOf d) (kindsOf d) line)
@@ -105,7 +105,7 @@ module _ (d : D.Derivation) (k : ℕ) (line before after : List ℕ) (at : ℕ) 
           (subst (λ x. LineTold (lineRead k line x (declared line (namesOf d, kindsOf d)) namesAnswer) before after at r) not-open t)))
 
       -- the first form
-      pub answered-first : c ≡ false → LineTold (lineRead k line (derivationOf d) (readFirst (namesOf d) (kindsOf d) line) (firstAnswer (namesOf d) (kindsOf d))) before after at r
+      pub answered-first : c ≡ false → LineTold (readAsFirst k line d) before after at r
           → LineTold (passLine k line (derivationOf d)) before after at r
       unfolding answerLine
       answered-first w t =
@@ -124,7 +124,7 @@ no-declaration = refl
 module _ (d : D.Derivation) (k : ℕ) (before after : List ℕ) (at end : ℕ) where
   -- nothing is open: what is missing
   pub end-missing : d .begun ≡ false → (r : Answered)
-      → LineTold (lineRead k [] (derivationOf d) (readFirst (namesOf d) (kindsOf d) []) (firstAnswer (namesOf d) (kindsOf d))) before after at r
+      → LineTold (readAsFirst k [] d) before after at r
       → Tells before after at (r .end) (endText k (derivationOf d))
   unfolding derivationOf endText answerLine
   end-missing e r t =

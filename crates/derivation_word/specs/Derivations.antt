@@ -9,6 +9,8 @@ use Rattle.specification.specs.Rules as R
 use Rattle.specification.specs.Text.{Placed, refusedAt, placed}
 use Rattle.specification.specs.Commands.{unopened, underway}
 use Rattle.specification.specs.Commands as C
+use Rattle.specification.specs.OpenLogs.{addTo}
+use Rattle.specification.specs.Logs.{writeStep}
 use Rattle.theory.specs.Text.Derivations.{Going}
 use Rattle.terms.specs.declared.types.Form.{Form}
 use Rattle.terms.specs.Abstraction.{formOf}
@@ -48,6 +50,16 @@ pub record DerivationValid (d : Derivation) : Type 0 where
   pub kinds : length (d .state .table) ≡ 24
   pub going : Going (derivationOf d)
   pub whole : d .begun ≡ true → Whole d
+
+-- what the line k leaves, and what is told for it: read as the first form,
+abbrev pub readAsFirst : (k : ℕ) (line : List ℕ) → Derivation → C.Derivation × List ℕ
+readAsFirst k line d = C.lineRead k line (derivationOf d) (C.readFirst (namesOf d) (kindsOf d) line) (C.firstAnswer (namesOf d) (kindsOf d))
+
+-- and read as a step
+abbrev pub readAsStep : (k : ℕ) (line : List ℕ) → Derivation → C.Derivation × List ℕ
+readAsStep k line d =
+    C.lineRead k line (derivationOf d) (C.readOneStep (namesOf d) (kindsOf d) line)
+    (λ step. C.stepAnswer (namesOf d) (formOf (d .first)) (stateOf (d .state)) (stepsOf (d .steps)) step (addTo (stateOf (d .state)) (writeStep step)))
 
 -- what a line leaves and what is told for it
 pub record LineTold (x : C.Derivation × List ℕ) (before after : List ℕ) (at : ℕ) (r : Answered) : Type 0 where

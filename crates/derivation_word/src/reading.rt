@@ -2,18 +2,15 @@
 ghost use mathlib.Core.Path.{_≡_};
 ghost use mathlib.Core.Bool.{true, false};
 ghost use Prim.Native.Nat.{_<_};
-ghost use Rattle.specification.specs.OpenLogs.{addTo};
 ghost use Rattle.specification.specs.Logs.{writeStep};
 ghost use Rattle.specification.specs.Lines.{declared};
-ghost use Rattle.specification.specs.Commands.{lineRead, namesAnswer, readFirst, firstAnswer, readOneStep, stepAnswer};
-ghost use Rattle.terms.specs.Abstraction.{formOf};
+ghost use Rattle.specification.specs.Commands.{lineRead, namesAnswer, readFirst, readOneStep};
 ghost use Rattle.rules.specs.Steps.{stepOf, StepValid};
-ghost use Rattle.logs.specs.Steps.{stepsOf};
 ghost use Rattle.formulas.specs.Readings.{Named};
 ghost use Rattle.formula_call.specs.Texts.{TextGives};
 ghost use Rattle.open_log.specs.States.{stateOf, StateValid};
 ghost use Rattle.open_log.specs.Added.{AddedAs};
-ghost use Rattle.derivation_word.specs.Derivations.{namesOf, kindsOf, derivationOf, DerivationValid, LineTold, StepTyped, StepAdded};
+ghost use Rattle.derivation_word.specs.Derivations.{namesOf, kindsOf, derivationOf, DerivationValid, readAsFirst, readAsStep, LineTold, StepTyped, StepAdded};
 use declarations::declare;
 use formula_call::TextForm;
 use log_telling::tell_form;
@@ -103,7 +100,7 @@ fn read_first(names: &[u8], table: &[u8], line: &[u8]) -> TextForm
 // The first form, which opens the log.
 pub fn first_line(d: Derivation, k: usize, line: &[u8], out: &mut [u8], at: usize) -> Answered
     requires { ⌜ DerivationValid d × (d .begun ≡ false) ⌝ }
-    ensures { λ r. ⌜ LineTold (lineRead k (now (line .entry)) (derivationOf d) (readFirst (namesOf d) (kindsOf d) (now (line .entry))) (firstAnswer (namesOf d) (kindsOf d))) (now (out .entry)) (now (out .exit)) at r ⌝ }
+    ensures { λ r. ⌜ LineTold (readAsFirst k (now (line .entry)) d) (now (out .entry)) (now (out .exit)) at r ⌝ }
 {
     let names = d.names;
     let before = d.state;
@@ -193,7 +190,7 @@ fn stepped(d: Derivation, step: Step, f: Form) -> Derivation
 // A step, added to the log that is open; a refused one leaves it as before.
 pub fn step_line(d: Derivation, k: usize, line: &[u8], out: &mut [u8], at: usize) -> Answered
     requires { ⌜ DerivationValid d × (d .begun ≡ true) ⌝ }
-    ensures { λ r. ⌜ LineTold (lineRead k (now (line .entry)) (derivationOf d) (readOneStep (namesOf d) (kindsOf d) (now (line .entry))) (λ step. stepAnswer (namesOf d) (formOf (d .first)) (stateOf (d .state)) (stepsOf (d .steps)) step (addTo (stateOf (d .state)) (writeStep step)))) (now (out .entry)) (now (out .exit)) at r ⌝ }
+    ensures { λ r. ⌜ LineTold (readAsStep k (now (line .entry)) d) (now (out .entry)) (now (out .exit)) at r ⌝ }
 {
     let names = d.names;
     let before = d.state;

@@ -10,7 +10,8 @@ use Rattle.specification.specs.Letters.{testTable}
 use Rattle.specification.specs.Records.{formBytes, answerForm, takeForm}
 use Rattle.specification.specs.Logs.{sameForm}
 use Rattle.specification.specs.Decision.{DecidedBy, Decided}
-use Rattle.specification.specs.OpenLogs.{stateBytes, stateTable, readState, decideOpenTested, DecidedOpen, answerState, openTested, openCall, addTo, addTested, addCall, lookTested, lookCall, closeAt, closeCall}
+use Rattle.specification.specs.OpenLogs.{stateBytes, stateTable, readState, decideOpenTested, DecidedOpen}
+use Rattle.specification.specs.OpenLogs.{answerState, openTested, openCall, addTo, addTested, addCall, lookTested, lookCall, closeAt, closeCall}
 use Rattle.specification.specs.OpenLogs as O
 use Rattle.theory.specs.Shape.Letters.{good-short, table-good}
 use Rattle.terms.specs.Abstraction.{formOf}

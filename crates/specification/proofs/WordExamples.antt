@@ -10,7 +10,8 @@ use Rattle.specification.specs.Evaluation.{signedByte, sixOrLess, restIs
 use Rattle.specification.specs.Commands.{numeral, signedNumeral, reason, blanks, refusalText, stepReason, countText, checkedText, answerText, packInput}
 use Rattle.specification.specs.Commands.{valueText, valueInput, paired, readSides, assignmentText, decisionText, readOneLine, testedLog, testedText, unpackedText, unpackLog, unpackInput}
 use Rattle.specification.specs.Lines.{inFront, linesOf}
-use Rattle.specification.specs.Commands.{underway, lineRead, namesAnswer, readFirst, firstAnswer, readOneStep, stepRefused, stepAnswer, answerLine, passLine, answerLines, endText, derivationInput}
+use Rattle.specification.specs.Commands.{underway, lineRead, namesAnswer, readFirst, firstAnswer, readOneStep, stepRefused, stepAnswer}
+use Rattle.specification.specs.Commands.{answerLine, passLine, answerLines, endText, derivationInput}
 use Rattle.specification.specs.AssignmentTexts.{readComponent, readValue, putThree, noneYet, readAssigned}
 use Rattle.specification.proofs.Computing.{computing}
 use Rattle.specification.proofs.TextExamples.{computingText}

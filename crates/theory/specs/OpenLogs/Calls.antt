@@ -12,7 +12,8 @@ use Rattle.specification.specs.Terms.{Form}
 use Rattle.specification.specs.Records.{writeForm, writeInto, takeForm}
 use Rattle.specification.specs.Rules.{Step, stepAt}
 use Rattle.specification.specs.Logs.{writeStep, readStepAt}
-use Rattle.specification.specs.OpenLogs.{stateBytes, State, writeState, readState, answerState, openTested, openCall, readStep, stepFrom, addTo, addTested, addCall, closeCall, Call, adding, looking, deciding, closing, OpenLog, opened, added, closed, run}
+use Rattle.specification.specs.OpenLogs.{stateBytes, State, writeState, readState, answerState, openTested, openCall, readStep, stepFrom, addTo, addTested, addCall}
+use Rattle.specification.specs.OpenLogs.{closeCall, Call, adding, looking, deciding, closing, OpenLog, opened, added, closed, run}
 use Rattle.theory.specs.Tests.{refused≢given, given-same, past, into, tested}
 use Rattle.theory.specs.Elements.{All, all-append}
 use Rattle.theory.specs.Shape.Letters.{table-good}

@@ -70,7 +70,9 @@ module _ (table form : List ℕ) (log : OpenLog) (r : IsReplay table form log) w
   accepted-closing last bs a b n e =
       let w = accepted-derives table (wholeLog form (log .steps) last) a b n (whole-bytes last bs) e in
       let d = w .derives in
-      let p = log-one-split (r .first) (r .steps) last (w .first) (w .steps) (w .last) (r .derives .inShape .firstForm) (r .derives .inShape .stepCount) (r .derives .inShape .everyStep) (d .inShape) (whole-written last ∙ w .isWritten) in
+      let shape = r .derives .inShape in
+      let p = log-one-split (r .first) (r .steps) last (w .first) (w .steps) (w .last) (shape .firstForm) (shape .stepCount) (shape .everyStep) (d .inShape)
+      (whole-written last ∙ w .isWritten) in
       let q : r .reached ≡ w .last = given-same (sym (r .derives .reaches) ∙ (λ i. takeSteps (p .sameFirst i) (p .sameSteps i)) ∙ d .reaches) in
       let t : takeForm table last ≡ given (w .last) = ap (takeForm table) (p .follows) ∙ form-taken table (w .last) (d .inShape .lastForm) (d .lastTested) in
       simp (t, q, sameForm-same (w .last))
