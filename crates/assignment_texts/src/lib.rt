@@ -16,7 +16,7 @@ use log_texts::naming::read_mark;
 use texts::{behind, byte_at, is_letter, past_blanks, place_of};
 
 // A name that has no numbers yet, its letter and the position behind it; or a refusal with its column.
-#[derive(Drop)]
+#[derive(Clone, Copy)]
 pub struct Name {
     pub refusal: u8,
     pub column: usize,
@@ -62,7 +62,7 @@ fn read_name(names: &[u8], line: &[u8], at: usize, so: &[u8]) -> Name
 }
 
 // The position behind a value whose numbers are put; or a refusal with its column.
-#[derive(Drop)]
+#[derive(Clone, Copy)]
 pub struct Behind {
     pub refusal: u8,
     pub column: usize,
@@ -108,7 +108,7 @@ fn one_assigned(names: &[u8], table: &[u8], line: &[u8], at: usize, so: &mut [u8
 }
 
 // An assignment by names: a refusal with its column, or the numbers of all letters in the bytes lent, three to a letter.
-#[derive(Drop)]
+#[derive(Clone, Copy)]
 pub struct Assigned {
     pub refusal: u8,
     pub column: usize,

@@ -33,7 +33,7 @@ fn signed_byte(minus: bool, size: u8) -> u8
 }
 
 // A component as its signed byte, and the position behind it; or a refusal with its column.
-#[derive(Drop)]
+#[derive(Clone, Copy)]
 pub struct Component {
     pub refusal: u8,
     pub column: usize,
@@ -92,7 +92,7 @@ fn read_led(b: u8, line: &[u8], at: usize) -> Component
 }
 
 // Three numbers as signed bytes, and the position behind them; or a refusal with its column.
-#[derive(Drop)]
+#[derive(Clone, Copy)]
 pub struct Numbers {
     pub refusal: u8,
     pub column: usize,

@@ -10,7 +10,7 @@ use shortening::{Shortening, shorten};
 
 // What the audit says: the log's length and its steps, where shortening, the checker and the decision agree; or refused with its number.
 // That they do not agree never comes: the contract says so.
-#[derive(Drop)]
+#[derive(Clone, Copy)]
 pub enum Verdict {
     Agreed(usize, usize),
     Refused(u8),

@@ -18,14 +18,14 @@ use terms::shape::part_letters;
 use terms::types::{Part, Term};
 
 // A step worth a trial, if there is one.
-#[derive(Drop)]
+#[derive(Clone, Copy)]
 pub struct Trial {
     pub found: bool,
     pub step: Step,
 }
 
 // A step worth a trial, if there is one, and the place behind it.
-#[derive(Drop)]
+#[derive(Clone, Copy)]
 pub struct Next {
     pub found: bool,
     pub next: usize,

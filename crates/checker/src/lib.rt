@@ -9,7 +9,7 @@ use logs::steps::test_steps;
 use replaying::replay;
 
 // The checker's answer: accepted, with where the first form ends, where the last begins and the number of steps; or refused with number and step.
-#[derive(Drop)]
+#[derive(Clone, Copy)]
 pub enum Checked {
     Accepted(usize, usize, usize),
     Refused(u8, u8),

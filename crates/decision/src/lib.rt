@@ -16,7 +16,7 @@ pub const BUFFER_BYTES: usize = 72;
 pub const WORK_BYTES: usize = 55296;
 
 // What the decision says.
-#[derive(Drop)]
+#[derive(Clone, Copy)]
 pub enum Decision {
     Holds,
     Differs,

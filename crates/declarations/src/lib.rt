@@ -9,7 +9,7 @@ use lines::words::is_word_at;
 use texts::{behind, byte_at, is_letter, past_blanks, place_of};
 
 // A name or a word read: a refusal with its column, or the position behind, the kind of further names, and how many there are.
-#[derive(Drop)]
+#[derive(Clone, Copy)]
 pub struct NameStep {
     pub refusal: u8,
     pub column: usize,
@@ -98,7 +98,7 @@ fn one_name(
 }
 
 // The names of a line behind those declared: a refusal with its column, or how many there are.
-#[derive(Drop)]
+#[derive(Clone, Copy)]
 pub struct Names {
     pub refusal: u8,
     pub column: usize,
@@ -168,7 +168,7 @@ fn declare_at(s: &[u8], p: Place, names: &mut [u8], table: &mut [u8], count: usi
 }
 
 // The names of a text: a refusal with its column and the place of its line, or how many there are, and where the other lines begin.
-#[derive(Drop)]
+#[derive(Clone, Copy)]
 pub struct Header {
     pub refusal: u8,
     pub column: usize,

@@ -27,7 +27,7 @@ use texts::past_blanks;
 use verdicts::tell_step_refusal;
 
 // A derivation: its names, and the table of their kinds in the state; where it is open, the state of its log, the first form and the steps taken.
-#[derive(Drop)]
+#[derive(Clone, Copy)]
 pub struct Derivation {
     pub begun: bool,
     pub names: [u8; 24],
@@ -37,7 +37,7 @@ pub struct Derivation {
 }
 
 // What a line leaves, and the position behind what is told for it.
-#[derive(Drop)]
+#[derive(Clone, Copy)]
 pub struct Answered {
     pub derivation: Derivation,
     pub end: usize,

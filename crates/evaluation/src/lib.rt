@@ -14,7 +14,7 @@ use forms::read_form;
 use letters::check_table;
 
 // What the value call gives.
-#[derive(Drop)]
+#[derive(Clone, Copy)]
 pub enum Valued {
     Given(Vector),
     Refused(u8),

@@ -7,7 +7,7 @@ ghost use Rattle.evaluation.specs.Vectors.{vec_of, Within};
 use integers::{add, mul, sub};
 
 // Three components.
-#[derive(Drop)]
+#[derive(Clone, Copy)]
 pub struct Vector {
     pub x: i64,
     pub y: i64,

@@ -14,7 +14,7 @@ use sums::adding::{difference, negate, sum};
 use sums::results::refuse;
 
 // A tree: what reading refused, the position behind it, and what working gave.
-#[derive(Drop)]
+#[derive(Clone, Copy)]
 pub struct Tree {
     pub unread: u8,
     pub next: usize,

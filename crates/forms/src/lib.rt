@@ -19,7 +19,7 @@ use terms::types::{Form, Outcome, Term};
 pub const FORM_BYTES: usize = 770;
 
 // A form under way: whether nothing was refused, the position behind what was read, and what was read.
-#[derive(Drop)]
+#[derive(Clone, Copy)]
 pub struct FormReading {
     pub ok: bool,
     pub next: usize,
@@ -27,7 +27,7 @@ pub struct FormReading {
 }
 
 // Two forms taken together, or the number of the refusal where it is not 0.
-#[derive(Drop)]
+#[derive(Clone, Copy)]
 pub struct Both {
     pub refusal: u8,
     pub first: Form,

@@ -14,14 +14,14 @@ use terms::types::{Form, Outcome};
 use texts::good_names;
 
 // A call's answer: the length of the record written, or the number of the refusal.
-#[derive(Drop)]
+#[derive(Clone, Copy)]
 pub enum FormulaRead {
     Written(usize),
     Refused(u8),
 }
 
 // The form of a text, or the number of the refusal and its column: the number is 0 where there is none. The form beside a refusal means nothing.
-#[derive(Drop)]
+#[derive(Clone, Copy)]
 pub struct TextForm {
     pub refusal: u8,
     pub column: usize,

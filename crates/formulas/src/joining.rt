@@ -14,7 +14,7 @@ use sums::results::refuse;
 use texts::{behind, byte_at, is_letter, past_blanks, place_of, read_digits};
 
 // What was read: reading's refusal or 0, the column of a refusal, the position behind, and what working gave.
-#[derive(Drop)]
+#[derive(Clone, Copy)]
 pub struct Reading {
     pub unread: u8,
     pub column: usize,

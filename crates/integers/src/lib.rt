@@ -94,7 +94,7 @@ pub fn within(a: i64) -> bool
 }
 
 // What a division gives: whether it leaves no rest, and the quotient.
-#[derive(Drop)]
+#[derive(Clone, Copy)]
 pub struct Quotient {
     pub exact: bool,
     pub value: i64,

@@ -10,7 +10,7 @@ use libc::STDOUT_FILENO;
 use lines::places::line_end;
 
 // How far an input is answered: what the lines up to a position leave, and the number of the line that begins there.
-#[derive(Drop)]
+#[derive(Clone, Copy)]
 pub struct Progress {
     pub derivation: Derivation,
     pub line: usize,

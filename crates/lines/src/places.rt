@@ -4,7 +4,7 @@ ghost use Rattle.specification.specs.Lines.{line_of, next_line, is_empty_line, t
 ghost use Rattle.lines.specs.Places.{place_of, Inside, LineEnd, Reached};
 
 // A line's number, and the position at which it begins.
-#[derive(Drop)]
+#[derive(Clone, Copy)]
 pub struct Place {
     pub number: usize,
     pub at: usize,

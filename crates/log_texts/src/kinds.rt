@@ -93,7 +93,7 @@ pub fn read_form_line(names: &[u8], table: &[u8], line: &[u8]) -> TextForm
 }
 
 // The term M of a step, or a refusal with its column: the term beside it means nothing.
-#[derive(Drop)]
+#[derive(Clone, Copy)]
 pub struct Multiplier {
     pub refusal: u8,
     pub column: usize,

@@ -6,7 +6,7 @@ ghost use Rattle.log_texts.specs.Letters.{MarkRead, FormulaAt, LetterRead, Lette
 use texts::{behind, byte_at, is_letter, place_of};
 
 // A byte that stood, and the position behind it; or a refusal with its column.
-#[derive(Drop)]
+#[derive(Clone, Copy)]
 pub struct Mark {
     pub refusal: u8,
     pub column: usize,
@@ -49,7 +49,7 @@ pub fn to_formula(line: &[u8], at: usize) -> Mark
 }
 
 // A name and its number, and the position behind it; or a refusal with its column.
-#[derive(Drop)]
+#[derive(Clone, Copy)]
 pub struct LetterStep {
     pub refusal: u8,
     pub column: usize,
@@ -90,7 +90,7 @@ fn one_letter(names: &[u8], line: &[u8], at: usize) -> LetterStep
 }
 
 // Letters and the position behind them; or a refusal with its column.
-#[derive(Drop)]
+#[derive(Clone, Copy)]
 pub struct Letters {
     pub refusal: u8,
     pub column: usize,

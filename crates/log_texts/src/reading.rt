@@ -58,7 +58,7 @@ fn stands_step(s: &[u8], p: Place) -> bool
 }
 
 // Steps, and the place of the line behind them; or a refusal with its column and the place of its line.
-#[derive(Drop)]
+#[derive(Clone, Copy)]
 pub struct StepLines {
     pub refusal: u8,
     pub column: usize,
@@ -115,7 +115,7 @@ fn read_step_lines(s: &[u8], p: Place, names: &[u8], table: &[u8]) -> StepLines
 }
 
 // A log: how many names it declares, its forms and its steps. Or a refusal with its column and the place of its line: the rest beside it means nothing.
-#[derive(Drop)]
+#[derive(Clone, Copy)]
 pub struct LogText {
     pub refusal: u8,
     pub column: usize,

@@ -10,7 +10,7 @@ use rules::steps::{Step, rule_letters};
 use texts::{behind, byte_at, past_blanks};
 
 // The number of a rule, and the position behind its colon; or a refusal with its column.
-#[derive(Drop)]
+#[derive(Clone, Copy)]
 pub struct Rule {
     pub refusal: u8,
     pub column: usize,
@@ -57,7 +57,7 @@ fn read_rule(line: &[u8]) -> Rule
 }
 
 // A step, or a refusal with its column: the step beside it means nothing.
-#[derive(Drop)]
+#[derive(Clone, Copy)]
 pub struct StepLine {
     pub refusal: u8,
     pub column: usize,

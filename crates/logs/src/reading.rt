@@ -12,7 +12,7 @@ use rules::steps::{Step, rule_letters};
 use terms::types::Form;
 
 // A step under way: whether nothing was refused, the position behind it, and the step.
-#[derive(Drop)]
+#[derive(Clone, Copy)]
 pub struct StepReading {
     pub ok: bool,
     pub next: usize,
@@ -20,7 +20,7 @@ pub struct StepReading {
 }
 
 // Steps under way: whether nothing was refused, the position behind them, and the steps.
-#[derive(Drop)]
+#[derive(Clone, Copy)]
 pub struct StepsReading {
     pub ok: bool,
     pub next: usize,
@@ -28,7 +28,7 @@ pub struct StepsReading {
 }
 
 // A log that was read: whether nothing was refused, its forms with where the first ends and the last begins, and its steps.
-#[derive(Drop)]
+#[derive(Clone, Copy)]
 pub struct LogReading {
     pub ok: bool,
     pub first_end: usize,

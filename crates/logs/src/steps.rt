@@ -8,14 +8,14 @@ use rules::steps::Step;
 use terms::build::no_term;
 
 // The steps of a log.
-#[derive(Drop)]
+#[derive(Clone, Copy)]
 pub struct Steps {
     pub count: usize,
     pub steps: [Step; 64],
 }
 
 // A refusal and its step, or 0.
-#[derive(Drop)]
+#[derive(Clone, Copy)]
 pub struct Refusal {
     pub number: u8,
     pub step: u8,

@@ -21,7 +21,7 @@ use terms::order::{compare, is_equal};
 use terms::types::Term;
 
 // The marks of a step: those of M's factors and of its vector part, and those of the rule's letters at their places.
-#[derive(Drop)]
+#[derive(Clone, Copy)]
 pub struct StepMarks {
     pub factors: u64,
     pub part: u64,

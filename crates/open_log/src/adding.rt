@@ -15,21 +15,21 @@ use rules::steps::Step;
 use terms::types::{Form, Outcome};
 
 // The answer to a step: taken, or refused with its number.
-#[derive(Drop)]
+#[derive(Clone, Copy)]
 pub enum Answer {
     Taken,
     Refused(u8),
 }
 
 // The answer to a step, and the form that it reaches; the form before it where it is refused.
-#[derive(Drop)]
+#[derive(Clone, Copy)]
 pub struct Reached {
     pub answer: Answer,
     pub form: Form,
 }
 
 // The answer to a step, and the state afterwards.
-#[derive(Drop)]
+#[derive(Clone, Copy)]
 pub struct Added {
     pub answer: Answer,
     pub state: State,

@@ -16,14 +16,14 @@ pub mod closing;
 pub mod state;
 
 // A call's answer: how many bytes were written, or the number of the refusal.
-#[derive(Drop)]
+#[derive(Clone, Copy)]
 pub enum Answered {
     Written(usize),
     Refused(u8),
 }
 
 // The answer to a closing: accepted, or the number of the refusal.
-#[derive(Drop)]
+#[derive(Clone, Copy)]
 pub enum Closed {
     Accepted,
     Refused(u8),

@@ -14,7 +14,7 @@ use terms::types::Form;
 pub const STATE_BYTES: usize = 796;
 
 // The state of an open log: the table with its length, the number of steps taken, and the form reached.
-#[derive(Drop)]
+#[derive(Clone, Copy)]
 pub struct State {
     pub letters: usize,
     pub table: [u8; 24],
@@ -23,7 +23,7 @@ pub struct State {
 }
 
 // A state read, where nothing was refused.
-#[derive(Drop)]
+#[derive(Clone, Copy)]
 pub struct StateReading {
     pub ok: bool,
     pub state: State,

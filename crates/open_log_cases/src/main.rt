@@ -14,7 +14,7 @@ use decision::Decision;
 use open_log::{Answered, Closed, add, close, decide_open, look, open};
 
 // Where the next call begins, and how many bytes the state at hand has.
-#[derive(Drop)]
+#[derive(Clone, Copy)]
 struct Place {
     at: usize,
     size: usize,

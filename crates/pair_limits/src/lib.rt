@@ -17,7 +17,7 @@ use terms::shape::{letters_used, part_letters};
 use terms::types::Term;
 
 // The most vector letters and scalar letters that a term has, and the largest size of a coefficient.
-#[derive(Drop)]
+#[derive(Clone, Copy)]
 pub struct Most {
     pub vectors: usize,
     pub scalars: usize,
@@ -25,7 +25,7 @@ pub struct Most {
 }
 
 // Whether the letters of terms and their coefficients are within the limits.
-#[derive(Drop)]
+#[derive(Clone, Copy)]
 pub struct Fit {
     pub letters: bool,
     pub coefs: bool,

@@ -12,7 +12,7 @@ use terms::types::{Part, Term};
 use tidying::join_parts;
 
 // The operation of a product.
-#[derive(Drop)]
+#[derive(Clone, Copy)]
 pub enum Operation {
     Times,
     Dot,
@@ -20,7 +20,7 @@ pub enum Operation {
 }
 
 // At most two terms.
-#[derive(Drop)]
+#[derive(Clone, Copy)]
 pub struct Few {
     pub count: usize,
     pub first: Term,

@@ -15,7 +15,7 @@ use terms::shape::in_shape;
 use terms::types::{Part, Term};
 
 // M with the coefficient 1, and the letters left to the rule in ascending order, if such a step can pass.
-#[derive(Drop)]
+#[derive(Clone, Copy)]
 pub struct Opening {
     pub fits: bool,
     pub m: Term,
@@ -23,7 +23,7 @@ pub struct Opening {
 }
 
 // The letters of a rule in their order, if the mask takes a block.
-#[derive(Drop)]
+#[derive(Clone, Copy)]
 pub struct Picked {
     pub fits: bool,
     pub letters: [u8; 6],

@@ -12,7 +12,7 @@ use terms::factors::{Factor, letters_of};
 use terms::types::{Part, Term};
 
 // A product of three variables by their digits, 0 for none, with a sign.
-#[derive(Drop)]
+#[derive(Clone, Copy)]
 pub struct Piece {
     pub a: u64,
     pub b: u64,
@@ -21,7 +21,7 @@ pub struct Piece {
 }
 
 // A polynomial that a term is a product of: nothing, 1, a component of a letter, a dot, a triple, a component of a wedge.
-#[derive(Drop)]
+#[derive(Clone, Copy)]
 pub enum Block {
     Zero,
     One,

@@ -10,7 +10,7 @@ use crate::variables::{cut_off, lowest_digit, power};
 use integers::{add, is_zero, mul};
 
 // A summand out of memory.
-#[derive(Drop)]
+#[derive(Clone, Copy)]
 struct Loaded {
     key: u64,
     coef: i64,

@@ -3,7 +3,7 @@ ghost use Rattle.std.specs.Prelude.{◌≡◌, ◌^◌, ◌≤◌, ◌<◌, pos}
 ghost use Rattle.polynomials.specs.Keys.{times_digit, rest, exponent, lowest};
 
 // A key without the lowest variable, and how often it stood there.
-#[derive(Drop)]
+#[derive(Clone, Copy)]
 pub struct Cut {
     pub rest: u64,
     pub exponent: u64,

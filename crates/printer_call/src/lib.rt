@@ -9,7 +9,7 @@ use printing::{ALPHABET, LINE_BYTES, print_line, print_refusal};
 use reduction::form_of;
 
 // What a call that prints says: printed, with the length of the text, or refused with its number.
-#[derive(Drop)]
+#[derive(Clone, Copy)]
 pub enum Printing {
     Printed(usize),
     Refused(u8),

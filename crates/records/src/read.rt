@@ -14,7 +14,7 @@ use terms::shape::in_shape;
 use terms::types::{Part, Term};
 
 // A term under way: whether nothing was refused, the position behind what was read, and what was read.
-#[derive(Drop)]
+#[derive(Clone, Copy)]
 pub struct TermReading {
     pub ok: bool,
     pub next: usize,
@@ -22,7 +22,7 @@ pub struct TermReading {
 }
 
 // The fields of a term under way, its factors beside them: whether nothing was refused, the position behind what was read, the coefficient and the count of factors.
-#[derive(Drop)]
+#[derive(Clone, Copy)]
 pub struct Fields {
     pub ok: bool,
     pub next: usize,

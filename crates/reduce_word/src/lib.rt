@@ -29,7 +29,7 @@ fn tell_form(names: &[u8], out: &mut [u8], at: usize, f: Form) -> usize
 }
 
 // Lines told: a refusal with its column and the place of its line, or the position behind what was told.
-#[derive(Drop)]
+#[derive(Clone, Copy)]
 pub struct Lines {
     pub refusal: u8,
     pub column: usize,

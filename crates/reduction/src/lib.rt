@@ -12,7 +12,7 @@ use terms::build::refuse;
 use terms::types::Outcome;
 
 // A call's answer: the length of the record written, or the number of the refusal.
-#[derive(Drop)]
+#[derive(Clone, Copy)]
 pub enum Reduced {
     Written(usize),
     Refused(u8),

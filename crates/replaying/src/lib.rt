@@ -16,7 +16,7 @@ use terms::order::is_equal;
 use terms::types::{Form, Term};
 
 // How many rows the form reached has, or a refusal and its step.
-#[derive(Drop)]
+#[derive(Clone, Copy)]
 pub struct Reached {
     pub number: u8,
     pub step: u8,
@@ -24,7 +24,7 @@ pub struct Reached {
 }
 
 // Whether the form reached is the last, or a refusal and its step.
-#[derive(Drop)]
+#[derive(Clone, Copy)]
 pub struct Replayed {
     pub number: u8,
     pub step: u8,

@@ -11,7 +11,7 @@ use terms::order::Order;
 use terms::types::{Form, Outcome, Term};
 
 // What working gave in lent rows: the number of a refusal, or where it is 0 the kind of the form and how many rows it has.
-#[derive(Drop)]
+#[derive(Clone, Copy)]
 pub struct Worked {
     pub refusal: u8,
     pub kind: u8,

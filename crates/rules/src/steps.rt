@@ -19,7 +19,7 @@ use terms::shape::{letters_used, part_letters};
 use terms::types::{Part, Term};
 
 // A step: the rule's number, its letters in their order, and the term M. A rule with fewer letters uses the first ones.
-#[derive(Drop)]
+#[derive(Clone, Copy)]
 pub struct Step {
     pub rule: u8,
     pub letters: [u8; 6],

@@ -15,7 +15,7 @@ use rules::admissible::step_at;
 use rules::steps::Step;
 
 // A step to fewer terms, if there is one, how many it reaches, and the place among those behind the term that was taken away.
-#[derive(Drop)]
+#[derive(Clone, Copy)]
 pub struct Found {
     pub found: bool,
     pub behind: usize,

@@ -14,7 +14,7 @@ use logs::writing::write_log;
 pub const SHORTENING_BYTES: usize = 2309;
 
 // What shortening says: written, with the log's length and its steps, or refused with its number.
-#[derive(Drop)]
+#[derive(Clone, Copy)]
 pub enum Shortening {
     Written(usize, usize),
     Refused(u8),

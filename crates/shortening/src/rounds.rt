@@ -13,14 +13,14 @@ use searching::searching::search;
 use terms::types::Form;
 
 // Steps from a form to the last one.
-#[derive(Drop)]
+#[derive(Clone, Copy)]
 pub struct Derivation {
     pub steps: Steps,
     pub last: Form,
 }
 
 // Steps in their order, and how many terms the form has that they reach.
-#[derive(Drop)]
+#[derive(Clone, Copy)]
 pub struct Rounds {
     pub count: usize,
     pub steps: Steps,

@@ -14,7 +14,7 @@ use terms::types::Form;
 use texts::place_of;
 
 // The forms of the two sides, or a refusal with its column: the forms beside it mean nothing.
-#[derive(Drop)]
+#[derive(Clone, Copy)]
 pub struct Sides {
     pub refusal: u8,
     pub column: usize,

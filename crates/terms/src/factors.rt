@@ -14,7 +14,7 @@ const DOTS: u32 = 256;
 const TRIPLES: u32 = 65792;
 
 // A factor by its letters: a scalar letter, a dot of two, a triple of three.
-#[derive(Drop)]
+#[derive(Clone, Copy)]
 pub enum Factor {
     Scalar(u8),
     Dot(u8, u8),

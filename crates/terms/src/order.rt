@@ -9,7 +9,7 @@ use crate::factors::part_number;
 use crate::types::Term;
 
 // What a comparison finds.
-#[derive(Drop)]
+#[derive(Clone, Copy)]
 pub enum Order {
     Less,
     Equal,

@@ -11,7 +11,7 @@ use crate::types::Part;
 use integers::{is_zero, within};
 
 // How many letters factors use.
-#[derive(Drop)]
+#[derive(Clone, Copy)]
 pub struct Used {
     pub vectors: usize,
     pub scalars: usize,

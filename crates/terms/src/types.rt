@@ -1,7 +1,7 @@
 // The data of terms and forms.
 
 // A vector part: nothing, one letter, or a wedge of two.
-#[derive(Drop)]
+#[derive(Clone, Copy)]
 pub enum Part {
     Nothing,
     Letter(u8),
@@ -10,7 +10,7 @@ pub enum Part {
 
 // A term: a coefficient, the numbers of its factors with their count, and a vector part.
 // A record can name 2 + 3 + 2 factors before its letters are counted; a term in shape has at most 5.
-#[derive(Drop)]
+#[derive(Clone, Copy)]
 pub struct Term {
     pub coef: i64,
     pub factors: [u32; 7],
@@ -19,7 +19,7 @@ pub struct Term {
 }
 
 // A form: a kind (0 scalar, 1 vector) and 0 to 48 terms.
-#[derive(Drop)]
+#[derive(Clone, Copy)]
 pub struct Form {
     pub kind: u8,
     pub count: usize,
@@ -27,7 +27,7 @@ pub struct Form {
 }
 
 // A form, or the number of the refusal: 0 where there is none. The form beside a refusal means nothing.
-#[derive(Drop)]
+#[derive(Clone, Copy)]
 pub struct Outcome {
     pub refusal: u8,
     pub form: Form,

@@ -148,7 +148,7 @@ fn cap(n: u64) -> u64
 }
 
 // A number in decimal, capped, and the position behind it.
-#[derive(Drop)]
+#[derive(Clone, Copy)]
 pub struct Number {
     pub value: u64,
     pub next: usize,

@@ -176,7 +176,8 @@ module _ (table form : List ℕ) where
   pub run-replay : (log : OpenLog) (calls : List Call) → All BytesGiven calls → IsReplay table form log → IsReplay table form (run log calls)
   unfolding run
   run-replay log [] bs r = r
-  run-replay log (adding step memory ∷ cs) bs r = run-replay _ cs bs.1 (add-replay log step memory bs.0 r)
+  run-replay log (adding step memory ∷ cs) bs r =
+      run-replay (added log step (add_call log.state step memory).0 (add_call log.state step memory).1) cs bs.1 (add-replay log step memory bs.0 r)
   run-replay log (looking out ∷ cs) bs r = run-replay log cs bs.1 r
   run-replay log (deciding other buffer work ∷ cs) bs r = run-replay log cs bs.1 r
   run-replay log (closing last ∷ cs) bs r = close-replay (close_call log.state last) log (run log cs) r (run-replay log cs bs.1 r)
