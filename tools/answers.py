@@ -27,6 +27,20 @@ def write(path, text):
         f.write(text)
 
 
+def lent_of():
+    """Of each function in src/ the parameters that are references."""
+    found = {}
+    for folder, _, files in os.walk("crates"):
+        at = re.match(r"crates/(\w+)/src((?:/\w+)*)$", folder)
+        for it in files if at else []:
+            if not it.endswith(".rt"):
+                continue
+            mods = [at[1], *at[2].strip("/").split("/"), *([] if it in ("lib.rt", "main.rt") else [it[:-3]])]
+            for name, params in re.findall(r"fn (\w+)\(([^)]*)\)", read(os.path.join(folder, it))):
+                found["::".join([*filter(None, mods), name])] = re.findall(r"(\w+): &", params)
+    return found
+
+
 class Function:
     def __init__(self, crate, path, of):
         self.crate, self.path, self.of = crate, path, of
@@ -38,24 +52,33 @@ class Function:
         self.places = {}
         for it, name in zip(of["places"], of["places_by_name"]):
             self.places.setdefault(dash(it[0]), name)
+        self.parent = {dash(it[0]): it[1] and dash(it[1]) for it in of["places"]}
+        self.at = {new: dash(where[0]) for (old, new), where in zip(self.needs, of["asked_at"])}
+        self.used = set()
         # an old step, by the place that it leads to, as its new one
         self.steps = {}
         for it in of["places"]:
             old, new = it[2]
             if old:
                 self.steps.setdefault(dash(old), []).append(new)
-        self.arms, self.typed = {}, {}
+        self.arms = {}
         for arm in of["arms"]:
             for label, step, rest in arm[2] if arm else []:
                 if label.endswith("-own"):
                     continue
                 self.arms[(dash(step), *rest)] = f"{arm[0]}.{label}"
-        for each in of["typed"]:
-            for var, step in each:
-                self.typed[dash(step)] = var
         self.loops = {}
         for (loop, variables), changed in zip(of["loops"], of["changed"]):
             self.loops[dash(loop[0])] = (loop[1], variables, changed)
+        self.fields = (of["pre"] or {}).get("fields", [])
+        self.asked = {self.goal[norm(old)]: fields for old, fields in of["asked"].items() if norm(old) in self.goal}
+        # the steps whose fact a place has under type_inv, and a step's fields that go by another name today
+        self.typed = {dash(it[0]): {dash(step): var for var, step in each} for it, each in zip(of["places"], of["typed"])}
+        self.within = {}
+        self.callees = {it[2][1]: it[3] for it in of["places"] if it[3]}
+        for it in of["places"]:
+            if it[4]:
+                self.within.setdefault(it[2][1], {}).update(it[4])
         self.args = [(a.replace(" .", "."), b.replace(" .", ".")) for a, b in of["args"]]
 
 
@@ -80,7 +103,7 @@ def substitute(text, names):
     )
 
 
-def path_turned(path, function, places):
+def path_turned(path, function, places, typed={}):
     """A path c.before.before.step.field as it is written today."""
     parts = path.split(".")
     if parts[0] not in places or len(parts) < 2:
@@ -96,13 +119,13 @@ def path_turned(path, function, places):
         arm = function.arms.get((key, *rest[:n]))
         if arm:
             return ".".join([parts[0], arm, *rest[n:]])
-    if key in function.typed and rest[:1] == ["given"]:
-        return ".".join([parts[0], "type_inv", function.typed[key], *rest[1:]])
+    if key in typed and rest[:1] == ["given"]:
+        return ".".join([parts[0], "type_inv", typed[key], *rest[1:]])
     for old, new in function.args:
         a = old.strip(".").split(".")
         if [dash(it) for it in parts[at : at + len(a)]] == [dash(it) for it in a]:
             return ".".join([parts[0], *new.strip(".").split("."), *parts[at + len(a) :]])
-    new = function.steps.get(key)
+    new = function.steps.get(key) or next((it for old, it in function.steps.items() if old.lower() == key.lower()), None)
     if new:
         if len(set(new)) > 1:
             print(f"look: {function.crate} {function.path}: {step} is one of {sorted(set(new))}")
@@ -110,8 +133,23 @@ def path_turned(path, function, places):
         for old, name in (("taken", "true"), ("left", "false")):
             if rest[:1] == [old]:
                 rest = [name, *rest[1:]]
-    if step == "good":
+    if step in ("good", "well-formed"):
         step = "well_formed"
+    rest = [{"type-inv": "type_inv"}.get(it, it) for it in rest]
+    if step in function.within and rest and rest[0] in function.within[step]:
+        rest = [function.within[step][rest[0]], *rest[1:]]
+    if rest[:1] == ["new"] and len(rest) > 1 and rest[1].isdigit() and step in function.callees:
+        lent = LENT.get(function.callees[step], [])
+        k = 1
+        while k < len(rest) and rest[k] == "1":
+            k += 1
+        if k - 1 < len(lent):
+            rest = ["new", lent[k - 1], *rest[k + 1 :]]
+    if step in ("pre", "requires") and rest and rest[0].isdigit() and function.fields:
+        k = 0
+        while k < len(rest) and rest[k] == "1" and k + 1 < len(function.fields):
+            k += 1
+        rest = [function.fields[k], *rest[k + (rest[k : k + 1] == ["0"]) :]]
     if step == "pre":
         step = "requires"
     return ".".join([parts[0], step, *rest])
@@ -120,10 +158,39 @@ def path_turned(path, function, places):
 PATH = re.compile(r"(?<![\w.'-])[A-Za-z][\w'₀-]*(?:\.(?:«[^»]*»|[\w'₀·-]+))+")
 
 
-def turned(text, function):
-    places = {"c"} | set(re.findall(r"\(([a-z][\w']*) : goal\.", text)) | set(re.findall(r"let ([a-z][\w']*) = [a-z][\w']*(?:\.before)+ in", text))
-    places |= set(re.findall(r"let ([a-z][\w']*) = c in", text))
-    return PATH.sub(lambda it: path_turned(it[0], function, places), text)
+def turned(text, function, goal=None, helpers={}):
+    """The paths of an answer, or of a lemma over a place. What is handed on as a place whole is named by goal.at, by the place that the lemma asks."""
+    at = {"c"} | set(re.findall(r"\(([a-z][\w']*) : [A-Z][\w-]*\)", text))
+    for name, of in re.findall(r"let ([a-z][\w']*) =\s+([a-z][\w']*)(?:\.before)*\s+in", text):
+        if of in at:
+            at.add(name)
+    text = re.sub(r"let ([a-z][\w']*) =\s+([a-z][\w']*)((?:\.before)+)\s+in", lambda it: f"let {it[1]} = {'c' if goal else it[2]} in" if it[2] in at else it[0], text)
+    # that a value is of its type is found without a path
+    text = re.sub(r"sym \(length-map [\w.'-]+ _\) ∙ [\w.]+\.(?:good|well[-_]formed)[.\d]*", "search rules", text)
+    text = re.sub(r", [\w.]+\.(?:good|well[-_]formed)[.\d]+\)", ")", text)
+    text = re.sub(r"(?<![\w.])[a-z]\w*(?:\.before)*\.(?:good|well[-_]formed)(?:\.\d)+", "(search rules)", text)
+    if helpers:
+
+        def handed(it):
+            place = helpers[it[1]]
+            if goal:
+                if place in function.used or place in function.places.values():
+                    function.used.add(place)
+                    return f"{it[1]} (goal.at.{goal} c).{place}"
+            return it[0]
+
+        names = "|".join(re.escape(it) for it in sorted(helpers, key=len, reverse=True))
+        vars = "|".join(re.escape(it) for it in at)
+        text = re.sub(rf"(?<![\w.'-])({names})\s+((?:{vars})(?:\.before)*)(?![\w.'₀-])", handed, text)
+    where = function.at.get(goal) if goal else next((dash(a) for a, b in function.places.items() if f": {b})" in text.split("\n")[0]), None)
+    typed = function.typed.get(where, {})
+    text = PATH.sub(lambda it: path_turned(it[0], function, at, typed), text)
+    for name, step in re.findall(r"let ([a-z][\w']*) = [\w.'-]*\.([\w-]+) in", text):
+        for a, b in function.within.get(step, {}).items():
+            text = re.sub(rf"(?<![\w.'-]){re.escape(name)}\.{re.escape(a)}(?![\w'-])", f"{name}.{b}", text)
+    # the test of a negation says what it says of what is negated
+    text = re.sub(r"\(not-(?:true|false) (?:_|[\w.'-]+) ([\w.'-]+\.(?:true|false))-raw\)", r"\1", text)
+    return re.sub(r"(?<![\w.'-])not-(?:true|false) (?:_|[\w.'-]+) ([\w.'-]+\.(?:true|false))-raw", r"\1", text)
 
 
 def placed(text, function):
@@ -132,9 +199,44 @@ def placed(text, function):
         if not new:
             print(f"look: {function.crate} {function.path}: no place {it[1]}")
             return it[0]
-        return "goal." + new
+        function.used.add(new)
+        return new
 
     return re.sub(rf"tie\.({ID})((?: (?:invariant|decreases)-[\w'-]+)*)", one, text)
+
+
+def as_record(body, fields):
+    """A tuple at the end of an answer as a record of the clauses."""
+    text = body.rstrip()
+    if not text.endswith(")"):
+        return body
+    depth, at = 0, len(text) - 1
+    commas = []
+    while at >= 0:
+        ch = text[at]
+        depth += ch in ")]}"
+        depth -= ch in "([{"
+        if ch == "," and depth == 1:
+            commas.append(at)
+        if depth == 0:
+            break
+        at -= 1
+    inner, last = [], at + 1
+    for comma in reversed(commas):
+        inner.append(text[last:comma].strip())
+        last = comma + 1
+    inner.append(text[last:-1].strip())
+    if not inner[-1]:
+        inner.pop()
+    if len(inner) != len(fields) or not re.search(r"(=|\bin|,|↦)\s*$", text[:at]):
+        return body
+    return text[:at] + "record { " + "; ".join(f"{f} = {it}" for f, it in zip(fields, inner)) + " }"
+
+
+def placed_but_needs(text, function):
+    return re.sub(r"(?s)^.*$", lambda it: placed(it[0], function), text) if "tie.Need" not in text else "\n".join(
+        line if "tie.Need" in line else placed(line, function) for line in text.split("\n")
+    )
 
 
 def convert(folder, function):
@@ -170,8 +272,7 @@ def convert(folder, function):
             if not goal and (norm(m[1]) in function.settled or norm(name) in function.settled):
                 continue
             if not goal:
-                print(f"left: {function.crate} {function.path}: no goal for {name} ({m[1]})")
-                todo.append((note, body, name, "other"))
+                print(f"gone: {function.crate} {function.path}: no goal for {name} ({m[1]})")
                 continue
             renamed[name] = goal
             todo.append((note, body, goal, "goal"))
@@ -181,7 +282,12 @@ def convert(folder, function):
             todo.append((note, body, m[1] + "-" + m[2], m[1]))
             continue
         todo.append((note, body, name, "help"))
-    answered = set(renamed.values())
+    helpers = {}
+    for note, body, name, kind in todo:
+        if kind == "help":
+            of = re.match(rf"(?:(?:abbrev|unfoldable|pub) )*{re.escape(name)} : \([a-z]\w* : tie\.({ID})", body)
+            if of and dash(of[1]) in function.places:
+                helpers[name] = function.places[dash(of[1])]
     for note, body, name, kind in todo:
         if kind in ("invariant", "decreases"):
             loop = dash(name.split("-", 1)[1])
@@ -200,31 +306,36 @@ def convert(folder, function):
                 print(f"left: {function.crate} {function.path}: {name} has {len(params)} parameters, wanted {len(wanted)}: {wanted}")
             names = {}
             for p, (v, when) in zip(params, wanted):
+                v = next((of[v] for step, of in function.within.items() if step == function.loops[loop][0] and v in of), v)
                 if p != "_":
                     names[p] = f"l.initial.{v}" if when else f"l.{v}"
             made = substitute(m[3], names)
+            # a signed variable is a number here, not its bits
+            made = re.sub(r"\(to_z w\d+ (l(?:\.initial)?\.\w+)-bits\)", r"\1", made)
+            made = re.sub(r"to_z w\d+ (l(?:\.initial)?\.\w+)-bits(?![\w'-])", r"\1", made)
             full = f"{kind}-loop-{label}" if not function.loops[loop][0].startswith(kind) else label
             full = f"{kind}-{function.loops[loop][0]}"
             invariants.append((note + "\n" if note else "") + f"abbrev pub {full} : goal.{full}\n{m[1]}{full} l = {made.strip()}")
             continue
+        # the types of places, what is behind them, and the other answers by their names today
+        body = placed_but_needs(body, function)
+        head_of_goal = None
         if kind == "goal":
-            lines = body.split("\n")
-            # the type may go on over lines
-            old = re.match(rf"({ID}) :", lines[0])[1]
-            at = 1
-            while at < len(lines) and lines[at].startswith(" "):
-                at += 1
-            rest = "\n".join(lines[at:])
-            rest = re.sub(rf"(?m)^{re.escape(old)} ({ID}) ([^\s=(]+) =", lambda it: f"{old} {it[1]} =", rest)
+            head_of_goal, _, body = body.partition("\n")
+            while body.startswith(" "):
+                body = body.partition("\n")[2]
+        body = turned(body, function, name if kind == "goal" else None, helpers)
+        if renamed:
+            body = re.sub(
+                rf"(?<![\w.'₀-])({'|'.join(re.escape(it) for it in sorted(renamed, key=len, reverse=True))})(?![\w'₀-])", lambda it: renamed[it[1]], body
+            )
+        if kind == "goal":
+            rest = body
+            # lifetimes are no longer an argument
+            rest = re.sub(rf"(?m)^{re.escape(name)} ({ID}) ([^\s=(]+) =", lambda it: f"{name} {it[1]} =", rest)
             body = f"pub {name} : goal.{name}\n" + rest
-            body = re.sub(rf"(?m)^{re.escape(old)} c =", f"{name} c =", body)
-            body = re.sub(rf"(?m)^{re.escape(old)} ([a-z]) =", lambda it: f"{name} {it[1]} =", body)
-        # the types of places, then what is behind them
-        body = placed(body, function)
-        body = turned(body, function)
-        for old, new in renamed.items():
-            if old != new:
-                body = re.sub(rf"(?<![\w.'₀-]){re.escape(old)}(?![\w'₀-])", lambda it: new, body) if kind != "help" or True else body
+        if kind == "goal" and name in function.asked:
+            body = as_record(body, function.asked[name])
         trivial = re.fullmatch(rf"(?s)pub \S+ : \S+\n{ID} c = (search rules|omega arith)", body)
         if kind == "goal" and trivial and not note:
             continue
@@ -248,14 +359,19 @@ def convert(folder, function):
         if needed:
             uses = uses + [here + ".Invariants.{" + ", ".join(needed) + "}"]
     if answers:
+        places = [here + ".Goals.{" + ", ".join(sorted(function.used)) + "}"] if function.used else []
         write(
             os.path.join(folder, "Answers.antt"),
-            (heading + "\n" if heading else "") + "\n".join(["use Rattle.std.proofs.Common.{rules}"] + uses + [here + ".Goals as goal"]) + "\n\n" + "\n\n".join(answers) + "\n",
+            (heading + "\n" if heading else "") + "\n".join(["use Rattle.std.proofs.Common.{rules}"] + uses + places + [here + ".Goals as goal"]) + "\n\n" + "\n\n".join(answers) + "\n",
         )
     os.remove(os.path.join(folder, "Proof.antt"))
 
 
+LENT = {}
+
+
 def main():
+    LENT.update(lent_of())
     names, crates = sys.argv[1], sys.argv[2:]
     for crate in crates:
         path = f"{names}/crates/{crate}/names.json"

@@ -1,1 +1,2 @@
 // General mathematics alone: see specs/.
+#![tactic(auto)]

@@ -1,4 +1,6 @@
 // Assignments as text, `a = (1, 0, -2), m = 3`, read into lent bytes: three signed bytes a letter.
+#![tactic(auto)]
+
 ghost use Rattle.std.specs.Prelude.{◌≡◌, ◌*◌, ◌≤◌, length};
 ghost use Rattle.specification.specs.Text.{skip};
 ghost use Rattle.specification.specs.AssignmentTexts.{none_yet, read_assigned};

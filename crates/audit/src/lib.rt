@@ -1,4 +1,6 @@
 // Demand 3 as one function: a form is shortened, the checker is given the log, and the log's ends are decided.
+#![tactic(auto)]
+
 ghost use Rattle.specification.specs.Auditing.{Audited};
 ghost use Rattle.audit.specs.Answers.{verdict_of};
 ghost use Rattle.audit.specs.Auditing.{Said, LogAudited};

@@ -3,6 +3,8 @@
 // What a call does not take is empty, or 0; the letter of an insertion stands in place of the second part of memory. For each case it writes a line: the
 // number returned, and behind it what the memory lent holds, or the assignment that the decision handed over; or, where document 01 leaves the memory open,
 // what is wrong with it.
+#![tactic(auto)]
+
 ghost use Rattle.std.specs.Prelude.{◌<◌, length};
 
 use audit::{Verdict, audit};

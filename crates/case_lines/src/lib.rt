@@ -1,4 +1,6 @@
 // What the programs over cases share: bytes taken from the input, and lines written to standard output.
+#![tactic(auto)]
+
 ghost use Rattle.std.specs.Prelude.{◌≡◌, ◌+◌, ◌*◌, ◌^◌, ◌≤◌, ◌<◌, nat_abs, length};
 ghost use Rattle.case_lines.specs.Filling.{AllFilling, Stand};
 ghost use Rattle.evaluation.specs.Vectors.{vec_of, Within};

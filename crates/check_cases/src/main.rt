@@ -1,5 +1,7 @@
 // Runs cases of the checker's call from standard input. A case is the length of a table (one byte), the table, the length of a log (two bytes) and the log.
 // For each it writes a line: accepted, where the first form ends, where the last begins and the steps; or R, the number of the refusal, and its step.
+#![tactic(auto)]
+
 ghost use Rattle.std.specs.Prelude.{◌<◌, length};
 
 use case_lines::{byte_at, print_character, print_refusal};

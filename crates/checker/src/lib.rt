@@ -1,4 +1,6 @@
 // The checker: for any table and any log exactly the answer of document 01's replay.
+#![tactic(auto)]
+
 ghost use Rattle.std.specs.Prelude.{◌≡◌, take, drop};
 ghost use Rattle.specification.specs.Logs.{check_call};
 ghost use Rattle.checker.specs.Answers.{checked_of};

@@ -1,4 +1,6 @@
 // The answer to a word of the program `kalzunbi`, in lent bytes.
+#![tactic(auto)]
+
 ghost use Rattle.std.specs.Prelude.{◌≡◌, ◌≤◌, length};
 ghost use Rattle.specification.specs.Records.{write_into};
 ghost use Rattle.specification.specs.Commands.{is_command, Commanded, CommandAnswered};

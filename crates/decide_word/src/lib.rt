@@ -1,4 +1,6 @@
 // The word `decide`: whether the two sides of a line's `=` are equal under every assignment, or the first under which they differ and both values.
+#![tactic(auto)]
+
 ghost use Rattle.specification.specs.Commands.{DecideAnswer};
 ghost use Rattle.telling.specs.Told.{AnswerTold};
 

@@ -1,4 +1,6 @@
 // The decision: whether two forms are equal under every assignment, or the first under which they differ.
+#![tactic(auto)]
+
 ghost use Rattle.specification.specs.Decision.{Decided};
 ghost use Rattle.decision.specs.Settling.{Components, Decidable, DecidedSo};
 ghost use Rattle.decision.specs.Answers.{decision_of};

@@ -2,6 +2,8 @@
 // the same for the second form, how many bytes of the buffer are lent (one byte) and how many of the work memory (two bytes).
 // For each it writes a line: holds, differs and the assignment handed over, or R and the number of the refusal; behind it what is wrong with the memory lent,
 // if anything is.
+#![tactic(auto)]
+
 ghost use Rattle.std.specs.Prelude.{◌<◌, ◌≤◌, length};
 
 use case_lines::{

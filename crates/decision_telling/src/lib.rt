@@ -1,4 +1,6 @@
 // The decision of two forms in words: it holds, or an assignment and what each side is under it.
+#![tactic(auto)]
+
 ghost use Rattle.std.specs.Prelude.{◌≡◌, true, ◌≤◌, length};
 ghost use Rattle.specification.specs.Lists.{all};
 ghost use Rattle.specification.specs.Evaluation.{six_or_less, assignment, value};

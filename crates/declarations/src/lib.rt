@@ -1,4 +1,6 @@
 // Names declared in front of a text, in lent bytes: names in their order, and the table of their kinds.
+#![tactic(auto)]
+
 ghost use Rattle.std.specs.Prelude.{◌≡◌, ◌≤◌, length};
 ghost use Rattle.specification.specs.Lines.{line_of, is_declaration, declared};
 ghost use Rattle.lines.specs.Places.{place_of, Inside};

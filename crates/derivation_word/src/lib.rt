@@ -1,4 +1,6 @@
 // The word `derivation`: names, a first form and the steps of a log that stays open, each line answered by itself, and the log at the end.
+#![tactic(auto)]
+
 ghost use Rattle.specification.specs.Commands.{derivation_input};
 ghost use Rattle.telling.specs.Told.{Told};
 

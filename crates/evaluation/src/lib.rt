@@ -1,4 +1,6 @@
 // The value call: a form under an assignment of signed bytes, as three signed numbers.
+#![tactic(auto)]
+
 ghost use Rattle.std.specs.Prelude.{◌≡◌};
 ghost use Rattle.specification.specs.Evaluation.{value_call};
 ghost use Rattle.evaluation.specs.Answers.{valued_of};

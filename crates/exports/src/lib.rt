@@ -1,4 +1,6 @@
 // The calls for C: each answers with one signed number, at least 0 where something is given, minus the number of the refusal otherwise.
+#![tactic(auto)]
+
 ghost use Rattle.std.specs.Prelude.{◌≡◌, ℕ, ◌≤◌, ◌<◌, ◌^◌, length};
 ghost use Rattle.specification.specs.Results.{given};
 ghost use Rattle.specification.specs.Returns.{returned, decision_returned, three_into, value_returned, reduce_returned, insert_returned};

@@ -1,4 +1,6 @@
 // Of several polynomials, looked at one after the other in the same lent bytes, the first numbers under which one of them is not 0.
+#![tactic(auto)]
+
 ghost use Rattle.std.specs.Prelude.{◌≡◌, ◌*◌, ◌≤◌, ◌<◌, length, take, drop};
 ghost use Rattle.theory.specs.Values.Firsts.{Alike};
 ghost use Rattle.polynomials.specs.Memory.{summands};

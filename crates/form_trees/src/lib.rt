@@ -1,4 +1,6 @@
 // The tree of a form worked in lent rows, another form standing for one letter: its terms in order, summed left to right.
+#![tactic(auto)]
+
 ghost use Rattle.std.specs.Prelude.{◌≡◌, ◌≤◌, length, drop};
 ghost use Rattle.specification.specs.Insertion.{insert_terms, insert_form};
 ghost use Rattle.theory.specs.Reduction.Standing.{plus_each};

@@ -1,4 +1,6 @@
 // Form records: a form read at a position or whole, taken from its sender with its letters, and written into lent bytes.
+#![tactic(auto)]
+
 ghost use Rattle.std.specs.Prelude.{◌≡◌, false, [], ◌+◌, ◌*◌, ◌≤◌, length};
 ghost use Rattle.specification.specs.Records.{part_fits, read_terms, read_form_at, read_form, take_form, take_both};
 ghost use Rattle.terms.specs.Abstraction.{term_of, form_of, Counted, terms_of};

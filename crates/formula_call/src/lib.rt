@@ -1,4 +1,6 @@
 // The form of a text by value, and the call that reads a text and writes the record of its form.
+#![tactic(auto)]
+
 ghost use Rattle.std.specs.Prelude.{◌≡◌};
 ghost use Rattle.specification.specs.Text.{text_form, text_call};
 ghost use Rattle.formulas.specs.Readings.{Named};

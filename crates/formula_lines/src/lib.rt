@@ -1,4 +1,6 @@
 // The formula of a line of an input.
+#![tactic(auto)]
+
 ghost use Rattle.specification.specs.Text.{text_form};
 ghost use Rattle.specification.specs.Lines.{line_of};
 ghost use Rattle.lines.specs.Places.{place_of, Inside};

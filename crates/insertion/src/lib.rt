@@ -1,4 +1,6 @@
 // Insertion (K1): a vector form put in for a vector letter of a form, and the call that writes the record of what comes out.
+#![tactic(auto)]
+
 ghost use Rattle.std.specs.Prelude.{◌≡◌, eqb};
 ghost use Rattle.specification.specs.Results.{require};
 ghost use Rattle.specification.specs.Letters.{vector};

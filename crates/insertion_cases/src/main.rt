@@ -1,6 +1,8 @@
 // Runs cases of the insertion call from standard input. A case is the length of a table (one byte), the table, the number of a letter (one byte), the length of
 // a form (two bytes), the form, the length of the form inserted (two bytes), that form, and, where the table's length is 1 to 24, an assignment of three bytes a letter.
 // For each it writes a line: R and the number of the refusal; or the record of the form, and its three values under the assignment.
+#![tactic(auto)]
+
 ghost use Rattle.std.specs.Prelude.{◌<◌, length};
 
 use case_lines::{

@@ -1,4 +1,6 @@
 // Signed numbers of 64 bits: sums, products, tests, exact division, and the four bytes of a coefficient.
+#![tactic(auto)]
+
 ghost use Rattle.std.specs.Prelude.{◌≡◌, ◌+◌, ◌*◌, ◌≤◌, ◌<◌, ◌^◌, nat_abs, ◌+ℤ◌, ◌-ℤ◌, ◌*ℤ◌, neg_ℤ, length};
 ghost use Rattle.std.specs.Int.Signed.{lt_z};
 ghost use Rattle.specification.specs.Records.{from_bits32, to_bits32, four_bytes, four_bytes_at, is_one};

@@ -1,4 +1,6 @@
 // The program `kalzunbi`: a word as first argument, the input from the file that the second names or from standard input, the answer to standard output.
+#![tactic(auto)]
+
 use command::{command, is_command};
 use libc::{STDIN_FILENO, STDOUT_FILENO};
 use lines::words::same_bytes;

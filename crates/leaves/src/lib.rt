@@ -1,4 +1,6 @@
 // Leaves: the form of one term, of a letter alone, and of a constant, in the first of the lent rows.
+#![tactic(auto)]
+
 ghost use Rattle.std.specs.Prelude.{[], ◌∷◌, ◌≤◌, ◌<◌, length};
 ghost use Rattle.specification.specs.Results.{given};
 ghost use Rattle.specification.specs.Terms.{plus};

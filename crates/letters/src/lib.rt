@@ -1,4 +1,6 @@
 // The table, a letter's kind, and letters tested in byte order.
+#![tactic(auto)]
+
 ghost use Rattle.std.specs.Prelude.{◌≡◌, [], ◌∷◌, ◌<◌, eqb, length};
 ghost use Rattle.specification.specs.Results.{if◌then◌else◌};
 ghost use Rattle.specification.specs.Letters.{scalar, vector, kind_of, test_table, test_letter, test_letters};

@@ -1,4 +1,6 @@
 // The limits of a run of rows: 9, then 10.
+#![tactic(auto)]
+
 ghost use Rattle.std.specs.Prelude.{◌≡◌, ◌≤◌, length, take};
 ghost use Rattle.specification.specs.Lists.{all};
 ghost use Rattle.specification.specs.Terms.{coef_within};

@@ -1,4 +1,6 @@
 // The text of a log told into lent bytes: the line of the names, the lines of the forms and of the steps.
+#![tactic(auto)]
+
 ghost use Rattle.std.specs.Prelude.{◌≤◌, length};
 ghost use Rattle.specification.specs.Printing.{print_steps};
 ghost use Rattle.specification.specs.LogTexts.{kinds_word, write_names, names_line, kind_word, form_line, log_text};

@@ -1,4 +1,6 @@
 // The words `check` and `pack`: the checker's answer for a log as text, and its bytes.
+#![tactic(auto)]
+
 ghost use Rattle.std.specs.Prelude.{◌≡◌, length};
 ghost use Rattle.specification.specs.Commands.{answer_text, check_input, pack_input};
 ghost use Rattle.terms.specs.Abstraction.{form_of};

@@ -1,3 +1,5 @@
 // Marks of letters, factors and terms, and of the rows of a rule.
+#![tactic(auto)]
+
 pub mod marking;
 pub mod products;

@@ -1,4 +1,6 @@
 // The call that prints a form with declared names.
+#![tactic(auto)]
+
 ghost use Rattle.std.specs.Prelude.{◌≡◌};
 ghost use Rattle.specification.specs.Text.{print_named_call};
 ghost use Rattle.printer_call.specs.Answers.{printing_of};

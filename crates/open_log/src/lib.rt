@@ -1,4 +1,6 @@
 // Logs that stay open (document 02, K5): the calls on the bytes of a state.
+#![tactic(auto)]
+
 ghost use Rattle.std.specs.Prelude.{◌≡◌};
 ghost use Rattle.specification.specs.OpenLogs.{open_call, add_call, look_call, DecidedOpen, close_call};
 ghost use Rattle.decision.specs.Answers.{decision_of};

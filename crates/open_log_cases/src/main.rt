@@ -4,6 +4,8 @@
 // the last accepted opening or adding gave back, or those handed over since. What a call does not take is empty, or 0.
 // For each call it writes a line: the length and the bytes written, holds, differs and the assignment, accepted, or R and the number of the refusal; behind it
 // the word changed for memory that has to stand and does not.
+#![tactic(auto)]
+
 ghost use Rattle.std.specs.Prelude.{◌<◌, length};
 
 use case_lines::{

@@ -1,5 +1,7 @@
 // The tests of a product: 7 of all pairs, 8 and 9 of the terms that stay. Where the most letters and the largest coefficient of each side are within the
 // limits, no term is beyond; only elsewhere are the pairs gone through.
+#![tactic(auto)]
+
 ghost use Rattle.std.specs.Prelude.{◌≡◌, ◌&&◌, [], ◌∷◌, ◌+◌, ◌*◌, ◌≤◌, leb, nat_abs};
 ghost use Rattle.specification.specs.Reduction.{pair_staying, product_terms};
 ghost use Rattle.theory.specs.Elements.{All};

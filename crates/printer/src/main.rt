@@ -1,4 +1,6 @@
 // The printer: the length of a table, the table and an expression from standard input; the form in letters, or R and the number of the refusal, on a line to standard output.
+#![tactic(auto)]
+
 use printer_call::{Printing, print};
 use printing::LINE_BYTES;
 

@@ -1,4 +1,6 @@
 // What the printer writes for what it read: the form in letters, or R and the number of the refusal, on a line.
+#![tactic(auto)]
+
 ghost use Rattle.std.specs.Prelude.{◌≡◌, ◌≤◌, length};
 ghost use Rattle.specification.specs.Printing.{print_call, TextWritten, print_answer, line_bytes};
 ghost use Rattle.printer_call.specs.Answers.{printing_of};

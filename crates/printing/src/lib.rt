@@ -1,4 +1,6 @@
 // The text of terms and forms: terms joined by their signs, each a coefficient, factors and a vector part; the lines that a result prints.
+#![tactic(auto)]
+
 ghost use Rattle.std.specs.Prelude.{[], ◌∷◌, map, ◌+◌, ◌-◌, ◌*◌, ◌≤◌, ◌<◌, length, take, drop};
 ghost use Rattle.specification.specs.Results.{refused};
 ghost use Rattle.specification.specs.Printing.{print_term, print_terms, print_form, line_bytes, print_result, TextWritten};

@@ -1,5 +1,7 @@
 // The promises at the calls (P2, P3, P6, P7 and K1): each function makes a call and promises of what came back what the definitions alone do not say.
 // A call that kept its own contract only in words would be refused here.
+#![tactic(auto)]
+
 ghost use Rattle.std.specs.Prelude.{◌≡◌, ℕ, take};
 ghost use Rattle.specification.specs.Results.{given};
 ghost use Rattle.specification.specs.Promises.{KeepsValue, Inserts, rewrite_call, LogPromise, DecisionPromise};

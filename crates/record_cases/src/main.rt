@@ -1,5 +1,7 @@
 // Runs cases of form records from standard input. A case is the length of a table (one byte), the table, the length of a record (two bytes), the record.
 // For each it writes a line: the number of the table's test, the number of the record's, and, where that is 0, the record as it is written back.
+#![tactic(auto)]
+
 ghost use Rattle.std.specs.Prelude.{◌<◌, length};
 ghost use Rattle.terms.specs.Valid.{FormValid};
 

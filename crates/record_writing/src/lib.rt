@@ -1,4 +1,6 @@
 // Term records written into lent bytes.
+#![tactic(auto)]
+
 ghost use Rattle.std.specs.Prelude.{◌≡◌, ◌+◌, ◌≤◌, ◌<◌, length};
 ghost use Rattle.specification.specs.Lists.{joined};
 ghost use Rattle.specification.specs.Records.{factors_of, coef_field, count_field, part_bit, write_term};

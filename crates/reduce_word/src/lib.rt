@@ -1,4 +1,6 @@
 // The word `reduce`: the form of each formula line, or the first refusal, told into lent bytes.
+#![tactic(auto)]
+
 ghost use Rattle.std.specs.Prelude.{[], ◌∷◌, ◌++◌, length};
 ghost use Rattle.specification.specs.Printing.{print_form};
 ghost use Rattle.specification.specs.Commands.{answer_text, reduce_lines, reduce_input};

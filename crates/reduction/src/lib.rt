@@ -1,4 +1,6 @@
 // Reduction: an expression read as a tree and worked into a form, and the call that writes its record.
+#![tactic(auto)]
+
 ghost use Rattle.std.specs.Prelude.{◌≡◌};
 ghost use Rattle.specification.specs.Reduction.{reduced, reduce_call};
 ghost use Rattle.terms.specs.Valid.{Gives};

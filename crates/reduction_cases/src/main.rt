@@ -1,6 +1,8 @@
 // Runs cases of the reduction call from standard input. A case is the length of a table (one byte), the table, the length of an expression (two bytes), the expression,
 // and, where the table's length is 1 to 24, an assignment of three bytes a letter.
 // For each it writes a line: R and the number of the refusal; or the record of the form, and its three values under the assignment.
+#![tactic(auto)]
+
 ghost use Rattle.std.specs.Prelude.{◌<◌, length};
 
 use case_lines::{assignment_length, byte_at, print_character, print_form, print_refusal};

@@ -1,4 +1,6 @@
 // A refusal in words: its number, line and column, why, the line, and a mark under the place.
+#![tactic(auto)]
+
 ghost use Rattle.std.specs.Prelude.{◌≤◌, ◌+◌, length};
 ghost use Rattle.specification.specs.Lines.{line_of};
 ghost use Rattle.specification.specs.Commands.{reason, refusal_text};

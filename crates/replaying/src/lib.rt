@@ -1,4 +1,6 @@
 // The replay: the steps taken in their order from the first form, and the form reached compared with the last.
+#![tactic(auto)]
+
 ghost use Rattle.std.specs.Prelude.{◌≡◌, ◌≤◌, length};
 ghost use Rattle.specification.specs.Logs.{same_form};
 ghost use Rattle.terms.specs.Abstraction.{term_of, form_of, Counted};

@@ -1,4 +1,6 @@
 // What the calls for C return: one signed number, at least 0 where something is given, minus the number of the refusal otherwise.
+#![tactic(auto)]
+
 ghost use Rattle.std.specs.Prelude.{◌≡◌, ◌≤◌, ◌<◌, ◌^◌, length};
 ghost use Rattle.specification.specs.Results.{given, refused};
 ghost use Rattle.specification.specs.Returns.{returned, returned_at, places_into};

@@ -1,4 +1,6 @@
 // Terms in lent memory: a row of eight numbers each, the vector part's number times 8 with the count of factors, then the factors' numbers; the coefficients beside them.
+#![tactic(auto)]
+
 ghost use Rattle.std.specs.Prelude.{◌≡◌, ◌≤◌, ℤ, length};
 ghost use Rattle.specification.specs.Terms.{compare_terms};
 ghost use Rattle.terms.specs.Abstraction.{term_of, ordering_of, Counted};

@@ -1,3 +1,5 @@
 // Steps by the five rules.
+#![tactic(auto)]
+
 pub mod admissible;
 pub mod steps;

@@ -1,5 +1,7 @@
 // Shorten: the length of a table, the table and an expression from standard input.
 // To standard output the form, the steps that shorten it and the last form in letters, each on a line, or R and the number of the refusal.
+#![tactic(auto)]
+
 use printer_call::Printing;
 use shorten_call::{LINES_BYTES, print_shortening};
 

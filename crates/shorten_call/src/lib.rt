@@ -1,4 +1,6 @@
 // What the program shorten writes for what it read: the form, the steps that shorten it and the last form in letters, each on a line, or the refusal.
+#![tactic(auto)]
+
 ghost use Rattle.std.specs.Prelude.{◌≤◌, length};
 ghost use Rattle.printer_call.specs.Lines.{table_reduced};
 ghost use Rattle.specification.specs.Printing.{input_table, print_tested, lines_bytes, PrintedBy, LinesPrinted};

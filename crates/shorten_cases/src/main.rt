@@ -1,4 +1,6 @@
 // Runs shorten over cases from standard input. A case is the length of an input (two bytes) and the input. For each it writes what shorten prints.
+#![tactic(auto)]
+
 ghost use Rattle.std.specs.Prelude.{◌+◌, ◌<◌, length};
 
 use case_lines::two_bytes_at;

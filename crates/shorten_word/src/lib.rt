@@ -1,4 +1,6 @@
 // The word `shorten`: the form of a formula, the steps that shorten it and the last form told as the text of a log, or the refusal.
+#![tactic(auto)]
+
 ghost use Rattle.specification.specs.Commands.{ShortenAnswer};
 ghost use Rattle.telling.specs.Told.{AnswerTold};
 

@@ -1,4 +1,6 @@
 // Shortening: steps from a form to one that no admissible step shortens, as a log that the checker accepts.
+#![tactic(auto)]
+
 ghost use Rattle.std.specs.Prelude.{◌≤◌};
 ghost use Rattle.specification.specs.Shortening.{shortening_bytes, log_length, Shortened};
 ghost use Rattle.shortening.specs.Answers.{shortening_of};

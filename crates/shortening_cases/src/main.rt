@@ -2,6 +2,8 @@
 // and how many bytes are lent for the log (two bytes).
 // For each it writes a line: the terms of the log's first form and of its last, or R and the number of the refusal; behind it what is wrong with the log or
 // with the memory lent, if anything is.
+#![tactic(auto)]
+
 ghost use Rattle.std.specs.Prelude.{◌<◌, ◌≤◌, length};
 
 use case_lines::{

@@ -1,4 +1,6 @@
 // The two sides of a line's first `=`: two forms of one kind.
+#![tactic(auto)]
+
 ghost use Rattle.std.specs.Prelude.{◌≡◌, ◌<◌, length};
 ghost use Rattle.specification.specs.Lines.{line_of};
 ghost use Rattle.specification.specs.Commands.{read_sides};

@@ -1,4 +1,6 @@
 // The symbols of a text: numbers in decimal, letters, factors, vector parts, the star and the signs.
+#![tactic(auto)]
+
 ghost use Rattle.std.specs.Prelude.{◌≡◌, ◌+◌, ◌-◌, ◌*◌, ◌≤◌, ◌<◌, length};
 ghost use Rattle.specification.specs.Printing.{name_of, decimal, print_factor, print_part, is_nothing, print_size, print_first_sign, print_sign};
 ghost use Rattle.terms.specs.Numbers.{letters_of};

@@ -1,4 +1,6 @@
 // Text told into lent bytes, a piece behind the other; where there is no room the position is beyond the end, and all that follows is passed over.
+#![tactic(auto)]
+
 ghost use Rattle.std.specs.Prelude.{◌<◌, ◌^◌, nat_abs, length, [], ◌∷◌};
 ghost use Rattle.specification.specs.Commands.{numeral, signed_numeral, blanks};
 ghost use Rattle.telling.specs.Told.{Tells};

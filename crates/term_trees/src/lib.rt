@@ -1,5 +1,7 @@
 // The tree of a term worked in lent rows, another form in m rows standing for one letter: as it is without the letter, else multiplied from the left as
 // coefficient, factors in record order, vector part.
+#![tactic(auto)]
+
 ghost use Rattle.std.specs.Prelude.{◌≡◌, true, false, ◌≤◌, drop};
 ghost use Rattle.specification.specs.Reduction.{work_with};
 ghost use Rattle.specification.specs.Insertion.{term_tree};

@@ -1,4 +1,6 @@
 // Terms and forms as data: numbers for factors, the order of terms, their shape.
+#![tactic(auto)]
+
 pub mod build;
 pub mod factors;
 pub mod order;

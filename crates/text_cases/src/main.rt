@@ -1,5 +1,7 @@
 // Reads formulas as text, cases from standard input. A case is its length (two bytes), the number of letters (one byte), the table, a name for each letter, and
 // the line. For each it writes a line: R and the number of a refusal, with the column where the text is refused; or the kind of the form and its text.
+#![tactic(auto)]
+
 ghost use Rattle.std.specs.Prelude.{◌<◌, length};
 
 use case_lines::{byte_at, print_character, print_refusal, two_bytes_at};

@@ -1,5 +1,7 @@
 // The bytes of a text at a position, 0 behind it: blanks passed, letters and digits, the number of a name, numbers in decimal, three names in parentheses; names
 // that fit a table.
+#![tactic(auto)]
+
 ghost use Rattle.std.specs.Prelude.{◌≡◌, ◌<◌, length, get_or};
 ghost use Rattle.specification.specs.Lists.{all};
 ghost use Rattle.specification.specs.Text.{is_letter, is_digit, skip, next, distinct, good_names, place_of, is_triple};

@@ -1,1 +1,2 @@
 // Theorems about the definitions alone: see specs/.
+#![tactic(auto)]

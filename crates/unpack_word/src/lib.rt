@@ -1,4 +1,6 @@
 // The word `unpack`: the table's length byte, the table and a log's bytes told as the text of the log, or the refusal and its step.
+#![tactic(auto)]
+
 ghost use Rattle.std.specs.Prelude.{◌≡◌};
 ghost use Rattle.specification.specs.Logs.{accepted};
 ghost use Rattle.specification.specs.Commands.{tested_log, unpack_log, unpack_input};

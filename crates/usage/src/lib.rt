@@ -1,4 +1,6 @@
 // How to use the program `kalzunbi`.
+#![tactic(auto)]
+
 ghost use Rattle.specification.specs.Commands.{usage};
 ghost use Rattle.telling.specs.Told.{Told};
 

@@ -1,6 +1,8 @@
 // Runs cases of the value call from standard input. A case is the length of a table (one byte), the table, the length of a record (two bytes), the record,
 // the length of an assignment (one byte), the assignment.
 // For each it writes a line: R and the number of the refusal, or the three numbers.
+#![tactic(auto)]
+
 ghost use Rattle.std.specs.Prelude.{◌<◌, length};
 
 use case_lines::{byte_at, print_character, print_values};

@@ -1,4 +1,6 @@
 // Values and assignments in words.
+#![tactic(auto)]
+
 ghost use Rattle.std.specs.Prelude.{◌*◌, ◌^◌, ◌≤◌, length};
 ghost use Rattle.specification.specs.Commands.{value_text, assignment_text};
 ghost use Rattle.evaluation.specs.Vectors.{vec_of, Within};

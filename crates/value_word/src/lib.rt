@@ -1,4 +1,6 @@
 // The word `value`: the value of a formula under the assignment of the line behind it.
+#![tactic(auto)]
+
 ghost use Rattle.std.specs.Prelude.{◌*◌, length, ◌≡◌};
 ghost use Rattle.specification.specs.Text.{skip};
 ghost use Rattle.specification.specs.Lines.{line_of};

@@ -1,4 +1,6 @@
 // The checker's answer in words.
+#![tactic(auto)]
+
 ghost use Rattle.specification.specs.Commands.{step_reason, count_text, checked_text};
 ghost use Rattle.specification.specs.Logs.{refused_at, accepted};
 ghost use Rattle.checker.specs.Answers.{checked_of};

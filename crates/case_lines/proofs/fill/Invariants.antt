@@ -1,0 +1,15 @@
+-- `case_lines::fill` meets its contract: the bytes before i are the filling. Assumes nothing.
+use mathlib.Core.Path.{◌≡◌, refl, ◌∙◌}
+use Prim.Native.Nat.{ℕ, ◌-◌, ◌<◌}
+use native.Mathlib.Omega.{arith}
+use native.Mathlib.Nat.{not-suc-le-zero}
+use lib.ListN.{length, get_or, length-set}
+use Rattle.case_lines.specs.Filling.{filling}
+use Rattle.case_lines.proofs.Filling.{filled_more}
+use Rattle.case_lines.proofs.fill.Given as goal
+
+abbrev pub invariant-loop-i : goal.invariant-loop-i
+invariant-loop-i l = (length l.s ≡ length l.initial.s) × ((x : ℕ) → x < l.i → get_or l.s x 0 ≡ filling)
+
+abbrev pub decreases-loop-i : goal.decreases-loop-i
+decreases-loop-i l = length l.initial.s - l.i

@@ -1,0 +1,8 @@
+-- `case_lines::front` is safe. Assumes nothing.
+use Rattle.std.proofs.Common.{rules}
+use mathlib.Core.Path.{sym}
+use lib.Seq.{length-take-le}
+use Rattle.case_lines.proofs.front.Goals as goal
+
+pub slice_bounds-result-end : goal.slice_bounds-result-end
+slice_bounds-result-end c = sym (length-take-le _ _ c.if-s-n.false)

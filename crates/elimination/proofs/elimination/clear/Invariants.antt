@@ -1,0 +1,16 @@
+-- `elimination::elimination::clear` meets its contract: the bytes before i are 0. Assumes nothing.
+use mathlib.Core.Path.{◌≡◌, refl, ◌∙◌}
+use mathlib.Core.List.{[]}
+use Prim.Native.Nat.{ℕ, ◌-◌, ◌≤◌, ◌<◌}
+use native.Mathlib.Omega.{arith}
+use native.Mathlib.Nat.{not-suc-le-zero}
+use lib.Seq.{drop-set-lt}
+use lib.ListN.{length, get_or, drop, length-set}
+use Rattle.elimination.proofs.Choices.{written_more}
+use Rattle.elimination.proofs.elimination.clear.Given as goal
+
+abbrev pub invariant-loop-i : goal.invariant-loop-i
+invariant-loop-i l = (length l.buffer ≡ length l.initial.buffer) × (l.i ≤ l.n) × ((x : ℕ) → x < l.i → get_or l.buffer x 0 ≡ 0) × (drop l.n l.buffer ≡ drop l.n l.initial.buffer)
+
+abbrev pub decreases-loop-i : goal.decreases-loop-i
+decreases-loop-i l = l.n - l.i

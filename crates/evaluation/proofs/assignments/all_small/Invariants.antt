@@ -1,0 +1,16 @@
+-- `evaluation::assignments::all_small` meets its contract: the bytes from i on decide. Assumes nothing.
+use mathlib.Core.Path.{◌≡◌, refl, sym, ◌∙◌}
+use Prim.Native.Nat.{◌-◌, ◌≤◌}
+use native.Mathlib.Omega.{arith}
+use borrow.Author.Tests.{not-true, not-false}
+use lib.ListN.{length, drop}
+use Rattle.specification.specs.Lists.{all}
+use Rattle.specification.specs.Evaluation.{six_or_less}
+use Rattle.evaluation.proofs.Assigned.{byte-fails, byte-passes, bytes-end}
+use Rattle.evaluation.proofs.assignments.all_small.Given as goal
+
+abbrev pub invariant-loop-i : goal.invariant-loop-i
+invariant-loop-i l = (l.i ≤ length l.s) × (all six_or_less l.s ≡ all six_or_less (drop l.i l.s))
+
+abbrev pub decreases-loop-i : goal.decreases-loop-i
+decreases-loop-i l = length l.s - l.i

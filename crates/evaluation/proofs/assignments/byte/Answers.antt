@@ -1,0 +1,8 @@
+-- `evaluation::assignments::byte` meets its contract. Assumes nothing.
+use Rattle.std.proofs.Common.{rules}
+use mathlib.Core.Path.{sym}
+use lib.ListN.{get_or-eq_default}
+use Rattle.evaluation.proofs.assignments.byte.Goals as goal
+
+pub returns : goal.returns
+returns c = sym (get_or-eq_default c.args.s.now 0 c.if-i-s.false)

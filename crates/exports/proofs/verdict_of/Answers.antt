@@ -1,0 +1,22 @@
+-- `exports::verdict_of` meets its contract. Assumes nothing.
+use Rattle.std.proofs.Common.{rules}
+use mathlib.Core.Path.{◌∙◌, sym, ap}
+use Rattle.specification.specs.Returns.{returned, decision_returned}
+use Rattle.integers.proofs.Machine.{back_is}
+use Rattle.decision.specs.Answers.{decision_of}
+use Rattle.decision.specs.declared.Decision.{Decision}
+use Rattle.exports.proofs.verdict_of.Goals as goal
+
+pub returns-in-Holds : goal.returns-in-Holds
+unfolding returned decision_returned decision_of
+returns-in-Holds c = sym (ap (λ (d : Decision). decision_returned (decision_of d)) c.in-Holds.is)
+
+pub returns-in-Differs : goal.returns-in-Differs
+unfolding returned decision_returned decision_of
+returns-in-Differs c = sym (ap (λ (d : Decision). decision_returned (decision_of d)) c.in-Differs.is)
+
+pub returns-in-Refused : goal.returns-in-Refused
+unfolding returned decision_returned decision_of
+returns-in-Refused c =
+    let c2 = c in
+    back_is (record { sfits = c.refusal.type_inv }) ∙ c.refusal.ensures ∙ sym (ap (λ (d : Decision). decision_returned (decision_of d)) c2.in-Refused.is)

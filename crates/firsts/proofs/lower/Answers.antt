@@ -1,0 +1,15 @@
+-- `firsts::lower` meets its contract. Assumes nothing.
+use Rattle.std.proofs.Common.{rules}
+use Rattle.firsts.proofs.Numbers.{lowered-earlier, lowered-later}
+use Rattle.firsts.proofs.lower.Goals as goal
+
+pub returns-then-is_before : goal.returns-then-is_before
+returns-then-is_before c =
+    let put = c.put_numbers in
+    lowered-earlier _ _ _ _ _ _ _ c.eliminate.ensures
+    c.is_before.ensures c.if-is_before.true
+    put.auto.0 put.ensures.0 put.ensures.1
+
+pub returns-else-is_before : goal.returns-else-is_before
+returns-else-is_before c =
+    lowered-later _ _ _ _ _ _ c.eliminate.ensures c.is_before.ensures c.if-is_before.false

@@ -1,0 +1,12 @@
+use Rattle.std.proofs.Common.{rules}
+use Rattle.letters.proofs.LetterTests.{part_none, part-letter, part-wedge}
+use Rattle.letters.proofs.test_part.Goals as goal
+
+pub returns-in-Nothing : goal.returns-in-Nothing
+returns-in-Nothing c = part_none _ _ c.in-Nothing.is
+
+pub returns-in-Letter : goal.returns-in-Letter
+returns-in-Letter c = part-letter _ _ _ _ c.in-Letter.is c.test_letter.ensures
+
+pub returns-in-Wedge : goal.returns-in-Wedge
+returns-in-Wedge c = part-wedge _ _ _ _ _ c.in-Wedge.is c.test_two.ensures

@@ -1,0 +1,14 @@
+-- `lines::places::is_empty_line` meets its contract. The loop's invariant: what is left decides. Assumes nothing.
+use Rattle.specification.specs.Lines.{is_empty_line}
+use mathlib.Core.Path.{◌≡◌, refl}
+use lib.ListN.{length, drop}
+use Prim.Native.Nat.{◌-◌}
+use native.Mathlib.Omega.{arith}
+use Rattle.lines.proofs.Ends.{not_empty, blank-passed, all_blank}
+use Rattle.lines.proofs.places.is_empty_line.Given as goal
+
+abbrev pub invariant-loop-i : goal.invariant-loop-i
+invariant-loop-i l = is_empty_line l.line ≡ is_empty_line (drop l.i l.line)
+
+abbrev pub decreases-loop-i : goal.decreases-loop-i
+decreases-loop-i l = length l.line - l.i

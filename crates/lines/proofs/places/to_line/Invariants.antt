@@ -1,0 +1,12 @@
+-- `lines::places::to_line` meets its contract. The loop's invariant: what is left to be passed (`PassingFrom`). Assumes nothing.
+use Rattle.lines.specs.Places.{place_of}
+use borrow.Author.Tests.{not-true, not-false}
+use native.Mathlib.Omega.{arith}
+use Rattle.lines.proofs.Ends.{PassingFrom, passing_begins, passing-done, passing-ends, passing-stands, passing_on}
+use Rattle.lines.proofs.places.to_line.Given as goal
+
+abbrev pub invariant-loop-left : goal.invariant-loop-left
+invariant-loop-left l = PassingFrom l.s (place_of l.s l.initial.q) l.q l.left
+
+abbrev pub decreases-loop-left : goal.decreases-loop-left
+decreases-loop-left l = l.left

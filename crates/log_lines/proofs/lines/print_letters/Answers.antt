@@ -1,0 +1,68 @@
+-- `log_lines::lines::print_letters` meets its contract: before each turn the letters from i on are left, with two bytes of room for each. Assumes nothing.
+use Rattle.std.proofs.Common.{rules}
+use mathlib.Core.Path.{◌≡◌, refl, ap, sym}
+use mathlib.Core.List.{List, [], ◌∷◌}
+use Prim.Native.Nat.{ℕ, ◌+◌, ◌-◌, ◌*◌, ◌≤◌, ◌<◌}
+use native.Mathlib.Omega.{arith}
+use native.Mathlib.Numerals.{towards_suc}
+use lib.ListN.{length, length-set, get_or}
+use Rattle.specification.specs.Printing.{name_of}
+use Rattle.terms.proofs.Arrays.{all-at}
+use Rattle.record_writing.proofs.Writes.{written_stores}
+use Rattle.symbols.proofs.Progress.{UnderWay, begins, goes_on_lem, ended}
+use Rattle.log_lines.proofs.Texts.{letters_from, letter_next, letters-end}
+use Rattle.log_lines.proofs.lines.print_letters.Goals.{Start}
+use Rattle.log_lines.proofs.lines.print_letters.Goals as goal
+
+-- there are six letters
+places : (c : Start) → length c.args.letters ≡ 6
+places c = search rules
+
+-- so that those printed are among them
+few : (c : Start) → c.args.n ≤ length c.args.letters
+few c = omega (arith, places c, c.requires.0)
+
+pub loop-i-init : goal.loop-i-init
+loop-i-init c = (omega (arith, c.requires.2), begins _ _ _)
+
+pub bounds-out-next : goal.bounds-out-next
+bounds-out-next c = omega (arith, c.loop-i.invariant.0)
+
+pub bounds-letters-i : goal.bounds-letters-i
+bounds-letters-i c = omega (arith, c.requires.0)
+
+pub letter-requires : goal.letter-requires
+letter-requires c =
+    let s = c in
+    all-at (λ (k : ℕ). k < length s.args.names.now) s.args.letters s.args.n _ 0 (few (goal.at.letter-requires c).Start) c.loop-i-test.true s.requires.1
+
+pub overflow_add-out : goal.overflow_add-out
+overflow_add-out c = let l = c in omega (arith, l.loop-i.invariant.0, l.loop-i.invariant.1.kept)
+
+pub bounds-out-next-in-loop-i : goal.bounds-out-next-in-loop-i
+bounds-out-next-in-loop-i c = simp length-set (omega (arith, c.loop-i.invariant.0))
+
+pub overflow_add-next : goal.overflow_add-next
+overflow_add-next c = let l = c in omega (arith, l.loop-i.invariant.0, l.loop-i.invariant.1.kept)
+
+pub overflow_add-i : goal.overflow_add-i
+overflow_add-i c = omega (arith, c.requires.0)
+
+pub loop-i-preserved : goal.loop-i-preserved
+loop-i-preserved c =
+    let l = c in
+    let s = c in
+    let i = c.loop-i-test.true in
+    let r : l.loop-i.next + 2 ≤ length l.loop-i.out = omega (arith, l.loop-i.invariant.0, i) in
+    let two : List ℕ = 32 ∷ name_of s.args.names.now (get_or s.args.letters l.loop-i.i 0) ∷ [] in
+    let e : two ≡ 32 ∷ c.letter.result ∷ [] = ap (λ (x : ℕ). 32 ∷ x ∷ []) (sym c.letter.ensures) in (
+      simp length-set (omega (arith, l.loop-i.invariant.0, i)),
+      goes_on_lem _ _ _ _ _ _ _ _ _ _ (letter_next _ _ _ _ (few (goal.at.loop-i-preserved c).Start) i) r l.loop-i.invariant.1
+          (written_stores _ _ _ _ (32 ∷ c.letter.result ∷ []) two e r refl (simp towards_suc)),
+    )
+
+pub shape_of-out : goal.shape_of-out
+shape_of-out c = c.loop-i.invariant.1.kept
+
+pub returns : goal.returns
+returns c = ended _ _ _ _ _ _ (letters-end _ _ _ _ (few (goal.at.returns c).Start) c.loop-i-test.false) c.loop-i.invariant.1

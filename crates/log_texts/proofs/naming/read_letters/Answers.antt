@@ -1,0 +1,55 @@
+-- `log_texts::naming::read_letters` meets its contract. The loop's invariant: what is left to be read is the whole (`LettersFrom`). Assumes nothing.
+use Rattle.std.proofs.Common.{rules}
+use mathlib.Core.Path.{refl}
+use Prim.Native.Nat.{◌-◌}
+use native.Mathlib.Omega.{arith}
+use Rattle.specification.specs.LogTexts.{read_letters_at}
+use Rattle.log_texts.proofs.Marks.{LettersFrom, letters-begin, letters_refused, letters_more, letters-done}
+use Rattle.log_texts.proofs.naming.read_letters.Goals as goal
+
+pub loop-i-init : goal.loop-i-init
+loop-i-init c = let a = c.args in letters-begin a.names.now a.line.now a.at a.n _ refl
+
+pub one_letter-q-requires : goal.one_letter-q-requires
+one_letter-q-requires c =
+    let c4 = c in
+    c4.requires.1
+
+pub returns-then-q-ne0 : goal.returns-then-q-ne0
+returns-then-q-ne0 c =
+    let c2 = c in
+    let c3 = c in
+    let c4 = c in
+    let c7 = c in
+    let v = c4.loop-i in
+    letters_refused _ c7.args.names.now c7.args.line.now _ _ _ _ v.invariant c3.loop-i-test.true c7.requires.0 _ c2.one_letter-q.ensures
+    c.if-q-ne0.true
+
+pub bounds-letters-i : goal.bounds-letters-i
+bounds-letters-i c =
+    let c3 = c in
+    let c4 = c in
+    let c7 = c in
+    omega (arith, c3.loop-i-test.true, c7.requires.0, c4.loop-i.invariant.six)
+
+pub overflow_add-i : goal.overflow_add-i
+overflow_add-i c =
+    let c3 = c in
+    let c7 = c in
+    omega (arith, c3.loop-i-test.true, c7.requires.0)
+
+pub loop-i-smaller : goal.loop-i-smaller
+loop-i-smaller c = omega (arith, c.loop-i-test.true)
+
+pub loop-i-preserved : goal.loop-i-preserved
+loop-i-preserved c =
+    let c2 = c in
+    let c3 = c in
+    let c4 = c in
+    let c7 = c in
+    let v = c4.loop-i in
+    letters_more _ c7.args.names.now c7.args.line.now _ _ _ _ v.invariant c3.loop-i-test.true c7.requires.0 _ c2.one_letter-q.ensures
+    c.if-q-ne0.false
+
+pub returns : goal.returns
+returns c = letters-done _ _ _ _ _ _ _ c.loop-i.invariant c.loop-i-test.false

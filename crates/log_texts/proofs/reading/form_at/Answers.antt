@@ -1,0 +1,15 @@
+-- `log_texts::reading::form_at` meets its contract. Assumes nothing.
+use Rattle.std.proofs.Common.{rules}
+use mathlib.Core.Path.{ap}
+use Rattle.specification.specs.LogTexts.{read_form_line}
+use Rattle.lines.proofs.Ends.{line_at}
+use Rattle.formula_call.proofs.Given.{gives_as}
+use Rattle.log_texts.proofs.reading.form_at.Goals as goal
+
+pub returns : goal.returns
+returns c =
+    let c2 = c in
+    let c6 = c in
+    let a = c6.args in
+    gives_as _ _ _ (ap (read_form_line a.names.now a.table.now) (line_at a.s.now a.p _ c2.line_end-end.ensures))
+    c.read_form_line.ensures

@@ -1,0 +1,14 @@
+-- `log_texts::reading::is_step_line` meets its contract. Assumes nothing.
+use Rattle.std.proofs.Common.{rules}
+use mathlib.Core.Path.{ap, ◌∙◌}
+use Rattle.specification.specs.LogTexts.{is_step_line}
+use Rattle.specification.specs.Lines.{is_word_at}
+use Rattle.specification.specs.Words.{bytes}
+use Rattle.log_texts.proofs.reading.is_step_line.Goals as goal
+
+pub returns : goal.returns
+unfolding is_step_line bytes
+returns c =
+    let c2 = c in
+    let c4 = c in
+    c.is_word_at.ensures ∙ ap (is_word_at (bytes "rule") c4.args.line.now) c2.past_blanks-at.ensures

@@ -1,0 +1,12 @@
+-- `log_texts::reading::stands_step` meets its contract. Assumes nothing.
+use Rattle.std.proofs.Common.{rules}
+use mathlib.Core.Path.{ap, ◌∙◌}
+use Rattle.specification.specs.LogTexts.{is_step_line}
+use Rattle.lines.proofs.Ends.{line_at}
+use Rattle.log_texts.proofs.reading.stands_step.Goals as goal
+
+pub returns : goal.returns
+returns c =
+    let c2 = c in
+    let c4 = c in
+    c.is_step_line.ensures ∙ ap is_step_line (line_at _ c4.args.p _ c2.line_end-end.ensures)

@@ -1,0 +1,16 @@
+-- `log_texts::reading::step_at` meets its contract. Assumes nothing.
+use Rattle.std.proofs.Common.{rules}
+use mathlib.Core.List.{List}
+use mathlib.Core.Path.{subst}
+use Prim.Native.Nat.{ℕ}
+use Rattle.lines.proofs.Ends.{line_at}
+use Rattle.log_texts.specs.Steps.{StepLineRead}
+use Rattle.log_texts.proofs.reading.step_at.Goals as goal
+
+pub returns : goal.returns
+returns c =
+    let c2 = c in
+    let c6 = c in
+    let a = c6.args in
+    subst (λ (l : List ℕ). StepLineRead a.names.now a.table.now l c.read_step_line.result)
+    (line_at a.s.now a.p _ c2.line_end-end.ensures) c.read_step_line.ensures

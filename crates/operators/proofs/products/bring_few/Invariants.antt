@@ -1,0 +1,20 @@
+-- `operators::products::bring_few` meets its contract: the first i terms are brought in. Assumes nothing.
+use mathlib.Core.Path.{◌≡◌, refl, sym, subst}
+use mathlib.Core.Logic.{⊎_elim}
+use Prim.Native.Nat.{◌+◌, ◌*◌, ◌-◌, ◌≤◌}
+use native.Mathlib.Omega.{arith}
+use lib.ListN.{length}
+use Rattle.gathering.specs.Bringing.{coef_bound, Bringable}
+use Rattle.rows.proofs.RowForms.{light_more}
+use Rattle.sums.specs.Results.{Brought}
+use Rattle.sums.proofs.Bringing.{brought_none}
+use Rattle.operators.specs.Products.{few_bound}
+use Rattle.operators.proofs.Multiplying.{few_taken, few_more, few_all}
+use Rattle.operators.proofs.products.bring_few.Given as goal
+
+abbrev pub invariant-loop-i : goal.invariant-loop-i
+invariant-loop-i l = (l.i ≤ l.m) × Brought l.i l.n l.initial.rows l.initial.coefs (few_taken l.few l.i) l.count l.rows l.coefs
+    × (length l.rows ≡ length l.initial.rows) × (length l.coefs ≡ length l.initial.coefs)
+
+abbrev pub decreases-loop-i : goal.decreases-loop-i
+decreases-loop-i l = l.m - l.i

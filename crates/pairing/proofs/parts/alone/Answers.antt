@@ -1,0 +1,7 @@
+use Rattle.std.proofs.Common.{rules}
+use Rattle.terms.specs.Abstraction.{term_of, part_of}
+use Rattle.pairing.proofs.parts.alone.Goals as goal
+
+pub returns : goal.returns
+unfolding term_of part_of
+returns c = search rules

@@ -1,0 +1,27 @@
+use Rattle.std.proofs.Common.{rules}
+use mathlib.Core.Path.{◌≡◌, ◌∙◌, ap}
+use Prim.Native.Nat.{ℕ, ◌%◌}
+use mathlib.Core.List.{◌∷◌, []}
+use lib.ListN.{get_or}
+use mathlib.Core.Logic.{⊎_elim}
+use lib.Dec.{eqb}
+use Rattle.specification.specs.Results.{if◌then◌else◌}
+use Rattle.picks.proofs.Picks.{rule-ordered, chosen, not_chosen}
+use Rattle.picks.proofs.choosing.in_rule_order.Goals as goal
+
+pub returns : goal.returns
+returns c = let w = c in
+    let x = w.args.x.now in
+    let y = w.args.y.now in
+    let d : c.if-rule-eq2.d ≡ (if eqb w.args.rule 2 then get_or x 3
+    0 else get_or y 0 0) =
+    ⊎_elim (λ v. v.2 ∙ chosen (get_or x 3 0) (get_or y 0 0) w.args.rule 2 v.0.taken) (λ v. v.1 ∙ not_chosen (get_or x 3 0) (get_or y 0 0)
+    w.args.rule 2 v.0.left) c.if-rule-eq2.branch in
+    let e : c.if-rule-eq3.e ≡ (if eqb w.args.rule 3 then get_or x 3 0 else get_or y 1
+    0) =
+    ⊎_elim (λ v. v.2 ∙ chosen (get_or x 3 0) (get_or y 1 0) w.args.rule 3 v.0.taken) (λ v. v.1 ∙ not_chosen (get_or x 3 0) (get_or y 1 0)
+    w.args.rule 3 v.0.left) c.if-rule-eq3.branch in
+    rule-ordered w.args.rule w.requires.0 x y _ w.requires.1 w.requires.2
+    (λ i. c.low-l0.ensures i ∷ c.low-l1.ensures
+    i ∷ c.low-l2.ensures i ∷ (c.low-l3.ensures
+    ∙ ap (λ (n : ℕ). n % 256) d) i ∷ (c.low-l4.ensures ∙ ap (λ (n : ℕ). n % 256) e) i ∷ c.low-l5.ensures i ∷ [])

@@ -1,0 +1,38 @@
+-- `polynomials::variables::cut_off` meets its contract: so much is cut, and the digits `k` are left. Assumes nothing.
+use Rattle.std.proofs.Common.{rules}
+use mathlib.Core.Logic.{⊎_elim}
+use native.Mathlib.Omega.{arith}
+use Rattle.polynomials.proofs.Digits.{Cutting, cut-starts, cut_none, cut_same, cut-other, cut_last, cut-kept, count_few, product-most, place-most, counted_as}
+use Rattle.polynomials.proofs.variables.cut_off.Goals as goal
+
+pub loop-k-init : goal.loop-k-init
+loop-k-init c = cut-starts _ _ c.ranges.key.fits
+
+pub overflow_mul-m : goal.overflow_mul-m
+overflow_mul-m c = omega (arith, product-most _ _ _ _ _ c.loop-k.invariant, c.ranges.key.fits)
+
+pub returns-then-a-d : goal.returns-then-a-d
+returns-then-a-d c = cut-other _ _ _ _ _ c.loop-k.invariant c.loop-k-test.true c.if-a-ne0.true c.if-a-d.true
+
+pub overflow_add-e : goal.overflow_add-e
+overflow_add-e c = omega (arith, count_few _ _ _ _ _ c.loop-k.invariant)
+
+pub overflow_mul-place : goal.overflow_mul-place
+overflow_mul-place c = omega (arith, place-most _ _ _ _ _ c.loop-k.invariant c.loop-k-test.true, c.ranges.key.fits)
+
+pub loop-k-preserved : goal.loop-k-preserved
+loop-k-preserved c =
+    ⊎_elim (λ w. counted_as w.2 (cut_same _ _ _ _ _ c.loop-k.invariant c.loop-k-test.true w.0.taken w.1.left))
+    (λ w. counted_as w.1 (cut_none _ _ _ _ _ c.loop-k.invariant c.loop-k-test.true w.0.left)) c.if-a-ne0.branch
+
+pub overflow_add-f : goal.overflow_add-f
+overflow_add-f c = omega (arith, count_few _ _ _ _ _ c.loop-k.invariant)
+
+pub returns-then-k-d : goal.returns-then-k-d
+returns-then-k-d c = cut_last _ _ _ _ _ c.loop-k.invariant c.loop-k-test.false c.requires c.if-k-d.true
+
+pub overflow_mul-m-2 : goal.overflow_mul-m-2
+overflow_mul-m-2 c = omega (arith, product-most _ _ _ _ _ c.loop-k.invariant, c.ranges.key.fits)
+
+pub returns : goal.returns
+returns c = cut-kept _ _ _ _ _ c.loop-k.invariant c.loop-k-test.false c.if-k-d.false

@@ -1,0 +1,72 @@
+use Rattle.std.proofs.Common.{rules}
+use mathlib.Core.Path.{sym, ap, ◌∙◌}
+use Prim.Native.Nat.{◌+◌, ◌*◌, ◌≤◌, ◌<◌}
+use native.Mathlib.Omega.{arith}
+use borrow.Author.Tests.{not-true, not-false}
+use lib.ListN.{length, get_or}
+use Rattle.specification.specs.Results.{given}
+use Rattle.specification.specs.Terms as S
+use Rattle.terms.specs.Abstraction.{Counted}
+use Rattle.records.specs.Reading.{fields_of}
+use Rattle.records.proofs.Readers.{stays, goes, refuses, factors-absent, factors_refused, factors_given, stand-says, small_product, fields-counted, fields-appended}
+use Rattle.records.proofs.read.read_factors.Goals.{After-shared_slice_known-2-1, Start}
+use Rattle.records.proofs.read.read_factors.Goals as goal
+
+-- the tests before the factors say that the count and all of them are there
+says : (c : After-shared_slice_known-2-1) → (c.args.r.next < length c.args.s.now) × (1 ≤ get_or c.args.s.now c.args.r.next 0) × (get_or c.args.s.now c.args.r.next 0 ≤ c.args.most) × (c.args.r.next + 1 + get_or c.args.s.now c.args.r.next 0 * c.args.size ≤ length c.args.s.now)
+says c = stand-says c.args.s.now c.args.r.next c.args.most c.args.size (sym c.factors_stand.ensures ∙ c.if-not-factors_stand.false)
+
+-- the factors at the start
+counted : (c : Start) → Counted (fields_of c.args.r c.args.f.now).term
+unfolding fields_of
+counted c = fields-counted c.args.r.coef c.args.r.count c.args.f.now c.requires.0
+
+pub returns-then-not-r : goal.returns-then-not-r
+unfolding fields_of
+returns-then-not-r c = (stays _ _ _ (counted (goal.at.returns-then-not-r c).Start) (not-true _ c.if-not-r.true), c.requires.4)
+
+pub returns-then-not-there : goal.returns-then-not-there
+unfolding fields_of
+returns-then-not-there c = (goes _ _ _ (counted (goal.at.returns-then-not-there c).Start) (not-false _ c.if-not-r.false) _ (not-false _ c.if-not-r.false) (factors-absent _ _ _ _ _ _ c.if-not-there.true) (counted (goal.at.returns-then-not-there c).Start) (omega arith), c.requires.4)
+
+pub factors_stand-requires : goal.factors_stand-requires
+factors_stand-requires c = c.requires.3
+
+pub returns-then-not-factors_stand : goal.returns-then-not-factors_stand
+unfolding fields_of
+returns-then-not-factors_stand c = let w = c in (refuses _ _ _ (counted (goal.at.returns-then-not-factors_stand c).Start) (not-false _ c.if-not-r.false) (factors_refused w.args.s.now w.args.r.next w.args.most w.args.size _ _ c.if-not-there.false (sym c.factors_stand.ensures ∙ c.if-not-factors_stand.true)) _ (c.refuse_fields.ensures.is w.args.f.now, c.refuse_fields.ensures.stands w.args.f.now), w.requires.4)
+
+pub bounds-s-at : goal.bounds-s-at
+bounds-s-at c = (says (goal.at.bounds-s-at c).After-shared_slice_known-2-1).0
+
+pub overflow_cast-n : goal.overflow_cast-n
+overflow_cast-n c = omega (arith, c.type_inv.s c.args.r.next)
+
+pub overflow_add-at : goal.overflow_add-at
+overflow_add-at c = omega (arith, (says (goal.at.overflow_add-at c).After-shared_slice_known-2-1).0)
+
+pub append_factors-requires : goal.append_factors-requires
+append_factors-requires c = let w = says (goal.at.append_factors-requires c).After-shared_slice_known-2-1 in let q = c.requires in (q.0, omega (arith, w.2, q.1), q.2, q.3, w.3, q.4)
+
+pub overflow_add-q : goal.overflow_add-q
+overflow_add-q c = omega (arith, (says (goal.at.overflow_add-q c).After-shared_slice_known-2-1).0)
+
+pub overflow_mul-q : goal.overflow_mul-q
+overflow_mul-q c = record { fits = small_product _ _ (c.type_inv.s c.args.r.next).fits c.requires.3 }
+
+pub overflow_add-q-2 : goal.overflow_add-q-2
+overflow_add-q-2 c = omega (arith, (says (goal.at.overflow_add-q-2 c).After-shared_slice_known-2-1).3)
+
+pub returns : goal.returns
+unfolding fields_of
+returns c =
+    let w = c in
+    let v = says (goal.at.returns c).After-shared_slice_known-2-1 in
+    let h = c.append_factors.ensures.0 in
+    let n = get_or w.args.s.now w.args.r.next 0 in (
+      goes _ _ _ (counted (goal.at.returns c).Start) (not-false _ c.if-not-r.false) _ (not-false _ c.if-not-r.false)
+          (factors_given w.args.s.now w.args.r.next w.args.most w.args.size _ _ c.if-not-there.false (sym c.factors_stand.ensures ∙ c.if-not-factors_stand.false)
+          ∙ ap (λ (t : S.Term). given (t, w.args.r.next + 1 + n * w.args.size)) (fields-appended w.args.r.coef w.args.r.count n w.args.f.now _ _ h))
+          (fields-counted w.args.r.coef (w.args.r.count + n) _ h.counted) (omega (arith, v.2)),
+      c.append_factors.ensures.1,
+    )

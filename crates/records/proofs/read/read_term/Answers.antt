@@ -1,0 +1,24 @@
+use Rattle.std.proofs.Common.{rules}
+use mathlib.Core.Path.{sym, ◌∙◌}
+use Rattle.records.proofs.Readers.{term-behind, term-bad-bits, term-fields}
+use borrow.Author.Tests.{not-true, not-false}
+use Rattle.records.proofs.read.read_term.Goals as goal
+
+pub returns-then-at-s : goal.returns-then-at-s
+returns-then-at-s c = record { is = c.refuse.ensures.0 ∙ term-behind _ _ c.if-at-s.true; counted = rw c.refuse.ensures.1 c.begin.ensures.1 }
+
+pub returns-then-not-bits_fit : goal.returns-then-not-bits_fit
+returns-then-not-bits_fit c =
+    record {
+      is = c.refuse-then-not-bits_fit.ensures.0 ∙ term-bad-bits _ _ c.if-at-s.false
+          (sym c.bits_fit.ensures ∙ c.if-not-bits_fit.true);
+      counted = rw c.refuse-then-not-bits_fit.ensures.1 c.begin-then-not-bits_fit.ensures.1;
+    }
+
+pub returns : goal.returns
+returns c =
+    record {
+      is = c.read_fields.ensures.is ∙ term-fields _ _ c.if-at-s.false
+          (sym c.bits_fit.ensures ∙ c.if-not-bits_fit.false);
+      counted = c.read_fields.ensures.counted;
+    }

@@ -1,0 +1,76 @@
+-- `reduce_word::reduce_lines` meets its contract. The loop's invariant: what is left to be told is the whole (`LinesFrom`). Assumes nothing.
+use Rattle.std.proofs.Common.{rules}
+use Rattle.lines.specs.Places.{place_of}
+use Rattle.specification.specs.Commands.{reduce_lines}
+use lib.ListN.{length}
+use mathlib.Core.List.{[]}
+use mathlib.Core.Path.{◌≡◌, refl, ◌∙◌}
+use native.Mathlib.Omega.{arith}
+use Rattle.formula_lines.proofs.Forms.{text-printable}
+use Rattle.reduce_word.proofs.Forms.{LinesFrom, lines-begin, lines_end, lines-done, lines_refused, lines_more}
+use Rattle.reduce_word.proofs.reduce_lines.Goals as goal
+
+pub loop-left-init : goal.loop-left-init
+loop-left-init c = (lines-begin _ _ _ _ _ c.requires.1, refl)
+
+pub shape_of-out-then-q-n : goal.shape_of-out-then-q-n
+shape_of-out-then-q-n c = c.loop-left.invariant.1
+
+pub returns-then-q-n : goal.returns-then-q-n
+returns-then-q-n c = lines_end _ _ _ _ _ _ _ _ c.loop-left.invariant.0 c.if-q-n.true
+
+pub form_at-r-requires : goal.form_at-r-requires
+form_at-r-requires c =
+    (c.requires.0, c.loop-left.invariant.0.inside)
+
+pub shape_of-out-then-r-ne0 : goal.shape_of-out-then-r-ne0
+shape_of-out-then-r-ne0 c = c.loop-left.invariant.1
+
+pub returns-then-r-ne0 : goal.returns-then-r-ne0
+returns-then-r-ne0 c =
+    let c2 = c in
+    let c3 = c in
+    let c5 = c in
+    let c6 = c in
+    let c11 = c in
+    lines_refused c11.args.s.now _ _ _ _ _ _ _ c6.loop-left.invariant.0 c5.loop-left-test.true c3.if-q-n.false _ c2.form_at-r.ensures _ c.if-r-ne0.true
+
+pub tell_form-end-requires : goal.tell_form-end-requires
+tell_form-end-requires c =
+    let c2 = c in
+    let c4 = c in
+    let c13 = c in
+    text-printable _ _ c13.requires.0 _ _ c4.form_at-r.ensures c2.if-r-ne0.false
+
+pub line_behind-q-requires : goal.line_behind-q-requires
+line_behind-q-requires c =
+    (c.loop-left.invariant.0.inside, c.if-q-n.false)
+
+pub overflow_sub-left : goal.overflow_sub-left
+overflow_sub-left c =
+    omega (arith, c.loop-left-test.true)
+
+pub loop-left-smaller : goal.loop-left-smaller
+loop-left-smaller c =
+    omega (arith, c.loop-left-test.true)
+
+pub loop-left-preserved : goal.loop-left-preserved
+loop-left-preserved c =
+    let c3 = c in
+    let c6 = c in
+    let c8 = c in
+    let c9 = c in
+    let c11 = c in
+    let c12 = c in
+    let c17 = c in
+    let i = c12.loop-left.invariant in (
+      lines_more (c17).args.s.now _ _ _ _ _ _ _ i.0 c11.loop-left-test.true c9.if-q-n.false _ c8.form_at-r.ensures _ _ _ c6.if-r-ne0.false
+          c3.tell_form-end.ensures c.line_behind-q.ensures,
+      c3.tell_form-end.auto.1.0 ∙ i.1,
+    )
+
+pub shape_of-out : goal.shape_of-out
+shape_of-out c = c.loop-left.invariant.1
+
+pub returns : goal.returns
+returns c = lines-done _ _ _ _ _ _ _ _ c.loop-left.invariant.0 c.loop-left-test.false

@@ -1,0 +1,36 @@
+-- `refusals::tell_refusal` meets its contract, piece by piece. Assumes nothing.
+use Rattle.std.proofs.Common.{rules}
+use Rattle.refusals.specs.Places.{place_text}
+use Rattle.specification.specs.Commands.{refusal_text}
+use Rattle.specification.specs.Words.{bytes}
+use mathlib.Core.Path.{◌∙◌}
+use native.Mathlib.Omega.{arith}
+use Rattle.telling.proofs.Pieces.{tells-then}
+use Rattle.refusals.proofs.tell_refusal.Goals as goal
+
+pub shape_of-out : goal.shape_of-out
+shape_of-out c =
+    let c2 = c in
+    let c7 = c in
+    let c11 = c in
+    let c16 = c in
+    let c20 = c in
+    let c25 = c in
+    let c29 = c in
+    let c34 = c in
+    c2.put.auto.0 ∙ c7.put_blanks-g.auto.0 ∙ c11.put-f.auto.0 ∙ c16.put-e.auto.0 ∙ c20.put-d.auto.0 ∙ c25.tell_reason-c.auto.0 ∙ c29.put-b.auto.0 ∙
+    c34.tell_place-a.auto.0
+
+pub returns : goal.returns
+unfolding refusal_text place_text bytes
+returns c =
+    let c2 = c in
+    let c7 = c in
+    let c11 = c in
+    let c16 = c in
+    let c20 = c in
+    let c25 = c in
+    let c29 = c in
+    let c34 = c in
+    tells-then (tells-then (tells-then (tells-then (tells-then (tells-then (tells-then c34.tell_place-a.ensures c29.put-b.ensures) c25.tell_reason-c.ensures)
+    c20.put-d.ensures) c16.put-e.ensures) c11.put-f.ensures) c7.put_blanks-g.ensures) c2.put.ensures

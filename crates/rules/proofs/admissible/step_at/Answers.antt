@@ -1,0 +1,72 @@
+-- `rules::admissible::step_at` meets its contract: the shape, the letters, then the step. Assumes nothing.
+use Rattle.std.proofs.Common.{rules}
+use mathlib.Core.Path.{◌≡◌, refl, ap, ◌∙◌}
+use native.Mathlib.Omega.{arith}
+use lib.ListN.{length}
+use lib.IntN.{ℤ}
+use borrow.Author.Tests.{not-true, not-false}
+use Rattle.specification.specs.Terms.{term_in_shape}
+use Rattle.specification.specs.Terms as S
+use Rattle.integers.proofs.Machine.{back_is}
+use Rattle.terms.specs.Abstraction.{term_of}
+use Rattle.rows.specs.Rows.{form_by}
+use Rattle.rows.proofs.RowForms.{rows_refused, rows_as}
+use Rattle.rules.proofs.Alone.{no_rule, no_shape, letters_refused, step-valid, step-decides}
+use Rattle.rules.proofs.admissible.step_at.Goals.{After-in_shape, Start}
+use Rattle.rules.proofs.admissible.step_at.Goals as goal
+
+six : (c : Start) → length c.args.s.letters ≡ 6
+six c = search rules
+
+-- the form that the rows stand for
+abbrev form : (c : Start) → S.Form
+form c = form_by c.args.kind c.args.n c.args.rows.now c.args.coefs.now
+
+-- whether M is in shape, its coefficient read back as it was stored
+shape : (c : After-in_shape) → c.in_shape.result ≡ term_in_shape (term_of c.args.s.m)
+shape c =
+    c.in_shape.ensures
+    ∙ ap (λ (z : ℤ). term_in_shape (term_of (record {
+      coef = z;
+      factors = c.args.s.m.factors;
+      factor_count = c.args.s.m.factor_count;
+      part =
+          c.args.s.m.part;
+    })))
+    (back_is {z = c.args.s.m.coef} (record {
+      sfits =
+          c.struct_told-1.given.0.1;
+    }))
+
+pub returns-then-not-is_rule : goal.returns-then-not-is_rule
+returns-then-not-is_rule c = let a = c in record { reached = rows_refused _ _ 11 _ _ refl (λ z. omega arith) (no_rule a.args.table.now (form (goal.at.returns-then-not-is_rule c).Start) a.args.s (six (goal.at.returns-then-not-is_rule c).Start) _ c.is_rule.ensures
+      c.if-not-is_rule.true); kind = refl }
+
+pub returns-then-not-in_shape : goal.returns-then-not-in_shape
+returns-then-not-in_shape c = let a = c in record { reached = rows_refused _ _ 11 _ _ refl (λ z. omega arith)
+      (no_shape a.args.table.now (form (goal.at.returns-then-not-in_shape c).Start) a.args.s (six (goal.at.returns-then-not-in_shape c).Start) _ c.is_rule.ensures
+      c.if-not-is_rule.false _ (shape (goal.at.returns-then-not-in_shape c).After-in_shape) c.if-not-in_shape.true); kind = refl }
+
+pub returns-then-r-ne0 : goal.returns-then-r-ne0
+returns-then-r-ne0 c = let a = c in record { reached = rows_refused _ _ _ _ _ refl c.if-r-ne0.true
+      (letters_refused a.args.table.now (form (goal.at.returns-then-r-ne0 c).Start) a.args.s (six (goal.at.returns-then-r-ne0 c).Start) _ c.is_rule.ensures c.if-not-is_rule.false _ (shape (goal.at.returns-then-r-ne0 c).After-in_shape)
+      c.if-not-in_shape.false
+      _ c.test_step_letters-r.ensures c.if-r-ne0.true); kind = refl }
+
+pub take_step-requires : goal.take_step-requires
+take_step-requires c = let a = c in (
+  a.requires.0,
+  step-valid a.args.table.now (form (goal.at.take_step-requires c).Start) a.args.s (six (goal.at.take_step-requires c).Start) _ c.is_rule.ensures c.if-not-is_rule.false
+      _ (shape (goal.at.take_step-requires c).After-in_shape) c.if-not-in_shape.false a.requires.1,
+  a.requires.2,
+  a.requires.3,
+  a.requires.0.light,
+  omega arith,
+)
+
+pub returns : goal.returns
+returns c = let a = c in record { reached = rows_as _ _ _ _ _
+      (step-decides a.args.table.now (form (goal.at.returns c).Start) a.args.s (six (goal.at.returns c).Start) _ c.is_rule.ensures c.if-not-is_rule.false _ (shape (goal.at.returns c).After-in_shape)
+      c.if-not-in_shape.false
+      _ c.test_step_letters-r.ensures c.if-r-ne0.false)
+      c.take_step.ensures.0; kind = c.take_step.ensures.1.0 }

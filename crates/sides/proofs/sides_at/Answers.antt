@@ -1,0 +1,14 @@
+-- `sides::sides_at` meets its contract. Assumes nothing.
+use Rattle.std.proofs.Common.{rules}
+use mathlib.Core.Path.{ap}
+use Rattle.specification.specs.Commands.{read_sides}
+use Rattle.lines.proofs.Ends.{line_at}
+use Rattle.sides.proofs.Pairs.{sides_as}
+use Rattle.sides.proofs.sides_at.Goals as goal
+
+pub returns : goal.returns
+returns c =
+    let c2 = c in
+    let c6 = c in
+    let a = c6.args in
+    sides_as _ _ _ _ (ap (read_sides a.names.now a.table.now) (line_at a.s.now a.p _ c2.line_end-end.ensures)) c.read_sides.ensures

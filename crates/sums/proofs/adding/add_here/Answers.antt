@@ -1,0 +1,17 @@
+-- `sums::adding::add_here` meets its contract: the rows brought in where the others stand, then the limits tested. Assumes nothing.
+use Rattle.std.proofs.Common.{rules}
+use Rattle.sums.proofs.Closing.{limits-give}
+use Rattle.sums.proofs.Sums.{sum-gathered, sum_gives}
+use native.Mathlib.Omega.{arith}
+use Rattle.sums.proofs.adding.add_here.Goals as goal
+
+pub bring_rows-count-requires : goal.bring_rows-count-requires
+bring_rows-count-requires c = let p = c.requires in (p.0.run, p.0.light, record { kind = _; form = p.1 }, p.2, p.3)
+
+pub test_limits-r-requires : goal.test_limits-r-requires
+test_limits-r-requires c = (c.bring_rows-count.ensures.run.beside, λ h. absurd (omega (arith, h)))
+
+pub returns : goal.returns
+returns c =
+    let p = c.requires in let b = c.bring_rows-count.ensures in
+    sum_gives _ _ _ _ _ _ _ p.0 p.1 _ _ _ b _ _ _ (limits-give _ _ _ _ (sum-gathered _ _ _ _ _ _ _ p.0 p.1 _ _ _ b) _ c.test_limits-r.ensures)

@@ -1,0 +1,28 @@
+-- `symbols::print_triple` meets its contract: five stores. Assumes nothing.
+use Rattle.std.proofs.Common.{rules}
+use mathlib.Core.Path.{refl}
+use mathlib.Core.List.{[], ◌∷◌}
+use native.Mathlib.Omega.{arith}
+use native.Mathlib.Numerals.{towards_suc}
+use lib.ListN.{length-set}
+use Rattle.record_writing.proofs.Writes.{written_stores}
+use Rattle.symbols.proofs.Pieces.{triple-stored}
+use Rattle.symbols.proofs.print_triple.Goals as goal
+
+pub bounds-out-at-2 : goal.bounds-out-at-2
+bounds-out-at-2 c = simp length-set (omega arith)
+
+pub bounds-out-at-3 : goal.bounds-out-at-3
+bounds-out-at-3 c = simp length-set (omega arith)
+
+pub bounds-out-at-4 : goal.bounds-out-at-4
+bounds-out-at-4 c = simp length-set (omega arith)
+
+pub bounds-out-at-5 : goal.bounds-out-at-5
+bounds-out-at-5 c = simp length-set (omega arith)
+
+pub returns : goal.returns
+returns c =
+    written_stores _ _ _ _ (40 ∷ c.letter.result ∷ c.letter-2.result ∷ c.letter-3.result ∷ 41 ∷ []) _
+    (triple-stored _ _ _ _ _ _ c.letter.ensures c.letter-2.ensures c.letter-3.ensures)
+    c.requires.3 refl (simp towards_suc)

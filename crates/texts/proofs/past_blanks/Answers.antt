@@ -1,0 +1,22 @@
+use Rattle.std.proofs.Common.{rules}
+use mathlib.Core.Path.{◌≡◌, refl, sym, ◌∙◌}
+use Prim.Native.Nat.{◌-◌}
+use native.Mathlib.Omega.{arith}
+use lib.ListN.{length}
+use Rattle.specification.specs.Text.{skip}
+use Rattle.texts.proofs.Standing.{blank-passed, blank_none, blanks_end}
+use Rattle.texts.proofs.past_blanks.Reads as reads
+use Rattle.texts.proofs.past_blanks.Lts as lts
+use Rattle.texts.proofs.past_blanks.Goals as goal
+
+pub loop-i-init : goal.loop-i-init
+loop-i-init c = refl
+
+pub returns-then-s-i-ne32 : goal.returns-then-s-i-ne32
+returns-then-s-i-ne32 c = sym (blank_none c.args.s.now c.loop-i.i c.if-s-i-ne32.true) ∙ c.loop-i.invariant
+
+pub loop-i-preserved : goal.loop-i-preserved
+loop-i-preserved c = blank-passed c.args.s.now c.loop-i.i c.if-s-i-ne32.false ∙ c.loop-i.invariant
+
+pub returns : goal.returns
+returns c = sym (blanks_end c.args.s.now c.loop-i.i (omega arith)) ∙ c.loop-i.invariant

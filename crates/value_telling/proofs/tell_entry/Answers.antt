@@ -1,0 +1,26 @@
+-- `value_telling::tell_entry` meets its contract, piece by piece. Assumes nothing.
+use Rattle.std.proofs.Common.{rules}
+use Rattle.specification.specs.Words.{bytes}
+use Rattle.telling.proofs.Pieces.{tells-then, tells_as, tells-nothing}
+use Rattle.value_telling.proofs.Entries.{entry-last, entry_before}
+use Rattle.value_telling.proofs.tell_entry.Goals as goal
+
+pub returns-then-left-eq0 : goal.returns-then-left-eq0
+unfolding bytes
+returns-then-left-eq0 c =
+    let c3 = c in
+    let c7 = c in
+    let c12 = c in
+    tells_as _ (entry-last _ _ _ _ c.if-left-eq0.true)
+    (tells-then (tells-then (tells-then c12.put_byte-a.ensures c7.put-b.ensures) c3.tell_value-c.ensures) (tells-nothing _ _))
+
+pub returns : goal.returns
+unfolding bytes
+returns c =
+    let c2 = c in
+    let c5 = c in
+    let c8 = c in
+    let c12 = c in
+    let c17 = c in
+    tells_as _ (entry_before _ _ _ _ c5.if-left-eq0.false)
+    (tells-then (tells-then (tells-then c17.put_byte-a.ensures c12.put-b.ensures) c8.tell_value-c.ensures) c2.put.ensures)
