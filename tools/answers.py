@@ -27,8 +27,8 @@ def write(path, text):
         f.write(text)
 
 
-def lent_of():
-    """Of each function in src/ the parameters that are references."""
+def sources():
+    """Of each function in src/ its parameters, and the names of its ensures clauses."""
     found = {}
     for folder, _, files in os.walk("crates"):
         at = re.match(r"crates/(\w+)/src((?:/\w+)*)$", folder)
@@ -36,8 +36,9 @@ def lent_of():
             if not it.endswith(".rt"):
                 continue
             mods = [at[1], *at[2].strip("/").split("/"), *([] if it in ("lib.rt", "main.rt") else [it[:-3]])]
-            for name, params in re.findall(r"fn (\w+)\(([^)]*)\)", read(os.path.join(folder, it))):
-                found["::".join([*filter(None, mods), name])] = re.findall(r"(\w+): &", params)
+            for name, params, clauses in re.findall(r"(?ms)fn (\w+)\(([^)]*)\)(.*?)^\{", read(os.path.join(folder, it))):
+                path = "::".join([*filter(None, mods), name])
+                found[path] = (re.findall(r"(\w+): ", params), re.findall(r"ensures (\w+) \{", clauses))
     return found
 
 
@@ -138,13 +139,14 @@ def path_turned(path, function, places, typed={}):
     rest = [{"type-inv": "type_inv"}.get(it, it) for it in rest]
     if step in function.within and rest and rest[0] in function.within[step]:
         rest = [function.within[step][rest[0]], *rest[1:]]
-    if rest[:1] == ["new"] and len(rest) > 1 and rest[1].isdigit() and step in function.callees:
-        lent = LENT.get(function.callees[step], [])
+    if rest[:1] in (["new"], ["auto"], ["kept"], ["ensures"]) and len(rest) > 1 and rest[1].isdigit() and step in function.callees:
+        params, clauses = SOURCES.get(function.callees[step], ([], []))
+        named = clauses if rest[0] == "ensures" else params
         k = 1
-        while k < len(rest) and rest[k] == "1":
+        while k < len(rest) and rest[k] == "1" and k < len(named):
             k += 1
-        if k - 1 < len(lent):
-            rest = ["new", lent[k - 1], *rest[k + 1 :]]
+        if k - 1 < len(named):
+            rest = [{"kept": "auto"}.get(rest[0], rest[0]), named[k - 1], *rest[k + (rest[k : k + 1] == ["0"]) :]]
     if step in ("pre", "requires") and rest and rest[0].isdigit() and function.fields:
         k = 0
         while k < len(rest) and rest[k] == "1" and k + 1 < len(function.fields):
@@ -161,10 +163,21 @@ PATH = re.compile(r"(?<![\w.'-])[A-Za-z][\w'₀-]*(?:\.(?:«[^»]*»|[\w'₀·-]
 def turned(text, function, goal=None, helpers={}):
     """The paths of an answer, or of a lemma over a place. What is handed on as a place whole is named by goal.at, by the place that the lemma asks."""
     at = {"c"} | set(re.findall(r"\(([a-z][\w']*) : [A-Z][\w-]*\)", text))
+    if "module _ (" in text:
+        print(f"look: {function.crate} {function.path}: a module with parameters")
     for name, of in re.findall(r"let ([a-z][\w']*) =\s+([a-z][\w']*)(?:\.before)*\s+in", text):
         if of in at:
             at.add(name)
-    text = re.sub(r"let ([a-z][\w']*) =\s+([a-z][\w']*)((?:\.before)+)\s+in", lambda it: f"let {it[1]} = {'c' if goal else it[2]} in" if it[2] in at else it[0], text)
+
+    def opened(it):
+        if it[2] not in at:
+            return it[0]
+        if goal:
+            return f"let {it[1]} = c in"
+        is_handed = len(re.findall(rf"(?<![\w.'-]){re.escape(it[1])}(?![\w.'₀-])", text)) > 1
+        return it[0] if is_handed else f"let {it[1]} = {it[2]} in"
+
+    text = re.sub(r"let ([a-z][\w']*) =\s+([a-z][\w']*)((?:\.before)+)\s+in", opened, text)
     # that a value is of its type is found without a path
     text = re.sub(r"sym \(length-map [\w.'-]+ _\) ∙ [\w.]+\.(?:good|well[-_]formed)[.\d]*", "search rules", text)
     text = re.sub(r", [\w.]+\.(?:good|well[-_]formed)[.\d]+\)", ")", text)
@@ -181,7 +194,7 @@ def turned(text, function, goal=None, helpers={}):
 
         names = "|".join(re.escape(it) for it in sorted(helpers, key=len, reverse=True))
         vars = "|".join(re.escape(it) for it in at)
-        text = re.sub(rf"(?<![\w.'-])({names})\s+((?:{vars})(?:\.before)*)(?![\w.'₀-])", handed, text)
+        text = re.sub(rf"(?<![\w.'-])({names})\s+((?:{vars})(?:\.before)*)(?![\w.'₀-])(?!(?: κs| _)?\s*=)", handed, text)
     where = function.at.get(goal) if goal else next((dash(a) for a, b in function.places.items() if f": {b})" in text.split("\n")[0]), None)
     typed = function.typed.get(where, {})
     text = PATH.sub(lambda it: path_turned(it[0], function, at, typed), text)
@@ -203,6 +216,14 @@ def placed(text, function):
         return new
 
     return re.sub(rf"tie\.({ID})((?: (?:invariant|decreases)-[\w'-]+)*)", one, text)
+
+
+def bare_ways(text, ways):
+    names = "|".join(re.escape(it) for it in sorted(ways, key=len, reverse=True))
+    of = r"[a-z][\w']*(?:\.before)*"
+    text = re.sub(rf"\((?:{names}) ({of})\)\.", r"\1.", text)
+    text = re.sub(rf"\((?:{names}) ({of})\)", r"\1", text)
+    return re.sub(rf"(?<![\w.'-])(?:{names}) ({of})(?![\w.'-])", r"\1", text)
 
 
 def as_record(body, fields):
@@ -282,12 +303,23 @@ def convert(folder, function):
             todo.append((note, body, m[1] + "-" + m[2], m[1]))
             continue
         todo.append((note, body, name, "help"))
+    # what only leads from a place to an earlier one is not needed: an earlier step is a field of each later place
+    ways = set()
+    for note, body, name, kind in todo:
+        of = re.match(rf"(?s)(?:(?:abbrev|unfoldable|pub) )*{re.escape(name or '')} : tie\.[^\n]*→ tie\.[^\n]*\n{re.escape(name or '')} \w+ = ([\w.' -]+)$", body)
+        if kind == "help" and of and all(it in ways or re.fullmatch(r"\w+(\.before)*", it) for it in of[1].split()):
+            ways.add(name)
+    if ways:
+        todo = [(note, bare_ways(body, ways), name, kind) for note, body, name, kind in todo if name not in ways]
     helpers = {}
     for note, body, name, kind in todo:
         if kind == "help":
             of = re.match(rf"(?:(?:abbrev|unfoldable|pub) )*{re.escape(name)} : \([a-z]\w* : tie\.({ID})", body)
             if of and dash(of[1]) in function.places:
                 helpers[name] = function.places[dash(of[1])]
+    for goal in renamed.values():
+        if function.places.get(function.at.get(goal)):
+            helpers[goal] = function.places[function.at[goal]]
     for note, body, name, kind in todo:
         if kind in ("invariant", "decreases"):
             loop = dash(name.split("-", 1)[1])
@@ -324,11 +356,11 @@ def convert(folder, function):
             head_of_goal, _, body = body.partition("\n")
             while body.startswith(" "):
                 body = body.partition("\n")[2]
-        body = turned(body, function, name if kind == "goal" else None, helpers)
         if renamed:
             body = re.sub(
                 rf"(?<![\w.'₀-])({'|'.join(re.escape(it) for it in sorted(renamed, key=len, reverse=True))})(?![\w'₀-])", lambda it: renamed[it[1]], body
             )
+        body = turned(body, function, name if kind == "goal" else None, helpers)
         if kind == "goal":
             rest = body
             # lifetimes are no longer an argument
@@ -367,11 +399,11 @@ def convert(folder, function):
     os.remove(os.path.join(folder, "Proof.antt"))
 
 
-LENT = {}
+SOURCES = {}
 
 
 def main():
-    LENT.update(lent_of())
+    SOURCES.update(sources())
     names, crates = sys.argv[1], sys.argv[2:]
     for crate in crates:
         path = f"{names}/crates/{crate}/names.json"

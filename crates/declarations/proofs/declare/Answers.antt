@@ -22,10 +22,10 @@ one_name-r-requires c =
     (i.0.few, omega (arith, c8.requires.1, i.1), omega (arith, c8.requires.2, i.2))
 
 pub shape_of-names-then-r-ne0 : goal.shape_of-names-then-r-ne0
-shape_of-names-then-r-ne0 c = c.one_name-r.auto.1.1.1.0 ∙ c.loop-left.invariant.1
+shape_of-names-then-r-ne0 c = c.one_name-r.auto.names ∙ c.loop-left.invariant.1
 
 pub shape_of-table-then-r-ne0 : goal.shape_of-table-then-r-ne0
-shape_of-table-then-r-ne0 c = c.one_name-r.auto.1.1.1.1.0 ∙ c.loop-left.invariant.2
+shape_of-table-then-r-ne0 c = c.one_name-r.auto.table ∙ c.loop-left.invariant.2
 
 pub returns-then-r-ne0 : goal.returns-then-r-ne0
 returns-then-r-ne0 c =
@@ -46,7 +46,7 @@ loop-left-preserved c =
     let c9 = c in
     let c10 = c in
     let i = c10.loop-left.invariant in
-    (names_more _ _ _ _ _ _ _ _ i.0 c9.loop-left-test.true _ _ _ c6.one_name-r.ensures c.if-r-ne0.false, c6.one_name-r.auto.1.1.1.0 ∙ i.1, c6.one_name-r.auto.1.1.1.1.0 ∙ i.2)
+    (names_more _ _ _ _ _ _ _ _ i.0 c9.loop-left-test.true _ _ _ c6.one_name-r.ensures c.if-r-ne0.false, c6.one_name-r.auto.names ∙ i.1, c6.one_name-r.auto.table ∙ i.2)
 
 pub shape_of-names : goal.shape_of-names
 shape_of-names c = c.loop-left.invariant.1

@@ -48,13 +48,13 @@ pub shape_of-names-then-r-ne0 : goal.shape_of-names-then-r-ne0
 shape_of-names-then-r-ne0 c =
     let c6 = c in
     let c12 = c in
-    c6.declare_at-r.auto.1.1.0 ∙ c12.loop-left.invariant.1
+    c6.declare_at-r.auto.names ∙ c12.loop-left.invariant.1
 
 pub shape_of-table-then-r-ne0 : goal.shape_of-table-then-r-ne0
 shape_of-table-then-r-ne0 c =
     let c6 = c in
     let c12 = c in
-    c6.declare_at-r.auto.1.1.1.0 ∙ c12.loop-left.invariant.2
+    c6.declare_at-r.auto.table ∙ c12.loop-left.invariant.2
 
 pub returns-then-r-ne0 : goal.returns-then-r-ne0
 returns-then-r-ne0 c =
@@ -99,8 +99,8 @@ loop-left-preserved c =
       header_more c19.args.s.now _ _ _ _ _ (omega (arith, c19.requires.0, i.1)) i.0 c13.loop-left-test.true _ c12.declares.ensures (not-false _
           c11.if-not-declares.false-raw) _ _ _ c8.declare_at-r.ensures _ c2.if-r-ne0.false (to_next _ _ _ _ c1.next_place-q.ensures
           c.to_line-p-in-loop-left.ensures),
-      c8.declare_at-r.auto.1.1.0 ∙ i.1,
-      c8.declare_at-r.auto.1.1.1.0 ∙ i.2,
+      c8.declare_at-r.auto.names ∙ i.1,
+      c8.declare_at-r.auto.table ∙ i.2,
     )
 
 pub some_names-requires-2 : goal.some_names-requires-2

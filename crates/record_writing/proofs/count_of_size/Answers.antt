@@ -9,7 +9,7 @@ use Rattle.specification.specs.Lists.{select}
 use Rattle.specification.specs.Records.{factors_of}
 use Rattle.terms.specs.Abstraction.{term_of}
 use Rattle.record_writing.proofs.Factors.{sized, counted_more, counted_same}
-use Rattle.record_writing.proofs.count_of_size.Goals.{Start}
+use Rattle.record_writing.proofs.count_of_size.Goals.{else-letter_count-size, then-letter_count-size, Start}
 use Rattle.record_writing.proofs.count_of_size.Goals as goal
 
 -- there are five places
@@ -30,9 +30,10 @@ pub loop-i-preserved : goal.loop-i-preserved
 loop-i-preserved c =
     let w = c in
     let h : w.loop-i.i < length w.args.t.factors = omega (arith, places (goal.at.loop-i-preserved c).Start) in
-    ⊎_elim (λ v. (omega arith, omega (arith, v.1), counted_more _ _ _ _ h c.letter_count.ensures _ _ v.0.taken w.loop-i.invariant.2 v.1))
-    (λ v. (omega arith, omega (arith, v.1), counted_same _ _ _ _ h c.letter_count.ensures _ _ v.0.left w.loop-i.invariant.2 v.1))
-    c.if-letter_count-size.branch
+    elim c.if-letter_count-size.branch [
+      | then-letter_count-size v ↦ (omega arith, omega (arith, v.count-is), counted_more _ _ _ _ h c.letter_count.ensures _ _ v.if-letter_count-size.true w.loop-i.invariant.2 v.count-is)
+      | else-letter_count-size v ↦ (omega arith, omega (arith, v.count-is), counted_same _ _ _ _ h c.letter_count.ensures _ _ v.if-letter_count-size.false w.loop-i.invariant.2 v.count-is)
+    ]
 
 pub returns : goal.returns
 unfolding factors_of term_of

@@ -17,7 +17,7 @@ coef-fits c = record { sfits = c.type_inv.t.0.1 }
 
 -- the test is whether it is 1
 tested : (c : After-is_one) → c.is_one.result ≡ is_one c.args.t.coef
-tested c = c.is_one.ensures ∙ ap is_one (back_is (coef-fits c.before))
+tested c = c.is_one.ensures ∙ ap is_one (back_is (record { sfits = c.type_inv.t.0.1 }))
 
 pub returns-then-is_one : goal.returns-then-is_one
 returns-then-is_one c = written_none _ _ _ (coef-left_out _ _ (tested (goal.at.returns-then-is_one c).After-is_one) c.if-is_one.true)

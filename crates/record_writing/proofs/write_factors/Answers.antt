@@ -29,9 +29,9 @@ pub write_joined-requires : goal.write_joined-requires
 write_joined-requires c = (c.requires.0, simp length-set (room (goal.at.write_joined-requires c).Else-count-eq0))
 
 pub shape_of-out : goal.shape_of-out
-shape_of-out c = c.write_joined.auto.0 ∙ simp length-set
+shape_of-out c = c.write_joined.auto.out ∙ simp length-set
 
 pub returns : goal.returns
 returns c =
     let w = c in
-    count_written _ _ _ _ _ _ (bounds-out-at w) w.count_of_size-count.ensures w.if-count-eq0.false c.write_joined.ensures
+    count_written _ _ _ _ _ _ (omega (arith, room (goal.at.returns c).Else-count-eq0)) w.count_of_size-count.ensures w.if-count-eq0.false c.write_joined.ensures

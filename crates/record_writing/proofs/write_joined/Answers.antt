@@ -12,7 +12,7 @@ use Rattle.record_writing.specs.Written.{Written}
 use Rattle.record_writing.proofs.Writes.{written_none}
 use Rattle.terms.proofs.Arrays.{all-at}
 use Rattle.record_writing.proofs.Factors.{sized, joined-none, joined-room, joined_written, joined_same}
-use Rattle.record_writing.proofs.write_joined.Goals.{Start}
+use Rattle.record_writing.proofs.write_joined.Goals.{else-letter_count-size, then-letter_count-size, Start}
 use Rattle.record_writing.proofs.write_joined.Goals as goal
 
 -- there are five places
@@ -51,14 +51,18 @@ loop-i-preserved c =
     let s = c in
     let h : w.loop-i.i < length s.args.t.factors = omega (arith, places (goal.at.loop-i-preserved c).Start) in
     let e = c.letter_count.ensures in
-    ⊎_elim
-    (λ v. (
-      omega arith,
-      rw v.5 (v.2.kept.0 ∙ w.loop-i.invariant.1),
-      rw (v.5, v.6) (joined_written _ _ _ _ h e _ _ _ _ _ _ v.0.taken (omega arith) w.loop-i.invariant.2 v.2.ensures),
-    ))
-    (λ v. (omega arith, rw v.1 w.loop-i.invariant.1, rw (v.1, v.2) (joined_same _ _ _ _ h e _ _ _ _ v.0.left w.loop-i.invariant.2)))
-    c.if-letter_count-size.branch
+    elim c.if-letter_count-size.branch [
+      | then-letter_count-size v ↦ (
+        omega arith,
+        rw v.out-is (v.write_letters-next.auto.out ∙ w.loop-i.invariant.1),
+        rw (v.out-is, v.next-is) (joined_written _ _ _ _ h e _ _ _ _ _ _ v.if-letter_count-size.true (omega arith) w.loop-i.invariant.2 v.write_letters-next.ensures),
+      )
+      | else-letter_count-size v ↦ (
+        omega arith,
+        rw v.out-is w.loop-i.invariant.1,
+        rw (v.out-is, v.next-is) (joined_same _ _ _ _ h e _ _ _ _ v.if-letter_count-size.false w.loop-i.invariant.2),
+      )
+    ]
 
 pub shape_of-out : goal.shape_of-out
 shape_of-out c = c.loop-i.invariant.1

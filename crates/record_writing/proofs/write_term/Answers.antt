@@ -6,40 +6,24 @@ use lib.ListN.{length, length-set}
 use Rattle.terms.specs.Abstraction.{part_of}
 use Rattle.record_writing.proofs.Bits.{part_bit-small}
 use Rattle.record_writing.proofs.Terms.{fields_short, term_written}
-use Rattle.record_writing.proofs.write_term.Goals.{After-write_coef-scalars, After-write_factors-dots, After-write_factors-part, After-write_factors-triples, After-write_part-end, Start}
+use Rattle.record_writing.proofs.write_term.Goals.{After-write_coef-scalars, After-write_factors-dots, After-write_factors-part, After-write_factors-triples, After-write_part-end}
 use Rattle.record_writing.proofs.write_term.Goals as goal
 
--- where the function starts, as seen behind each call
-abbrev from-coef : After-write_coef-scalars → Start
-from-coef c = c.before.before.before
-
-abbrev from-scalars : After-write_factors-dots → Start
-from-scalars c = from-coef c.before.before.before.before
-
-abbrev from-dots : After-write_factors-triples → Start
-from-dots c = from-scalars c.before.before.before.before
-
-abbrev from-triples : After-write_factors-part → Start
-from-triples c = from-dots c.before.before.before.before
-
-abbrev from_part : After-write_part-end → Start
-from_part c = from-triples c.before.before.before.before
-
 -- each call keeps the length
-coef-kept : (c : After-write_coef-scalars) → length c.write_coef-scalars.new.out ≡ length (from-coef c).args.out.now
-coef-kept c = c.write_coef-scalars.auto.0
+coef-kept : (c : After-write_coef-scalars) → length c.write_coef-scalars.new.out ≡ length c.args.out.now
+coef-kept c = c.write_coef-scalars.auto.out
 
-scalars-kept : (c : After-write_factors-dots) → length c.write_factors-dots.new.out ≡ length (from-scalars c).args.out.now
-scalars-kept c = c.write_factors-dots.auto.0 ∙ coef-kept c.before.before.before.before
+scalars-kept : (c : After-write_factors-dots) → length c.write_factors-dots.new.out ≡ length c.args.out.now
+scalars-kept c = c.write_factors-dots.auto.out ∙ coef-kept c.before.before.before.before
 
-dots-kept : (c : After-write_factors-triples) → length c.write_factors-triples.new.out ≡ length (from-dots c).args.out.now
-dots-kept c = c.write_factors-triples.auto.0 ∙ scalars-kept c.before.before.before.before
+dots-kept : (c : After-write_factors-triples) → length c.write_factors-triples.new.out ≡ length c.args.out.now
+dots-kept c = c.write_factors-triples.auto.out ∙ scalars-kept c.before.before.before.before
 
-triples-kept : (c : After-write_factors-part) → length c.write_factors-part.new.out ≡ length (from-triples c).args.out.now
-triples-kept c = c.write_factors-part.auto.0 ∙ dots-kept c.before.before.before.before
+triples-kept : (c : After-write_factors-part) → length c.write_factors-part.new.out ≡ length c.args.out.now
+triples-kept c = c.write_factors-part.auto.out ∙ dots-kept c.before.before.before.before
 
-part-kept : (c : After-write_part-end) → length c.write_part-end.new.out ≡ length (from_part c).args.out.now
-part-kept c = c.write_part-end.auto.0 ∙ triples-kept c.before.before.before.before
+part-kept : (c : After-write_part-end) → length c.write_part-end.new.out ≡ length c.args.out.now
+part-kept c = c.write_part-end.auto.out ∙ triples-kept c.before.before.before.before
 
 pub write_coef-scalars-requires : goal.write_coef-scalars-requires
 write_coef-scalars-requires c = let s = c in (s.requires.0, omega (arith, fields_short s.args.t s.requires.0, s.requires.1))
@@ -47,27 +31,27 @@ write_coef-scalars-requires c = let s = c in (s.requires.0, omega (arith, fields
 pub write_factors-dots-requires : goal.write_factors-dots-requires
 write_factors-dots-requires c =
     let w = c in
-    let s = from-coef w in
-    (s.pre.0.counted, omega (arith, fields_short s.args.t s.pre.0, s.pre.1, coef-kept (goal.at.write_factors-dots-requires c).After-write_coef-scalars, w.write_coef-scalars.ensures.ends))
+    let s = w in
+    (s.requires.0.counted, omega (arith, fields_short s.args.t s.requires.0, s.requires.1, coef-kept (goal.at.write_factors-dots-requires c).After-write_coef-scalars, w.write_coef-scalars.ensures.ends))
 
 pub write_factors-triples-requires : goal.write_factors-triples-requires
 write_factors-triples-requires c =
     let w = c in
     let v = c in
-    let s = from-scalars w in
-    (s.pre.0.counted, omega (arith, fields_short s.args.t s.pre.0, s.pre.1, scalars-kept (goal.at.write_factors-triples-requires c).After-write_factors-dots, v.write_coef-scalars.ensures.ends, w.write_factors-dots.ensures.ends))
+    let s = w in
+    (s.requires.0.counted, omega (arith, fields_short s.args.t s.requires.0, s.requires.1, scalars-kept (goal.at.write_factors-triples-requires c).After-write_factors-dots, v.write_coef-scalars.ensures.ends, w.write_factors-dots.ensures.ends))
 
 pub write_factors-part-requires : goal.write_factors-part-requires
 write_factors-part-requires c =
     let w = c in
     let v = c in
     let u = c in
-    let s = from-dots w in (
-      s.pre.0.counted,
+    let s = w in (
+      s.requires.0.counted,
       omega (
         arith,
-        fields_short s.args.t s.pre.0,
-        s.pre.1,
+        fields_short s.args.t s.requires.0,
+        s.requires.1,
         dots-kept (goal.at.write_factors-part-requires c).After-write_factors-triples,
         u.write_coef-scalars.ensures.ends,
         v.write_factors-dots.ensures.ends,
@@ -81,11 +65,11 @@ write_part-end-requires c =
     let v = c in
     let u = c in
     let x = c in
-    let s = from-triples w in
+    let s = w in
     omega (
       arith,
-      fields_short s.args.t s.pre.0,
-      s.pre.1,
+      fields_short s.args.t s.requires.0,
+      s.requires.1,
       triples-kept (goal.at.write_part-end-requires c).After-write_factors-part,
       x.write_coef-scalars.ensures.ends,
       u.write_factors-dots.ensures.ends,
@@ -134,11 +118,11 @@ overflow_add-out-4 c =
       c.field_bit-3.ensures.small,
       c.field_bit-4.ensures.small,
       c.part_bit.ensures,
-      part_bit-small (part_of (from_part w).args.t.part),
+      part_bit-small (part_of w.args.t.part),
     )
 
 pub bounds-out-at : goal.bounds-out-at
-bounds-out-at c = let w = c in omega (arith, part-kept (goal.at.bounds-out-at c).After-write_part-end, (from_part w).requires.1)
+bounds-out-at c = let w = c in omega (arith, part-kept (goal.at.bounds-out-at c).After-write_part-end, w.requires.1)
 
 pub shape_of-out : goal.shape_of-out
 shape_of-out c = simp length-set (part-kept (goal.at.shape_of-out c).After-write_part-end)
@@ -150,8 +134,8 @@ returns c =
     let dots = c in
     let scalars = c in
     let coef = c in
-    let s = from-coef coef in
-    term_written s.args.t _ _ _ _ _ _ _ _ _ _ _ _ _ _ _ _ _ s.pre.0 s.pre.1
+    let s = coef in
+    term_written s.args.t _ _ _ _ _ _ _ _ _ _ _ _ _ _ _ _ _ s.requires.0 s.requires.1
     coef.write_coef-scalars.ensures
     scalars.write_factors-dots.ensures
     dots.write_factors-triples.ensures

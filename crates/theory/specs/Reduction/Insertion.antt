@@ -135,7 +135,7 @@ module _ (table : List ℕ) where
   factor_tree-letters (a ∷ b ∷ []) h = ((h.0, omega arith), (h.1.0, omega arith))
   factor_tree-letters (a ∷ b ∷ c ∷ f) h =
       let k : All (Known table vector) (a ∷ b ∷ c ∷ f) =
-          subst (λ (one : Bool). All (Known table (if one then scalar else vector)) (a ∷ b ∷ c ∷ f)) (ne_eqb (length (a ∷ b ∷ c ∷ f)) 1 (λ z. omega arith)) h in
+      subst (λ (one : Bool). All (Known table (if one then scalar else vector)) (a ∷ b ∷ c ∷ f)) (ne_eqb (length (a ∷ b ∷ c ∷ f)) 1 (λ z. omega arith)) h in
       ((k.0, omega arith), (k.1.0, omega arith), (k.1.1.0, omega arith))
 
   times_factors-letters : (e : Expr) (fs : List (List ℕ)) → LettersIn table e → All (FactorKnown table) fs → LettersIn table (times_factors e fs)

@@ -20,10 +20,10 @@ four c = leb-true _ _ (sym c.room.ensures ∙ c.if-not-room.false)
 
 -- what they spell
 spelt : (c : After-four_bytes_at-k) → back c.four_bytes_at-k.result ≡ four_bytes_at c.args.s.now c.args.at
-spelt c = back_is (record { sfits = c.four_bytes_at-k.type_inv }) ∙ c.four_bytes_at-k.ensures.0
+spelt c = back_is (record { sfits = c.four_bytes_at-k.type_inv }) ∙ c.four_bytes_at-k.ensures.value
 
 one : (c : After-is_one) → c.is_one.result ≡ is_one (four_bytes_at c.args.s.now c.args.at)
-one c = c.is_one.ensures ∙ ap is_one (spelt c.before)
+one c = c.is_one.ensures ∙ ap is_one (back_is (record { sfits = c.four_bytes_at-k.type_inv }) ∙ c.four_bytes_at-k.ensures.value)
 
 pub returns-then-not-there : goal.returns-then-not-there
 returns-then-not-there c = coef-goes _ _ _ _ refl refl (coef-absent _ _ _ _ c.if-not-there.true)

@@ -9,11 +9,11 @@ use Rattle.specification.specs.Terms as S
 use Rattle.terms.specs.Abstraction.{Counted}
 use Rattle.records.specs.Reading.{fields_of}
 use Rattle.records.proofs.Readers.{stays, goes, refuses, factors-absent, factors_refused, factors_given, stand-says, small_product, fields-counted, fields-appended}
-use Rattle.records.proofs.read.read_factors.Goals.{After-shared_slice_known-2-1, Start}
+use Rattle.records.proofs.read.read_factors.Goals.{Else-not-factors_stand, Start}
 use Rattle.records.proofs.read.read_factors.Goals as goal
 
 -- the tests before the factors say that the count and all of them are there
-says : (c : After-shared_slice_known-2-1) → (c.args.r.next < length c.args.s.now) × (1 ≤ get_or c.args.s.now c.args.r.next 0) × (get_or c.args.s.now c.args.r.next 0 ≤ c.args.most) × (c.args.r.next + 1 + get_or c.args.s.now c.args.r.next 0 * c.args.size ≤ length c.args.s.now)
+says : (c : Else-not-factors_stand) → (c.args.r.next < length c.args.s.now) × (1 ≤ get_or c.args.s.now c.args.r.next 0) × (get_or c.args.s.now c.args.r.next 0 ≤ c.args.most) × (c.args.r.next + 1 + get_or c.args.s.now c.args.r.next 0 * c.args.size ≤ length c.args.s.now)
 says c = stand-says c.args.s.now c.args.r.next c.args.most c.args.size (sym c.factors_stand.ensures ∙ c.if-not-factors_stand.false)
 
 -- the factors at the start
@@ -37,31 +37,31 @@ unfolding fields_of
 returns-then-not-factors_stand c = let w = c in (refuses _ _ _ (counted (goal.at.returns-then-not-factors_stand c).Start) (not-false _ c.if-not-r.false) (factors_refused w.args.s.now w.args.r.next w.args.most w.args.size _ _ c.if-not-there.false (sym c.factors_stand.ensures ∙ c.if-not-factors_stand.true)) _ (c.refuse_fields.ensures.is w.args.f.now, c.refuse_fields.ensures.stands w.args.f.now), w.requires.4)
 
 pub bounds-s-at : goal.bounds-s-at
-bounds-s-at c = (says (goal.at.bounds-s-at c).After-shared_slice_known-2-1).0
+bounds-s-at c = (says (goal.at.bounds-s-at c).Else-not-factors_stand).0
 
 pub overflow_cast-n : goal.overflow_cast-n
 overflow_cast-n c = omega (arith, c.type_inv.s c.args.r.next)
 
 pub overflow_add-at : goal.overflow_add-at
-overflow_add-at c = omega (arith, (says (goal.at.overflow_add-at c).After-shared_slice_known-2-1).0)
+overflow_add-at c = omega (arith, (says (goal.at.overflow_add-at c).Else-not-factors_stand).0)
 
 pub append_factors-requires : goal.append_factors-requires
-append_factors-requires c = let w = says (goal.at.append_factors-requires c).After-shared_slice_known-2-1 in let q = c.requires in (q.0, omega (arith, w.2, q.1), q.2, q.3, w.3, q.4)
+append_factors-requires c = let w = says (goal.at.append_factors-requires c).Else-not-factors_stand in let q = c.requires in (q.0, omega (arith, w.2, q.1), q.2, q.3, w.3, q.4)
 
 pub overflow_add-q : goal.overflow_add-q
-overflow_add-q c = omega (arith, (says (goal.at.overflow_add-q c).After-shared_slice_known-2-1).0)
+overflow_add-q c = omega (arith, (says (goal.at.overflow_add-q c).Else-not-factors_stand).0)
 
 pub overflow_mul-q : goal.overflow_mul-q
 overflow_mul-q c = record { fits = small_product _ _ (c.type_inv.s c.args.r.next).fits c.requires.3 }
 
 pub overflow_add-q-2 : goal.overflow_add-q-2
-overflow_add-q-2 c = omega (arith, (says (goal.at.overflow_add-q-2 c).After-shared_slice_known-2-1).3)
+overflow_add-q-2 c = omega (arith, (says (goal.at.overflow_add-q-2 c).Else-not-factors_stand).3)
 
 pub returns : goal.returns
 unfolding fields_of
 returns c =
     let w = c in
-    let v = says (goal.at.returns c).After-shared_slice_known-2-1 in
+    let v = says (goal.at.returns c).Else-not-factors_stand in
     let h = c.append_factors.ensures.0 in
     let n = get_or w.args.s.now w.args.r.next 0 in (
       goes _ _ _ (counted (goal.at.returns c).Start) (not-false _ c.if-not-r.false) _ (not-false _ c.if-not-r.false)

@@ -14,7 +14,7 @@ scalars-few c = omega (arith, c.read_factors-r2.ensures.0.few, c.read_coef-r1.en
 
 dots-few : (c : After-read_factors-r3) → c.read_factors-r3.result.count ≤ 5
 unfolding fields_of
-dots-few c = omega (arith, c.read_factors-r3.ensures.0.few, scalars-few c.before.before.before)
+dots-few c = omega (arith, c.read_factors-r3.ensures.0.few, c.read_factors-r2.ensures.0.few, c.read_coef-r1.ensures.none)
 
 pub read_factors-r2-requires : goal.read_factors-r2-requires
 read_factors-r2-requires c = let z = c.read_coef-r1.ensures.none in (none_counted _ _ z, omega (arith, z), omega arith, omega arith, refl)
