@@ -62,12 +62,12 @@ class Function:
             old, new = it[2]
             if old:
                 self.steps.setdefault(dash(old), []).append(new)
+        # by place, what a step and its fields are as fields of an arm
         self.arms = {}
-        for arm in of["arms"]:
+        for it, arm in zip(of["places"], of["arms"]):
             for label, step, rest in arm[2] if arm else []:
-                if label.endswith("-own"):
-                    continue
-                self.arms[(dash(step), *rest)] = f"{arm[0]}.{label}"
+                self.arms.setdefault(dash(it[0]), {})[(dash(step), *rest)] = f"{arm[0]}.{label}"
+        self.step_of = {dash(it[0]): (dash(it[2][0]), it[2][1]) for it in of["places"]}
         self.loops = {}
         for (loop, variables), changed in zip(of["loops"], of["changed"]):
             self.loops[dash(loop[0])] = (loop[1], variables, changed)
@@ -104,7 +104,16 @@ def substitute(text, names):
     )
 
 
-def path_turned(path, function, places, typed={}):
+def above(function, place):
+    """The place and those that lead to it, the nearest first."""
+    seen = []
+    while place and place not in seen:
+        seen.append(place)
+        place = function.parent.get(place)
+    return seen
+
+
+def path_turned(path, function, places, typed={}, where=None):
     """A path c.before.before.step.field as it is written today."""
     parts = path.split(".")
     if parts[0] not in places or len(parts) < 2:
@@ -116,8 +125,9 @@ def path_turned(path, function, places, typed={}):
         return path
     step, rest = parts[at], parts[at + 1 :]
     key = dash(step.strip("«»"))
+    chain = above(function, where)
     for n in range(len(rest), -1, -1):
-        arm = function.arms.get((key, *rest[:n]))
+        arm = next((function.arms[it][(key, *rest[:n])] for it in chain if (key, *rest[:n]) in function.arms.get(it, {})), None)
         if arm:
             return ".".join([parts[0], arm, *rest[n:]])
     if key in typed and rest[:1] == ["given"]:
@@ -127,6 +137,9 @@ def path_turned(path, function, places, typed={}):
         if [dash(it) for it in parts[at : at + len(a)]] == [dash(it) for it in a]:
             return ".".join([parts[0], *new.strip(".").split("."), *parts[at + len(a) :]])
     new = function.steps.get(key) or next((it for old, it in function.steps.items() if old.lower() == key.lower()), None)
+    near = next((function.step_of[it][1] for it in chain if function.step_of.get(it, ("",))[0] == key), None)
+    if near:
+        new = [near]
     if new:
         if len(set(new)) > 1:
             print(f"look: {function.crate} {function.path}: {step} is one of {sorted(set(new))}")
@@ -197,7 +210,7 @@ def turned(text, function, goal=None, helpers={}):
         text = re.sub(rf"(?<![\w.'-])({names})\s+((?:{vars})(?:\.before)*)(?![\w.'₀-])(?!(?: κs| _)?\s*=)", handed, text)
     where = function.at.get(goal) if goal else next((dash(a) for a, b in function.places.items() if f": {b})" in text.split("\n")[0]), None)
     typed = function.typed.get(where, {})
-    text = PATH.sub(lambda it: path_turned(it[0], function, at, typed), text)
+    text = PATH.sub(lambda it: path_turned(it[0], function, at, typed, where), text)
     for name, step in re.findall(r"let ([a-z][\w']*) = [\w.'-]*\.([\w-]+) in", text):
         for a, b in function.within.get(step, {}).items():
             text = re.sub(rf"(?<![\w.'-]){re.escape(name)}\.{re.escape(a)}(?![\w'-])", f"{name}.{b}", text)

@@ -20,7 +20,7 @@ loop-left-init c =
     let c9 = c in
     let a = c9.args in
     let none = c3.clear.ensures ∙ none_yet_lem a.table.now _ c9.requires.1 in
-    (assigned-begins a.names.now a.table.now a.line.now _ _ none c.past_blanks-at.ensures, c3.clear.auto.0 ∙ c9.requires.1)
+    (assigned-begins a.names.now a.table.now a.line.now _ _ none c.past_blanks-at.ensures, c3.clear.auto.so ∙ c9.requires.1)
 
 pub one_assigned-r-requires : goal.one_assigned-r-requires
 one_assigned-r-requires c =
@@ -33,7 +33,7 @@ shape_of-so-then-r-ne0 c =
     let c4 = c in
     let c7 = c in
     let c17 = c in
-    c4.one_assigned-r.auto.1.1.1.1.0 ∙ c7.loop-left.invariant.1 ∙ sym c17.requires.1
+    c4.one_assigned-r.auto.so ∙ c7.loop-left.invariant.1 ∙ sym c17.requires.1
 
 pub returns-then-r-ne0 : goal.returns-then-r-ne0
 returns-then-r-ne0 c =
@@ -56,7 +56,7 @@ shape_of-so-then-r-line c =
     let c8 = c in
     let c11 = c in
     let c21 = c in
-    c8.one_assigned-r.auto.1.1.1.1.0 ∙ c11.loop-left.invariant.1 ∙ sym c21.requires.1
+    c8.one_assigned-r.auto.so ∙ c11.loop-left.invariant.1 ∙ sym c21.requires.1
 
 pub returns-then-r-line : goal.returns-then-r-line
 returns-then-r-line c =
@@ -75,7 +75,7 @@ shape_of-so-then-comma-ne0 c =
     let c9 = c in
     let c12 = c in
     let c22 = c in
-    c9.one_assigned-r.auto.1.1.1.1.0 ∙ c12.loop-left.invariant.1 ∙ sym c22.requires.1
+    c9.one_assigned-r.auto.so ∙ c12.loop-left.invariant.1 ∙ sym c22.requires.1
 
 pub returns-then-comma-ne0 : goal.returns-then-comma-ne0
 returns-then-comma-ne0 c =
@@ -112,7 +112,7 @@ loop-left-preserved c =
     let a = c22.args in (
       assigned_more a.names.now a.table.now a.line.now _ _ _ c12.loop-left.invariant.0 c11.loop-left-test.true _ _ c9.one_assigned-r.ensures
           c5.if-r-ne0.false c3.if-r-line.false _ c2.read_mark-comma.ensures c.if-comma-ne0.false,
-      c9.one_assigned-r.auto.1.1.1.1.0 ∙ c12.loop-left.invariant.1,
+      c9.one_assigned-r.auto.so ∙ c12.loop-left.invariant.1,
     )
 
 pub shape_of-so : goal.shape_of-so

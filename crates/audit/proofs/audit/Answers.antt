@@ -34,7 +34,7 @@ slice_bounds-ends_hold-end c =
     c.check_table-bad.ensures
     c.if-bad-ne0.false
     c.if-buffer-lt-BUFFER_BYTES.false c.if-work-lt-WORK_BYTES.false
-    c.shorten-s.result _ c.shorten-s.ensures.0 _ _ c.in-Written.is
+    c.shorten-s.result _ c.shorten-s.ensures.answer _ _ c.in-Written.is
 
 pub slice_bounds-ends_hold-end-in-Written : goal.slice_bounds-ends_hold-end-in-Written
 slice_bounds-ends_hold-end-in-Written c =
@@ -45,7 +45,7 @@ slice_bounds-ends_hold-end-in-Written c =
     c.if-bad-ne0.false
     c.if-buffer-lt-BUFFER_BYTES.false
     c.if-work-lt-WORK_BYTES.false c.shorten-s.result _
-    c.shorten-s.ensures.0 _ _ c.in-Written.is))
+    c.shorten-s.ensures.answer _ _ c.in-Written.is))
 
 pub returns-then-ends_hold : goal.returns-then-ends_hold
 unfolding verdict_of
@@ -57,7 +57,7 @@ returns-then-ends_hold c =
     c.if-buffer-lt-BUFFER_BYTES.false
     c.if-work-lt-WORK_BYTES.false
     c.shorten-s.result _
-    c.shorten-s.ensures.0 _ _
+    c.shorten-s.ensures.answer _ _
     c.in-Written.is _ _ _ _
     c.ends_hold.ensures (λ e. refl)
 
@@ -69,7 +69,7 @@ returns-in-Refused c =
     c.check_table-bad.ensures
     c.if-bad-ne0.false
     c.if-buffer-lt-BUFFER_BYTES.false c.if-work-lt-WORK_BYTES.false
-    c.shorten-s.result _ c.shorten-s.ensures.0 _ c.in-Refused.is
+    c.shorten-s.result _ c.shorten-s.ensures.answer _ c.in-Refused.is
 
 pub returns-else-ends_hold : goal.returns-else-ends_hold
 unfolding verdict_of
@@ -81,6 +81,6 @@ returns-else-ends_hold c =
     c.if-buffer-lt-BUFFER_BYTES.false
     c.if-work-lt-WORK_BYTES.false
     c.shorten-s.result _
-    c.shorten-s.ensures.0 _ _
+    c.shorten-s.ensures.answer _ _
     c.in-Written.is _ _ _ _
     c.ends_hold.ensures (λ e. absurd (subst T (sym e ∙ c.if-ends_hold.false) tt))

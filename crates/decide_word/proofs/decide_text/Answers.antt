@@ -28,7 +28,7 @@ pub slice_bounds-sides_at-end : goal.slice_bounds-sides_at-end
 slice_bounds-sides_at-end c =
     let c1 = c in
     let c6 = c in
-    sym (length-take-le _ _ (omega (arith, c6.read_header-h.ensures.few c1.if-h-ne0.false, c6.read_header-h.auto.1.0)))
+    sym (length-take-le _ _ (omega (arith, c6.read_header-h.ensures.few c1.if-h-ne0.false, c6.read_header-h.auto.names)))
 
 pub slice_bounds-table-end : goal.slice_bounds-table-end
 slice_bounds-table-end c = omega (arith, c.read_header-h.ensures.few c.if-h-ne0.false)
@@ -37,7 +37,7 @@ pub slice_bounds-sides_at-end-2 : goal.slice_bounds-sides_at-end-2
 slice_bounds-sides_at-end-2 c =
     let c2 = c in
     let c7 = c in
-    sym (length-take-le _ _ (omega (arith, c7.read_header-h.ensures.few c2.if-h-ne0.false, c7.read_header-h.auto.1.1.0)))
+    sym (length-take-le _ _ (omega (arith, c7.read_header-h.ensures.few c2.if-h-ne0.false, c7.read_header-h.auto.table)))
 
 pub sides_at-r-requires : goal.sides_at-r-requires
 sides_at-r-requires c =
@@ -84,25 +84,25 @@ pub slice_bounds-names-end-2 : goal.slice_bounds-names-end-2
 slice_bounds-names-end-2 c =
     let c11 = c in
     let c16 = c in
-    omega (arith, c16.read_header-h.ensures.few c11.if-h-ne0.false, c16.read_header-h.auto.1.0)
+    omega (arith, c16.read_header-h.ensures.few c11.if-h-ne0.false, c16.read_header-h.auto.names)
 
 pub slice_bounds-tell_decision-end : goal.slice_bounds-tell_decision-end
 slice_bounds-tell_decision-end c =
     let c12 = c in
     let c17 = c in
-    sym (length-take-le _ _ (omega (arith, c17.read_header-h.ensures.few c12.if-h-ne0.false, c17.read_header-h.auto.1.0)))
+    sym (length-take-le _ _ (omega (arith, c17.read_header-h.ensures.few c12.if-h-ne0.false, c17.read_header-h.auto.names)))
 
 pub slice_bounds-table-end-2 : goal.slice_bounds-table-end-2
 slice_bounds-table-end-2 c =
     let c12 = c in
     let c17 = c in
-    omega (arith, c17.read_header-h.ensures.few c12.if-h-ne0.false, c17.read_header-h.auto.1.1.0)
+    omega (arith, c17.read_header-h.ensures.few c12.if-h-ne0.false, c17.read_header-h.auto.table)
 
 pub slice_bounds-tell_decision-end-2 : goal.slice_bounds-tell_decision-end-2
 slice_bounds-tell_decision-end-2 c =
     let c13 = c in
     let c18 = c in
-    sym (length-take-le _ _ (omega (arith, c18.read_header-h.ensures.few c13.if-h-ne0.false, c18.read_header-h.auto.1.1.0)))
+    sym (length-take-le _ _ (omega (arith, c18.read_header-h.ensures.few c13.if-h-ne0.false, c18.read_header-h.auto.table)))
 
 pub tell_decision-requires : goal.tell_decision-requires
 tell_decision-requires c =

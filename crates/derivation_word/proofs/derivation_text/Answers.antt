@@ -46,16 +46,13 @@ loop-p-preserved c =
     let c14 = c in
     let s = c14.args.s.now in
     let v = c10.loop-p in (
-      c4.answer_line-r.auto.1.1.1.0 ∙ v.invariant.0,
+      c4.answer_line-r.auto.out ∙ v.invariant.0,
       answered_more s v.out v.p v.d v.told v.invariant.1 c8.loop-p-test.true _ c7.line_end-end.ensures _ _ c4.answer_line-r.ensures _
           c.next_place-p.ensures,
     )
 
 pub tell_end-requires : goal.tell_end-requires
 tell_end-requires c = c.loop-p.invariant.1.valid
-
-pub shape_of-out : goal.shape_of-out
-shape_of-out c = c.tell_end.auto.1.1.0 ∙ c.loop-p.invariant.0
 
 pub returns : goal.returns
 returns c =

@@ -13,7 +13,7 @@ written-requires c =
     omega (
       arith,
       h,
-      c.print_named-r.auto.1.1.1.0,
+      c.print_named-r.auto.out,
       (search rules),
     )
 

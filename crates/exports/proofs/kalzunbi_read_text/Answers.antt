@@ -13,7 +13,7 @@ written-requires c =
     omega (
       arith,
       h,
-      c.read_formula-r.auto.1.1.1.0,
+      c.read_formula-r.auto.out,
       (search rules),
     )
 

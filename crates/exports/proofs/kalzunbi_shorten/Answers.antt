@@ -16,11 +16,11 @@ written-requires c =
     omega (
       arith,
       written_short c.shorten-s.result _ _ c.in-Written.is
-          c.shorten-s.ensures.1,
+          c.shorten-s.ensures.short,
     )
 
 pub returns-in-Written : goal.returns-in-Written
-returns-in-Written c = shorten_given c.args.table.now c.args.form.now c.args.out.now c.args.steps.now _ c.check_table-n.ensures c.if-n-ne0.false c.if-steps-lt1.false c.shorten-s.result _ c.shorten-s.ensures.0 _ _ c.in-Written.is _ (back_is (record { sfits = c.written.type_inv }) ∙ c.written.ensures) _ (step-stored c.args.steps.now _ c.if-steps-lt1.false)
+returns-in-Written c = shorten_given c.args.table.now c.args.form.now c.args.out.now c.args.steps.now _ c.check_table-n.ensures c.if-n-ne0.false c.if-steps-lt1.false c.shorten-s.result _ c.shorten-s.ensures.answer _ _ c.in-Written.is _ (back_is (record { sfits = c.written.type_inv }) ∙ c.written.ensures) _ (step-stored c.args.steps.now _ c.if-steps-lt1.false)
 
 pub returns-in-Refused : goal.returns-in-Refused
-returns-in-Refused c = shorten_refused _ _ _ _ _ c.check_table-n.ensures c.if-n-ne0.false c.if-steps-lt1.false c.shorten-s.result _ c.shorten-s.ensures.0 _ c.in-Refused.is _ (back_is (record { sfits = c.refusal-in-Refused.type_inv }) ∙ c.refusal-in-Refused.ensures)
+returns-in-Refused c = shorten_refused _ _ _ _ _ c.check_table-n.ensures c.if-n-ne0.false c.if-steps-lt1.false c.shorten-s.result _ c.shorten-s.ensures.answer _ c.in-Refused.is _ (back_is (record { sfits = c.refusal-in-Refused.type_inv }) ∙ c.refusal-in-Refused.ensures)

@@ -56,7 +56,7 @@ loop-i-preserved c =
     let h : w.loop-i.i < length s.args.f.terms = omega (arith, few (goal.at.loop-i-preserved c).Start, t) in
     let e = c.write_term-at.ensures in (
       omega (arith, t),
-      c.write_term-at.auto.0 ∙ w.loop-i.invariant.1,
+      c.write_term-at.auto.out ∙ w.loop-i.invariant.1,
       record-within s.args.f _ _ _ _ _ _ s.requires.0 (few (goal.at.loop-i-preserved c).Start) t e w.loop-i.invariant.2,
       record_written _ _ _ _ _ _ _ _ _ h (simp length-set (omega (arith, s.requires.1))) w.loop-i.invariant.3 e,
     )

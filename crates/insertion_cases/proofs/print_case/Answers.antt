@@ -35,4 +35,4 @@ pub slice_bounds-out-end : goal.slice_bounds-out-end
 slice_bounds-out-end c = omega (arith, short (goal.at.slice_bounds-out-end c).In-Written)
 
 pub slice_bounds-print_form-end : goal.slice_bounds-print_form-end
-slice_bounds-print_form-end c = sym (length-take-le _ _ (omega (arith, short (goal.at.slice_bounds-print_form-end c).In-Written, c.insert-r.auto.1.1.1.1.0)))
+slice_bounds-print_form-end c = sym (length-take-le _ _ (omega (arith, short (goal.at.slice_bounds-print_form-end c).In-Written, c.insert-r.auto.out)))

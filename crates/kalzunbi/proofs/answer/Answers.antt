@@ -16,13 +16,6 @@ slice_bounds-out-end c =
     omega (
       arith,
       answered-inside _ _ _ _ _ _ c.command.ensures c.in-Printed.is,
-      c.command.auto.1.1.0,
+      c.command.auto.out,
       c.large_buffer-out.ensures,
     )
-
-slice-aggregate-write-all-2 : tie.Need-slice-aggregate-write-all-2
-slice-aggregate-write-all-2 c =
-    sym (length-take-le _ _ (answered-inside _ _ _ _ _ _ c.command.ensures c.in-Printed.is))
-
-write-all-requires-2 : tie.Need-write-all-requires-2
-write-all-requires-2 c κs = search rules

@@ -13,7 +13,7 @@ pub slice_bounds-line-end : goal.slice_bounds-line-end
 slice_bounds-line-end c =
     let c10 = c in
     let c14 = c in
-    omega (arith, form-fits c14.args.names.now _ _ _ _ c14.requires c10.print_form-n.ensures, c10.print_form-n.auto.1.0)
+    omega (arith, form-fits c14.args.names.now _ _ _ _ c14.requires c10.print_form-n.ensures, c10.print_form-n.auto.out)
 
 pub slice_bounds-put-end : goal.slice_bounds-put-end
 slice_bounds-put-end c =
@@ -22,7 +22,7 @@ slice_bounds-put-end c =
     sym (length-take-le _ c11.print_form-n.new.out (omega (
       arith,
       form-fits c15.args.names.now _ _ _ _ c15.requires c11.print_form-n.ensures,
-      c11.print_form-n.auto.1.0,
+      c11.print_form-n.auto.out,
     )))
 
 pub returns : goal.returns

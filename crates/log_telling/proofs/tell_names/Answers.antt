@@ -40,7 +40,7 @@ loop-i-preserved c =
     let c11 = c in
     let v = c7.loop-i in (
       names_more _ c11.args.names.now c11.args.table.now _ _ v.invariant.0 c6.loop-i-test.true c11.requires c2.tell_name-next.ensures,
-      c2.tell_name-next.auto.0 ∙ v.invariant.1,
+      c2.tell_name-next.auto.out ∙ v.invariant.1,
     )
 
 pub shape_of-out : goal.shape_of-out

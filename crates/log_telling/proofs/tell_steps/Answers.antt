@@ -10,7 +10,7 @@ pub slice_bounds-lines-end : goal.slice_bounds-lines-end
 slice_bounds-lines-end c =
     let c2 = c in
     let c6 = c in
-    omega (arith, steps-fit c6.args.names.now _ _ _ _ c6.requires c2.print_steps-n.ensures, c2.print_steps-n.auto.1.0)
+    omega (arith, steps-fit c6.args.names.now _ _ _ _ c6.requires c2.print_steps-n.ensures, c2.print_steps-n.auto.out)
 
 pub slice_bounds-put-end : goal.slice_bounds-put-end
 slice_bounds-put-end c =
@@ -19,7 +19,7 @@ slice_bounds-put-end c =
     sym (length-take-le _ c3.print_steps-n.new.out (omega (
       arith,
       steps-fit c7.args.names.now _ _ _ _ c7.requires c3.print_steps-n.ensures,
-      c3.print_steps-n.auto.1.0,
+      c3.print_steps-n.auto.out,
     )))
 
 pub returns : goal.returns

@@ -35,13 +35,13 @@ pub slice_bounds-table-end : goal.slice_bounds-table-end
 slice_bounds-table-end c =
     let c8 = c in
     let c12 = c in
-    omega (arith, c12.read_log_text-l.ensures.few c8.if-l-ne0.false, c12.read_log_text-l.auto.1.1.0)
+    omega (arith, c12.read_log_text-l.ensures.few c8.if-l-ne0.false, c12.read_log_text-l.auto.table)
 
 pub slice_bounds-check-end : goal.slice_bounds-check-end
 slice_bounds-check-end c =
     let c9 = c in
     let c13 = c in
-    sym (length-take-le _ _ (omega (arith, c13.read_log_text-l.ensures.few c9.if-l-ne0.false, c13.read_log_text-l.auto.1.1.0)))
+    sym (length-take-le _ _ (omega (arith, c13.read_log_text-l.ensures.few c9.if-l-ne0.false, c13.read_log_text-l.auto.table)))
 
 pub slice_bounds-log-end : goal.slice_bounds-log-end
 slice_bounds-log-end c = log_within-bytes _ _ _ _ _ _ c.write_log-m.ensures

@@ -36,13 +36,13 @@ pub slice_bounds-table-end : goal.slice_bounds-table-end
 slice_bounds-table-end c =
     let c11 = c in
     let c15 = c in
-    omega (arith, c15.read_log_text-l.ensures.few c11.if-l-ne0.false, c15.read_log_text-l.auto.1.1.0)
+    omega (arith, c15.read_log_text-l.ensures.few c11.if-l-ne0.false, c15.read_log_text-l.auto.table)
 
 pub slice_bounds-put-end : goal.slice_bounds-put-end
 slice_bounds-put-end c =
     let c12 = c in
     let c16 = c in
-    sym (length-take-le _ _ (omega (arith, c16.read_log_text-l.ensures.few c12.if-l-ne0.false, c16.read_log_text-l.auto.1.1.0)))
+    sym (length-take-le _ _ (omega (arith, c16.read_log_text-l.ensures.few c12.if-l-ne0.false, c16.read_log_text-l.auto.table)))
 
 pub slice_bounds-log-end : goal.slice_bounds-log-end
 slice_bounds-log-end c = log_within-bytes _ _ _ _ _ _ c.write_log-m.ensures

@@ -21,9 +21,6 @@ returns-then-not-q c = decide-unread _ _ c.read_state-q.ensures _ _ _ (not-true 
 pub bounds-s-0 : goal.bounds-s-0
 bounds-s-0 c = omega (arith, fits (goal.at.bounds-s-0 c).After-shared_slice_known-3-1)
 
-pub overflow_cast-n : goal.overflow_cast-n
-overflow_cast-n c = omega (arith, c.type_inv.s 0)
-
 pub overflow_add-end : goal.overflow_add-end
 overflow_add-end c = omega (arith, c.type_inv.s 0)
 

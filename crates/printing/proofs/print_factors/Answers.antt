@@ -51,7 +51,7 @@ loop-i-preserved c =
     let r = factor-room _ _ _ _ (few (goal.at.loop-i-preserved c).Start) i _ _ w.loop-i.invariant.1 in
     let e = c.print_factor-next.ensures in
     let u = goes_on_lem _ _ _ _ _ _ _ _ _ _ (factor_next _ _ _ _ (few (goal.at.loop-i-preserved c).Start) i) r.0 w.loop-i.invariant.2 e in
-    (omega arith, omega (arith, r.1, e.ends, c.print_factor-next.auto.1.0), u)
+    (omega arith, omega (arith, r.1, e.ends, c.print_factor-next.auto.out), u)
 
 pub shape_of-out : goal.shape_of-out
 shape_of-out c = c.loop-i.invariant.2.kept

@@ -28,7 +28,7 @@ first c = get_or c.args.f.terms 0 no_term
 
 -- it can be printed
 printed : (c : Else-f-eq0) → TermPrintable c.args.names.now (first c.before.before.before)
-printed c = let s = c in term-printable s.args.names.now s.args.f _ no_term s.requires.0 (few s) (some c)
+printed c = let s = c.before.before.before in term-printable s.args.names.now s.args.f _ no_term s.requires.0 (few s) (some c)
 
 pub returns-then-f-eq0 : goal.returns-then-f-eq0
 returns-then-f-eq0 c = let s = c in empty_written s.args.names.now s.args.f _ c.if-f-eq0.true (omega (arith, s.requires.1))
@@ -45,13 +45,13 @@ print_terms-requires c =
     let s = c in
     let h = single_short s.args.names.now (first s) (printed (goal.at.print_terms-requires c).Else-f-eq0).valid in (
       s.requires.0,
-      omega (arith, s.requires.1, s.requires.0.valid.few, w.print_single-next.ensures.ends, h, w.print_single-next.auto.1.0),
+      omega (arith, s.requires.1, s.requires.0.valid.few, w.print_single-next.ensures.ends, h, w.print_single-next.auto.out),
     )
 
 pub shape_of-out : goal.shape_of-out
 shape_of-out c =
     let w = c in
-    c.print_terms.auto.1.0 ∙ w.print_single-next.auto.1.0
+    c.print_terms.auto.out ∙ w.print_single-next.auto.out
 
 pub returns : goal.returns
 returns c =

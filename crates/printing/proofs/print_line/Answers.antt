@@ -3,6 +3,7 @@ use Rattle.std.proofs.Common.{rules}
 use native.Mathlib.Omega.{arith}
 use lib.ListN.{length-set}
 use Rattle.printing.proofs.Texts.{line_written}
+use Rattle.printing.proofs.print_line.Goals.{After-slice_known-2-1}
 use Rattle.printing.proofs.print_line.Goals as goal
 
 pub bounds-out-end : goal.bounds-out-end
@@ -11,10 +12,10 @@ bounds-out-end c =
     (line_written s.args.names.now _ _ _ _ s.requires.0 s.requires.1 c.print_form-end.ensures).0
 
 pub overflow_add-result : goal.overflow_add-result
-overflow_add-result c = omega (arith, bounds-out-end c)
+overflow_add-result c = omega (arith, bounds-out-end (goal.at.overflow_add-result c).After-slice_known-2-1)
 
 pub shape_of-out : goal.shape_of-out
-shape_of-out c = simp length-set c.print_form-end.auto.1.0
+shape_of-out c = simp length-set c.print_form-end.auto.out
 
 pub returns : goal.returns
 returns c =

@@ -19,7 +19,7 @@ pub overflow_add-result : goal.overflow_add-result
 overflow_add-result c = omega (arith, c.print_decimal-last.ensures.ends, decimal_short c.args.n)
 
 pub shape_of-out : goal.shape_of-out
-shape_of-out c = simp length-set (c.print_decimal-last.auto.0 ∙ simp length-set)
+shape_of-out c = simp length-set (c.print_decimal-last.auto.out ∙ simp length-set)
 
 pub returns : goal.returns
 returns c =

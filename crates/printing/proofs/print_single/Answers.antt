@@ -20,7 +20,7 @@ pub print_term-requires : goal.print_term-requires
 print_term-requires c =
     let w = c in
     let s = c in
-    (s.requires.0, omega (arith, s.requires.1, (signed (goal.at.print_term-requires c).After-print_first_sign-behind).ends, w.print_first_sign-behind.auto.0, first_short s.args.t.coef))
+    (s.requires.0, omega (arith, s.requires.1, (signed (goal.at.print_term-requires c).After-print_first_sign-behind).ends, w.print_first_sign-behind.auto.out, first_short s.args.t.coef))
 
 pub returns : goal.returns
 returns c =

@@ -30,14 +30,14 @@ abbrev term : At-loop-i → Term
 term c = get_or c.args.f.terms c.loop-i.i no_term
 
 -- it can be printed
-printed : (c : After-struct_told-1) → let l = c in
+printed : (c : After-struct_told-1) → let l = c.before.before.before.before in
     TermPrintable l.args.names.now (term l)
 printed c =
-    let s = c in
+    let s = c.before.before.before.before.before.before.before in
     term-printable s.args.names.now s.args.f _ no_term s.requires.0 (few s) c.loop-i-test.true
 
 -- its sign is written
-signed : (c : After-print_sign-from) → let l = c in
+signed : (c : After-print_sign-from) → let l = c.before.before.before.before.before in
     Written l.loop-i.out c.print_sign-from.new.out l.loop-i.next c.print_sign-from.result (print_sign (term l).coef)
 signed c = written_as_lem _ _ _ _ _ _ (ap print_sign (sym (back_is (record { sfits = c.type_inv.t.0.1 })))) c.print_sign-from.ensures
 
@@ -58,7 +58,7 @@ print_term-next-requires c =
     let w = c in
     let l = c in
     let i = w.loop-i-test.true in
-    (printed (goal.at.print_term-next-requires c).After-struct_told-1, omega (arith, l.loop-i.invariant.1, i, (signed (goal.at.print_term-next-requires c).After-print_sign-from).ends, w.print_sign-from.auto.0, later_short (term l).coef))
+    (printed (goal.at.print_term-next-requires c).After-struct_told-1, omega (arith, l.loop-i.invariant.1, i, (signed (goal.at.print_term-next-requires c).After-print_sign-from).ends, w.print_sign-from.auto.out, later_short (term l).coef))
 
 pub overflow_add-i : goal.overflow_add-i
 overflow_add-i c = omega (arith, c.requires.0.valid.few)
@@ -73,7 +73,7 @@ loop-i-preserved c =
     let r : l.loop-i.next + 29 ≤ length l.loop-i.out = omega (arith, l.loop-i.invariant.1, i) in
     let e = written_then _ _ _ _ _ _ _ _ (omega arith) (signed (goal.at.loop-i-preserved c).After-print_sign-from) c.print_term-next.ensures in (
       omega arith,
-      omega (arith, l.loop-i.invariant.1, i, e.ends, h, c.print_term-next.auto.1.0, w.print_sign-from.auto.0),
+      omega (arith, l.loop-i.invariant.1, i, e.ends, h, c.print_term-next.auto.out, w.print_sign-from.auto.out),
       goes_on_lem _ _ _ _ _ _ _ _ _ _ (term_next _ _ _ _ no_term (few (goal.at.loop-i-preserved c).Start) i) (omega arith) l.loop-i.invariant.2 e,
     )
 

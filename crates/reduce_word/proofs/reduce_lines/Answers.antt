@@ -66,7 +66,7 @@ loop-left-preserved c =
     let i = c12.loop-left.invariant in (
       lines_more (c17).args.s.now _ _ _ _ _ _ _ i.0 c11.loop-left-test.true c9.if-q-n.false _ c8.form_at-r.ensures _ _ _ c6.if-r-ne0.false
           c3.tell_form-end.ensures c.line_behind-q.ensures,
-      c3.tell_form-end.auto.1.0 ∙ i.1,
+      c3.tell_form-end.auto.out ∙ i.1,
     )
 
 pub shape_of-out : goal.shape_of-out

@@ -27,7 +27,7 @@ pub slice_bounds-reduce_lines-end : goal.slice_bounds-reduce_lines-end
 slice_bounds-reduce_lines-end c =
     let c1 = c in
     let c6 = c in
-    sym (length-take-le _ _ (omega (arith, c6.read_header-h.ensures.few c1.if-h-ne0.false, c6.read_header-h.auto.1.0)))
+    sym (length-take-le _ _ (omega (arith, c6.read_header-h.ensures.few c1.if-h-ne0.false, c6.read_header-h.auto.names)))
 
 pub slice_bounds-table-end : goal.slice_bounds-table-end
 slice_bounds-table-end c = omega (arith, c.read_header-h.ensures.few c.if-h-ne0.false)
@@ -36,7 +36,7 @@ pub slice_bounds-reduce_lines-end-2 : goal.slice_bounds-reduce_lines-end-2
 slice_bounds-reduce_lines-end-2 c =
     let c2 = c in
     let c7 = c in
-    sym (length-take-le _ _ (omega (arith, c7.read_header-h.ensures.few c2.if-h-ne0.false, c7.read_header-h.auto.1.1.0)))
+    sym (length-take-le _ _ (omega (arith, c7.read_header-h.ensures.few c2.if-h-ne0.false, c7.read_header-h.auto.table)))
 
 pub reduce_lines-r-requires : goal.reduce_lines-r-requires
 reduce_lines-r-requires c =

@@ -24,5 +24,5 @@ slice_bounds-print_form-end c =
     (length-take-le _ _ (omega (
       arith,
       (reduce_keeps_value _ _ _ _ _ _ c.reduce-r.ensures (wrote _ _ c.in-Written.is)).short,
-      c.reduce-r.auto.1.1.0,
+      c.reduce-r.auto.out,
     )))

@@ -18,8 +18,8 @@ shape_of-out c =
     let c25 = c in
     let c29 = c in
     let c34 = c in
-    c2.put.auto.0 ∙ c7.put_blanks-g.auto.0 ∙ c11.put-f.auto.0 ∙ c16.put-e.auto.0 ∙ c20.put-d.auto.0 ∙ c25.tell_reason-c.auto.0 ∙ c29.put-b.auto.0 ∙
-    c34.tell_place-a.auto.0
+    c2.put.auto.out ∙ c7.put_blanks-g.auto.out ∙ c11.put-f.auto.out ∙ c16.put-e.auto.out ∙ c20.put-d.auto.out ∙ c25.tell_reason-c.auto.out ∙ c29.put-b.auto.out ∙
+    c34.tell_place-a.auto.out
 
 pub returns : goal.returns
 unfolding refusal_text place_text bytes

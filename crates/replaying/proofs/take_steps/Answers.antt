@@ -84,7 +84,7 @@ returns-then-e-ne0 c = let a = c in
     record {
       is = λ log. v.invariant.3 log ∙ step-fails a.args.q.steps a.args.q.count v.i (room (goal.at.returns-then-e-ne0 c).Start)
           _ (v.i + 1) log _ _ c.loop-i-test.true c.if-e-ne0.true
-          (c.take_step-w.ensures.0.refuses c.if-e-ne0.true);
+          (c.take_step-w.ensures.reached.refuses c.if-e-ne0.true);
       form = λ z. absurd (c.if-e-ne0.true z);
     }
 

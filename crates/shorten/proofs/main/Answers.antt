@@ -11,7 +11,7 @@ slice_bounds-out-end c =
     omega (
       arith,
       printed-inside _ _ _ _ _ c.print_shortening.ensures c.in-Printed.is,
-      c.print_shortening.auto.1.0,
+      c.print_shortening.auto.out,
     )
 
 pub slice_bounds-write_all-end : goal.slice_bounds-write_all-end

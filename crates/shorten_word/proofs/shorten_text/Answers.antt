@@ -38,7 +38,7 @@ pub slice_bounds-form_at-end : goal.slice_bounds-form_at-end
 slice_bounds-form_at-end c =
     let c1 = c in
     let c6 = c in
-    sym (length-take-le _ _ (omega (arith, c6.read_header-h.ensures.few c1.if-h-ne0.false, c6.read_header-h.auto.1.0)))
+    sym (length-take-le _ _ (omega (arith, c6.read_header-h.ensures.few c1.if-h-ne0.false, c6.read_header-h.auto.names)))
 
 pub slice_bounds-table-end : goal.slice_bounds-table-end
 slice_bounds-table-end c = omega (arith, c.read_header-h.ensures.few c.if-h-ne0.false)
@@ -47,7 +47,7 @@ pub slice_bounds-form_at-end-2 : goal.slice_bounds-form_at-end-2
 slice_bounds-form_at-end-2 c =
     let c2 = c in
     let c7 = c in
-    sym (length-take-le _ _ (omega (arith, c7.read_header-h.ensures.few c2.if-h-ne0.false, c7.read_header-h.auto.1.1.0)))
+    sym (length-take-le _ _ (omega (arith, c7.read_header-h.ensures.few c2.if-h-ne0.false, c7.read_header-h.auto.table)))
 
 pub form_at-r-requires : goal.form_at-r-requires
 form_at-r-requires c =
@@ -100,7 +100,7 @@ pub slice_bounds-derive-end : goal.slice_bounds-derive-end
 slice_bounds-derive-end c =
     let c10 = c in
     let c15 = c in
-    sym (length-take-le _ _ (omega (arith, c15.read_header-h.ensures.few c10.if-h-ne0.false, c15.read_header-h.auto.1.1.0)))
+    sym (length-take-le _ _ (omega (arith, c15.read_header-h.ensures.few c10.if-h-ne0.false, c15.read_header-h.auto.table)))
 
 pub derive-d-requires : goal.derive-d-requires
 derive-d-requires c =
@@ -110,25 +110,25 @@ pub slice_bounds-names-end-2 : goal.slice_bounds-names-end-2
 slice_bounds-names-end-2 c =
     let c14 = c in
     let c19 = c in
-    omega (arith, c19.read_header-h.ensures.few c14.if-h-ne0.false, c19.read_header-h.auto.1.0)
+    omega (arith, c19.read_header-h.ensures.few c14.if-h-ne0.false, c19.read_header-h.auto.names)
 
 pub slice_bounds-tell_log-end : goal.slice_bounds-tell_log-end
 slice_bounds-tell_log-end c =
     let c15 = c in
     let c20 = c in
-    sym (length-take-le _ _ (omega (arith, c20.read_header-h.ensures.few c15.if-h-ne0.false, c20.read_header-h.auto.1.0)))
+    sym (length-take-le _ _ (omega (arith, c20.read_header-h.ensures.few c15.if-h-ne0.false, c20.read_header-h.auto.names)))
 
 pub slice_bounds-table-end-3 : goal.slice_bounds-table-end-3
 slice_bounds-table-end-3 c =
     let c15 = c in
     let c20 = c in
-    omega (arith, c20.read_header-h.ensures.few c15.if-h-ne0.false, c20.read_header-h.auto.1.1.0)
+    omega (arith, c20.read_header-h.ensures.few c15.if-h-ne0.false, c20.read_header-h.auto.table)
 
 pub slice_bounds-tell_log-end-2 : goal.slice_bounds-tell_log-end-2
 slice_bounds-tell_log-end-2 c =
     let c16 = c in
     let c21 = c in
-    sym (length-take-le _ _ (omega (arith, c21.read_header-h.ensures.few c16.if-h-ne0.false, c21.read_header-h.auto.1.1.0)))
+    sym (length-take-le _ _ (omega (arith, c21.read_header-h.ensures.few c16.if-h-ne0.false, c21.read_header-h.auto.table)))
 
 pub tell_log-requires : goal.tell_log-requires
 tell_log-requires c =

@@ -13,7 +13,7 @@ pub loop-at-smaller : goal.loop-at-smaller
 loop-at-smaller c = omega (arith, c.case_at-at.ensures)
 
 pub loop-at-preserved : goal.loop-at-preserved
-loop-at-preserved c = c.case_at-at.auto.1.1.0 ∙ c.loop-at.invariant
+loop-at-preserved c = c.case_at-at.auto.out ∙ c.loop-at.invariant
 
 pub shape_of-out : goal.shape_of-out
 shape_of-out c = c.loop-at.invariant

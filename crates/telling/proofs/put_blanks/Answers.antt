@@ -23,7 +23,7 @@ loop-i-preserved c =
     let c2 = c in
     let c4 = c in
     let c5 = c in
-    (blanks_more _ _ _ _ _ _ _ _ c5.loop-i.invariant.0 c4.loop-i-test.true c2.put_byte-next.ensures, c2.put_byte-next.auto.0 ∙ c5.loop-i.invariant.1)
+    (blanks_more _ _ _ _ _ _ _ _ c5.loop-i.invariant.0 c4.loop-i-test.true c2.put_byte-next.ensures, c2.put_byte-next.auto.out ∙ c5.loop-i.invariant.1)
 
 pub shape_of-out : goal.shape_of-out
 shape_of-out c = c.loop-i.invariant.1

@@ -8,7 +8,7 @@ use Rattle.text_cases.proofs.print_case.Goals as goal
 
 pub slice_bounds-out-end : goal.slice_bounds-out-end
 slice_bounds-out-end c =
-    omega (arith, record-inside _ _ _ _ _ _ _ _ _ c.read_formula-r.ensures c.in-Written.is, c.read_formula-r.auto.1.1.1.0)
+    omega (arith, record-inside _ _ _ _ _ _ _ _ _ c.read_formula-r.ensures c.in-Written.is, c.read_formula-r.auto.out)
 
 pub slice_bounds-print_form-end : goal.slice_bounds-print_form-end
 slice_bounds-print_form-end c =

@@ -8,7 +8,7 @@ use Rattle.text_cases.proofs.print_form.Goals as goal
 
 pub slice_bounds-out-end : goal.slice_bounds-out-end
 slice_bounds-out-end c =
-    omega (arith, text-inside _ _ _ _ _ _ _ c.print_named-r.ensures c.in-Printed.is, c.print_named-r.auto.1.1.1.0)
+    omega (arith, text-inside _ _ _ _ _ _ _ c.print_named-r.ensures c.in-Printed.is, c.print_named-r.auto.out)
 
 pub slice_bounds-write_all-end : goal.slice_bounds-write_all-end
 slice_bounds-write_all-end c =

@@ -18,8 +18,8 @@ shape_of-out c =
     let c37 = c in
     let c42 = c in
     let c47 = c in
-    c2.put.auto.0 ∙ c7.put-i.auto.0 ∙ c12.put-h.auto.0 ∙ c17.put-g.auto.0 ∙ c22.put-f.auto.0 ∙ c27.put-e.auto.0 ∙ c32.put-d.auto.0
-    ∙ c37.put-c.auto.0 ∙ c42.put-b.auto.0 ∙ c47.put-a.auto.0
+    c2.put.auto.out ∙ c7.put-i.auto.out ∙ c12.put-h.auto.out ∙ c17.put-g.auto.out ∙ c22.put-f.auto.out ∙ c27.put-e.auto.out ∙ c32.put-d.auto.out
+    ∙ c37.put-c.auto.out ∙ c42.put-b.auto.out ∙ c47.put-a.auto.out
 
 pub returns : goal.returns
 unfolding usage bytes

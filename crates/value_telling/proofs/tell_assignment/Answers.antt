@@ -52,7 +52,7 @@ loop-i-preserved c =
     let v = c8.loop-i in (
       entries-more a.names.now a.table.now a.s.now _ v.invariant.0 _
           c7.loop-i-test.true c13.requires.0 c6.vector_of-v.ensures c2.tell_entry-next.ensures,
-      c2.tell_entry-next.auto.0 ∙ v.invariant.1,
+      c2.tell_entry-next.auto.out ∙ v.invariant.1,
     )
 
 pub shape_of-out : goal.shape_of-out

@@ -35,8 +35,8 @@ shape_of-out c =
     let c22 = c in
     let c27 = c in
     let c32 = c in
-    c2.put.auto.0 ∙ c7.put_signed-f.auto.0 ∙ c12.put-e.auto.0 ∙ c17.put_signed-d.auto.0 ∙ c22.put-c.auto.0
-    ∙ c27.put_signed-b.auto.0 ∙ c32.put-a.auto.0
+    c2.put.auto.out ∙ c7.put_signed-f.auto.out ∙ c12.put-e.auto.out ∙ c17.put_signed-d.auto.out ∙ c22.put-c.auto.out
+    ∙ c27.put_signed-b.auto.out ∙ c32.put-a.auto.out
 
 pub returns : goal.returns
 unfolding vec_of bytes value_text

@@ -27,7 +27,7 @@ pub slice_bounds-value_behind-end : goal.slice_bounds-value_behind-end
 slice_bounds-value_behind-end c =
     let c1 = c in
     let c6 = c in
-    sym (length-take-le _ _ (omega (arith, c6.read_header-h.ensures.few c1.if-h-ne0.false, c6.read_header-h.auto.1.0)))
+    sym (length-take-le _ _ (omega (arith, c6.read_header-h.ensures.few c1.if-h-ne0.false, c6.read_header-h.auto.names)))
 
 pub slice_bounds-table-end : goal.slice_bounds-table-end
 slice_bounds-table-end c = omega (arith, c.read_header-h.ensures.few c.if-h-ne0.false)
@@ -36,7 +36,7 @@ pub slice_bounds-value_behind-end-2 : goal.slice_bounds-value_behind-end-2
 slice_bounds-value_behind-end-2 c =
     let c2 = c in
     let c7 = c in
-    sym (length-take-le _ _ (omega (arith, c7.read_header-h.ensures.few c2.if-h-ne0.false, c7.read_header-h.auto.1.1.0)))
+    sym (length-take-le _ _ (omega (arith, c7.read_header-h.ensures.few c2.if-h-ne0.false, c7.read_header-h.auto.table)))
 
 pub overflow_mul-numbers : goal.overflow_mul-numbers
 overflow_mul-numbers c =
@@ -57,7 +57,7 @@ value_behind-requires c =
       header-table _ _ _ _ c9.read_header-h.ensures c4.if-h-ne0.false,
       c9.read_header-h.ensures.inside,
       numbers_fit _ _ (c9.read_header-h.ensures.few
-          c4.if-h-ne0.false) c9.read_header-h.auto.1.1.0,
+          c4.if-h-ne0.false) c9.read_header-h.auto.table,
     )
 
 pub returns : goal.returns

@@ -7,9 +7,6 @@ use Rattle.theory.specs.Text.Derivations.{start-goes}
 use Rattle.derivation_word.specs.Derivations.{names_of, kinds_of, derivation_of}
 use Rattle.derivation_word.proofs.answering.start.Goals as goal
 
-refuse-requires : tie.Need-refuse-requires
-refuse-requires c κs = search rules
-
 pub returns : goal.returns
 unfolding names_of kinds_of derivation_of
 returns c =

@@ -11,9 +11,6 @@ use Rattle.derivation_word.proofs.Turns.{end-missing, end_told}
 use Rattle.derivation_word.proofs.Answers.{names-long, kinds-long, log_tellable}
 use Rattle.derivation_word.proofs.ending.tell_end.Goals as goal
 
-slice-aggregate-first-line : tie.Need-slice-aggregate-first-line
-slice-aggregate-first-line c = search rules
-
 pub first_line-r-requires : goal.first_line-r-requires
 first_line-r-requires c = let s = c in (s.requires, not-true _ c.if-not-d.true)
 

@@ -3,9 +3,6 @@ use Rattle.std.proofs.Common.{rules}
 use Rattle.derivation_word.proofs.Answers.{step-stored}
 use Rattle.derivation_word.proofs.reading.stepped.Goals as goal
 
-add-t15 : tie.Need-overflow-add-t15
-add-t15 c = search rules
-
 pub returns : goal.returns
 returns c =
     let s = c in

@@ -32,10 +32,10 @@ substitute-requires c =
 
 pub shape_of-work : goal.shape_of-work
 shape_of-work c =
-    c.substitute.auto.0
-    ∙ c.sort.auto.0
-    ∙ c.expand_form.auto.0
-    ∙ c.expand_form-m.auto.0
+    c.substitute.auto.work
+    ∙ c.sort.auto.work
+    ∙ c.expand_form.auto.work
+    ∙ c.expand_form-m.auto.work
 
 pub returns : goal.returns
 returns c =

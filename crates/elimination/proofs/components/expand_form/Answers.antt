@@ -64,7 +64,7 @@ overflow_add-k c = omega (arith, c.requires.valid.few)
 
 pub loop-k-preserved : goal.loop-k-preserved
 loop-k-preserved c = (
-  c.expand_term-n.auto.0 ∙ c.loop-k.invariant.0,
+  c.expand_term-n.auto.work ∙ c.loop-k.invariant.0,
   (fill_on _ _ _ _ _ (asks (goal.at.loop-k-preserved c).Start)
       (few (goal.at.loop-k-preserved c).Start) _ c.loop-k-test.true _ _
       c.loop-k.invariant.1 _ _ c.expand_term-n.ensures).1,

@@ -71,7 +71,7 @@ loop-d-smaller c =
 
 pub loop-d-preserved : goal.loop-d-preserved
 loop-d-preserved c = (
-  c.substitute-m.auto.0 ∙ c.loop-d.invariant.0,
+  c.substitute-m.auto.work ∙ c.loop-d.invariant.0,
   omega (
     arith,
     c.loop-d.invariant.1,

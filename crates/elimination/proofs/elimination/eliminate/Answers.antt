@@ -5,8 +5,8 @@ use Rattle.elimination.proofs.elimination.eliminate.Goals as goal
 
 pub choose-requires : goal.choose-requires
 choose-requires c =
-    cleared-asks _ _ _ _ _ c.requires c.clear.auto.0
-    c.clear.ensures.0
+    cleared-asks _ _ _ _ _ c.requires c.clear.auto.buffer
+    c.clear.ensures.zeros
 
 pub returns : goal.returns
 returns c =

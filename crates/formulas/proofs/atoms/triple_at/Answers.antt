@@ -63,7 +63,7 @@ name_at-z-requires c =
     (p.0, p.1, subst (λ (k : ℕ). k < length s) (sym f) (triple-inside _ _ p.3).three, omega arith, omega arith)
 
 pub shape_of-rows-then-z-ne0 : goal.shape_of-rows-then-z-ne0
-shape_of-rows-then-z-ne0 c = c.name_at-x.auto.1.1.1.1.0
+shape_of-rows-then-z-ne0 c = c.name_at-x.auto.rows
 
 pub returns-then-z-ne0 : goal.returns-then-z-ne0
 returns-then-z-ne0 c =
@@ -97,19 +97,19 @@ triple_of-requires c =
     let g : c10.name_at-z.result.next ≡ next s (next s (next s (next s c31.args.at))) = third-behind c31.args.names.now c31.args.table.now
     c31.args.s.now c31.args.at _ c27.behind-first.ensures _ _ _ c24.name_at-x.ensures c20.if-x-ne0.false _ _ _ c17.name_at-y.ensures c13.if-y-ne0.false
     _ _ _ c10.name_at-z.ensures c6.if-z-ne0.false ∙ ap (next s) f in
-    (name-formed _ _ _ _ c24.name_at-x.ensures c20.if-x-ne0.false, name-formed _ _ _ _ c17.name_at-y.ensures c13.if-y-ne0.false, name-formed _ _ _ _ c10.name_at-z.ensures c6.if-z-ne0.false, subst (λ (k : ℕ). k < length s) (sym g) (triple-inside _ _ p.3).close, omega (arith, c24.name_at-x.auto.1.1.1.1.0, p.4), omega (arith, c24.name_at-x.auto.1.1.1.1.1.0, p.5))
+    (name-formed _ _ _ _ c24.name_at-x.ensures c20.if-x-ne0.false, name-formed _ _ _ _ c17.name_at-y.ensures c13.if-y-ne0.false, name-formed _ _ _ _ c10.name_at-z.ensures c6.if-z-ne0.false, subst (λ (k : ℕ). k < length s) (sym g) (triple-inside _ _ p.3).close, omega (arith, c24.name_at-x.auto.rows, p.4), omega (arith, c24.name_at-x.auto.coefs, p.5))
 
 pub shape_of-rows : goal.shape_of-rows
 shape_of-rows c =
     let c2 = c in
     let c27 = c in
-    c2.triple_of.auto.1.1.1.0 ∙ c27.name_at-x.auto.1.1.1.1.0
+    c2.triple_of.auto.rows ∙ c27.name_at-x.auto.rows
 
 pub shape_of-coefs : goal.shape_of-coefs
 shape_of-coefs c =
     let c2 = c in
     let c27 = c in
-    c2.triple_of.auto.1.1.1.1.0 ∙ c27.name_at-x.auto.1.1.1.1.1.0
+    c2.triple_of.auto.coefs ∙ c27.name_at-x.auto.coefs
 
 pub returns : goal.returns
 returns c =

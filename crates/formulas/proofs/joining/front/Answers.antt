@@ -22,4 +22,4 @@ returns c =
     let c6 = c in
     let c7 = c in
     let c8 = c in
-    front-turned _ _ _ _ _ c8.requires _ c7.if-level-ne4.false c6.if-b-ne45.false c3.if-w-ne0.false c1.negate.ensures c1.negate.auto.0
+    front-turned _ _ _ _ _ c8.requires _ c7.if-level-ne4.false c6.if-b-ne45.false c3.if-w-ne0.false c1.negate.ensures c1.negate.auto.coefs

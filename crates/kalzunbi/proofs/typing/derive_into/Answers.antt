@@ -22,7 +22,7 @@ as_long c = let v = c.loop-n in same_len_mid v.n (length v.input - v.n) v.input 
 few_read : (c : After-count-m) → c.loop-n.n + c.count-m.result ≤
     length c.loop-n.input
 few_read c =
-    let c6 = c in
+    let c6 = c.before.before.before.before.before.before in
     let c9 = c6 in
     omega (arith, simp (length-take, length-drop) at c.count-m.ensures.0.0, as_long c6, c9.loop-n.invariant.1)
 

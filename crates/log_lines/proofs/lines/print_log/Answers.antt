@@ -11,44 +11,36 @@ use Rattle.logs.specs.Steps.{steps_of}
 use Rattle.logs.proofs.WrittenLogs.{taken_few}
 use Rattle.printing.proofs.Lengths.{line_short}
 use Rattle.log_lines.proofs.Texts.{steps_short, log_written}
-use Rattle.log_lines.proofs.lines.print_log.Goals.{After-print_line-a, After-print_steps-b, Start}
+use Rattle.log_lines.proofs.lines.print_log.Goals.{After-print_line-a, After-print_steps-b}
 use Rattle.log_lines.proofs.lines.print_log.Goals as goal
-
--- the start, as seen from behind the first form
-abbrev from_first : After-print_line-a → Start
-from_first c = c.before.before.before.before
-
--- and from behind the steps
-abbrev from-steps : After-print_steps-b → Start
-from-steps c = from_first c.before.before.before.before
 
 -- the line of the first form ends within the bytes of a line
 first_end_lem : (c : After-print_line-a) → c.print_line-a.result ≤ line_bytes
 first_end_lem c =
-    let s = from_first c in
-    omega (arith, c.print_line-a.ensures.ends, line_short s.args.names.now (form_of s.args.f) s.pre.0.valid.in_shape)
+    let s = c in
+    omega (arith, c.print_line-a.ensures.ends, line_short s.args.names.now (form_of s.args.f) s.requires.0.valid.in_shape)
 
 -- neither call changes the length
-steps-kept : (c : After-print_steps-b) → length c.print_steps-b.new.out ≡ length (from-steps c).args.out.now
-steps-kept c = c.print_steps-b.auto.1.0 ∙ c.print_line-a.auto.1.0
+steps-kept : (c : After-print_steps-b) → length c.print_steps-b.new.out ≡ length c.args.out.now
+steps-kept c = c.print_steps-b.auto.out ∙ c.print_line-a.auto.out
 
 -- the lines of the steps end within 55 bytes each behind it
-end : (c : After-print_steps-b) → c.print_steps-b.result ≤ line_bytes + 55 * (from-steps c).args.q.count
+end : (c : After-print_steps-b) → c.print_steps-b.result ≤ line_bytes + 55 * c.args.q.count
 unfolding steps_of
 end c =
-    let s = from-steps c in
+    let s = c in
     let q = s.args.q in
     omega (
       arith,
       first_end_lem c.before.before.before.before,
       c.print_steps-b.ensures.ends,
-      steps_short s.args.names.now (take q.count q.steps) s.pre.1.steps,
+      steps_short s.args.names.now (take q.count q.steps) s.requires.1.steps,
       taken_few q.count q.steps,
     )
 
 -- and leave room for the last form
 room : (c : After-print_steps-b) → c.print_steps-b.result + line_bytes ≤ length c.print_steps-b.new.out
-room c = omega (arith, end c, steps-kept c, (from-steps c).requires.3)
+room c = omega (arith, end c, steps-kept c, c.requires.3)
 
 pub print_line-a-requires : goal.print_line-a-requires
 print_line-a-requires c = let s = c in (s.requires.0, omega (arith, s.requires.3))
@@ -56,8 +48,8 @@ print_line-a-requires c = let s = c in (s.requires.0, omega (arith, s.requires.3
 pub print_steps-b-requires : goal.print_steps-b-requires
 print_steps-b-requires c =
     let w = c in
-    let s = from_first w in
-    (s.pre.1, omega (arith, first_end_lem (goal.at.print_steps-b-requires c).After-print_line-a, w.print_line-a.auto.1.0, s.pre.1.valid.few, s.pre.3))
+    let s = w in
+    (s.requires.1, omega (arith, first_end_lem (goal.at.print_steps-b-requires c).After-print_line-a, w.print_line-a.auto.out, s.requires.1.valid.few, s.requires.3))
 
 pub slice_bounds-print_line-count : goal.slice_bounds-print_line-count
 slice_bounds-print_line-count c = omega (arith, room (goal.at.slice_bounds-print_line-count c).After-print_steps-b)
@@ -69,14 +61,14 @@ pub print_line-requires : goal.print_line-requires
 print_line-requires c =
     let w = c in
     let o = w.print_steps-b.new.out in
-    ((from-steps w).requires.2, omega (arith, room (goal.at.print_line-requires c).After-print_steps-b, mid_len w.print_steps-b.result (length o) o (omega arith)))
+    (w.requires.2, omega (arith, room (goal.at.print_line-requires c).After-print_steps-b, mid_len w.print_steps-b.result (length o) o (omega arith)))
 
 pub overflow_add-result : goal.overflow_add-result
 overflow_add-result c =
     let w = c in
-    let s = from-steps w in
-    let h = line_short s.args.names.now (form_of s.args.g) s.pre.2.valid.in_shape in
-    omega (arith, c.print_line.ensures.ends, h, end (goal.at.overflow_add-result c).After-print_steps-b, s.pre.1.valid.few)
+    let s = w in
+    let h = line_short s.args.names.now (form_of s.args.g) s.requires.2.valid.in_shape in
+    omega (arith, c.print_line.ensures.ends, h, end (goal.at.overflow_add-result c).After-print_steps-b, s.requires.1.valid.few)
 
 pub shape_of-out : goal.shape_of-out
 shape_of-out c =

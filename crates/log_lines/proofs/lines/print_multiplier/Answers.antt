@@ -11,26 +11,22 @@ use Rattle.record_writing.specs.Written.{Written}
 use Rattle.record_writing.proofs.Writes.{written_stores}
 use Rattle.specification.specs.Printing.{print_multiplier}
 use Rattle.log_lines.proofs.Texts.{multiplier_written}
-use Rattle.log_lines.proofs.lines.print_multiplier.Goals.{After-print_single-end, Start}
+use Rattle.log_lines.proofs.lines.print_multiplier.Goals.{After-print_single-end}
 use Rattle.log_lines.proofs.lines.print_multiplier.Goals as goal
 
--- where the function starts, as seen behind the call
-abbrev from-single : After-print_single-end → Start
-from-single c = c.before.before.before.before
-
 -- the call keeps the length
-kept : (c : After-print_single-end) → length c.print_single-end.new.out ≡ length (from-single c).args.out.now
-kept c = c.print_single-end.auto.1.0 ∙ simp length-set
+kept : (c : After-print_single-end) → length c.print_single-end.new.out ≡ length c.args.out.now
+kept c = c.print_single-end.auto.out ∙ simp length-set
 
 -- what stands behind it
-written : (c : After-print_single-end) → let s = from-single c in
+written : (c : After-print_single-end) → let s = c in
     (c.print_single-end.result < length c.print_single-end.new.out)
     × Written s.args.out.now (set c.print_single-end.new.out c.print_single-end.result 10) s.args.at (c.print_single-end.result + 1)
     (print_multiplier s.args.names.now (term_of s.args.m))
 written c =
-    let s = from-single c in
-    multiplier_written s.args.names.now s.args.m s.pre.0.valid _ _ _ _ _ s.pre.1
-    (written_stores _ _ _ _ (44 ∷ 32 ∷ 77 ∷ 32 ∷ 61 ∷ 32 ∷ []) _ refl (omega (arith, s.pre.1)) refl (simp towards_suc))
+    let s = c in
+    multiplier_written s.args.names.now s.args.m s.requires.0.valid _ _ _ _ _ s.requires.1
+    (written_stores _ _ _ _ (44 ∷ 32 ∷ 77 ∷ 32 ∷ 61 ∷ 32 ∷ []) _ refl (omega (arith, s.requires.1)) refl (simp towards_suc))
     c.print_single-end.ensures
     (kept c)
 

@@ -10,45 +10,37 @@ use Rattle.theory.specs.Records.Lengths.{form_short}
 use Rattle.terms.specs.Abstraction.{form_of}
 use Rattle.logs.specs.Steps.{steps_of}
 use Rattle.logs.proofs.WrittenLogs.{steps_short, steps-counted, log_written}
-use Rattle.logs.proofs.writing.write_log.Goals.{After-write_form-a, After-write_steps-b, Start}
+use Rattle.logs.proofs.writing.write_log.Goals.{After-write_form-a, After-write_steps-b}
 use Rattle.logs.proofs.writing.write_log.Goals as goal
-
--- the start, as seen from behind the first form
-abbrev from_first : After-write_form-a → Start
-from_first c = c.before.before.before
-
--- and from behind the steps
-abbrev from-steps : After-write_steps-b → Start
-from-steps c = from_first c.before.before.before.before
 
 -- the first form ends within 770 bytes
 first_end_lem : (c : After-write_form-a) → c.write_form-a.result ≤ form_bytes
-first_end_lem c = omega (arith, c.write_form-a.ensures.ends, form_short (form_of (from_first c).args.f) (from_first c).requires.0.in_shape)
+first_end_lem c = omega (arith, c.write_form-a.ensures.ends, form_short (form_of c.args.f) c.requires.0.in_shape)
 
 -- neither call changes the length
-first-kept : (c : After-write_form-a) → length c.write_form-a.new.out ≡ length (from_first c).args.out.now
-first-kept c = c.write_form-a.auto.0
+first-kept : (c : After-write_form-a) → length c.write_form-a.new.out ≡ length c.args.out.now
+first-kept c = c.write_form-a.auto.out
 
-steps-kept : (c : After-write_steps-b) → length c.write_steps-b.new.out ≡ length (from-steps c).args.out.now
+steps-kept : (c : After-write_steps-b) → length c.write_steps-b.new.out ≡ length c.args.out.now
 steps-kept c =
-    let w = c in
-    c.write_steps-b.auto.0 ∙ simp length-set (first-kept w)
+    let w = c.before.before.before.before in
+    c.write_steps-b.auto.out ∙ simp length-set (first-kept w)
 
 -- the steps leave room for the last form
-room : (c : After-write_steps-b) → c.write_steps-b.result + (2 + 16 * (from-steps c).args.g.count) ≤ length c.write_steps-b.new.out
+room : (c : After-write_steps-b) → c.write_steps-b.result + (2 + 16 * c.args.g.count) ≤ length c.write_steps-b.new.out
 unfolding steps_of
 room c =
-    let w = c in
-    let s = from_first w in
-    omega (arith, first_end_lem w, c.write_steps-b.ensures.ends, steps_short s.args.q.steps s.args.q.count s.pre.1.steps, steps-kept c, s.pre.1.few, s.pre.3)
+    let w = c.before.before.before.before in
+    let s = w in
+    omega (arith, first_end_lem w, c.write_steps-b.ensures.ends, steps_short s.args.q.steps s.args.q.count s.requires.1.steps, steps-kept c, s.requires.1.few, s.requires.3)
 
 -- they end within 2243 bytes
 end : (c : After-write_steps-b) → c.write_steps-b.result ≤ 2243
 unfolding steps_of
 end c =
-    let w = c in
-    let s = from_first w in
-    omega (arith, first_end_lem w, c.write_steps-b.ensures.ends, steps_short s.args.q.steps s.args.q.count s.pre.1.steps, s.pre.1.few)
+    let w = c.before.before.before.before in
+    let s = w in
+    omega (arith, first_end_lem w, c.write_steps-b.ensures.ends, steps_short s.args.q.steps s.args.q.count s.requires.1.steps, s.requires.1.few)
 
 pub write_form-a-requires : goal.write_form-a-requires
 write_form-a-requires c = let s = c in (s.requires.0, omega (arith, s.requires.0.few, s.requires.3))
@@ -57,7 +49,7 @@ pub overflow_cast-out : goal.overflow_cast-out
 overflow_cast-out c = omega (arith, c.requires.1.few)
 
 pub bounds-out-a : goal.bounds-out-a
-bounds-out-a c = let w = c in omega (arith, first_end_lem (goal.at.bounds-out-a c).After-write_form-a, first-kept (goal.at.bounds-out-a c).After-write_form-a, (from_first w).requires.3)
+bounds-out-a c = let w = c in omega (arith, first_end_lem (goal.at.bounds-out-a c).After-write_form-a, first-kept (goal.at.bounds-out-a c).After-write_form-a, w.requires.3)
 
 pub overflow_add-a : goal.overflow_add-a
 overflow_add-a c = omega (arith, first_end_lem (goal.at.overflow_add-a c).After-write_form-a)
@@ -65,8 +57,8 @@ overflow_add-a c = omega (arith, first_end_lem (goal.at.overflow_add-a c).After-
 pub write_steps-b-requires : goal.write_steps-b-requires
 write_steps-b-requires c =
     let w = c in
-    let s = from_first w in
-    (s.pre.1, simp length-set (omega (arith, first_end_lem (goal.at.write_steps-b-requires c).After-write_form-a, first-kept (goal.at.write_steps-b-requires c).After-write_form-a, s.pre.1.few, s.pre.3)))
+    let s = w in
+    (s.requires.1, simp length-set (omega (arith, first_end_lem (goal.at.write_steps-b-requires c).After-write_form-a, first-kept (goal.at.write_steps-b-requires c).After-write_form-a, s.requires.1.few, s.requires.3)))
 
 pub slice_bounds-write_form-count : goal.slice_bounds-write_form-count
 slice_bounds-write_form-count c = omega (arith, room (goal.at.slice_bounds-write_form-count c).After-write_steps-b)
@@ -78,31 +70,31 @@ pub write_form-requires : goal.write_form-requires
 write_form-requires c =
     let w = c in
     let o = w.write_steps-b.new.out in
-    ((from-steps w).requires.2, omega (arith, room (goal.at.write_form-requires c).After-write_steps-b, mid_len w.write_steps-b.result (length o) o (omega arith)))
+    (w.requires.2, omega (arith, room (goal.at.write_form-requires c).After-write_steps-b, mid_len w.write_steps-b.result (length o) o (omega arith)))
 
 pub overflow_add-result : goal.overflow_add-result
 overflow_add-result c =
     let w = c in
-    let s = from-steps w in
-    omega (arith, c.write_form.ensures.ends, form_short (form_of s.args.g) s.pre.2.in_shape, end (goal.at.overflow_add-result c).After-write_steps-b)
+    let s = w in
+    omega (arith, c.write_form.ensures.ends, form_short (form_of s.args.g) s.requires.2.in_shape, end (goal.at.overflow_add-result c).After-write_steps-b)
 
 pub shape_of-out : goal.shape_of-out
 shape_of-out c =
     let w = c in
     let o = w.write_steps-b.new.out in
-    same_len_mid w.write_steps-b.result (length o - w.write_steps-b.result) o c.write_form.new.out c.write_form.auto.0 ∙ steps-kept (goal.at.shape_of-out c).After-write_steps-b
+    same_len_mid w.write_steps-b.result (length o - w.write_steps-b.result) o c.write_form.new.out c.write_form.auto.out ∙ steps-kept (goal.at.shape_of-out c).After-write_steps-b
 
 pub returns : goal.returns
 unfolding steps_of
 returns c =
     let w = c in
     let v = c in
-    let s = from-steps w in
+    let s = w in
     let q = s.args.q in
     log_written _ _ _ q.count _ v.write_form-a.new.out w.write_steps-b.new.out _ _ _ _
-    (steps-counted q.steps q.count (omega (arith, s.pre.1.long, s.pre.1.few)))
+    (steps-counted q.steps q.count (omega (arith, s.requires.1.long, s.requires.1.few)))
     v.write_form-a.ensures
-    (omega (arith, first_end_lem (goal.at.returns c).After-write_form-a, first-kept (goal.at.returns c).After-write_form-a, s.pre.3))
+    (omega (arith, first_end_lem (goal.at.returns c).After-write_form-a, first-kept (goal.at.returns c).After-write_form-a, s.requires.3))
     w.write_steps-b.ensures
     (omega (arith, room (goal.at.returns c).After-write_steps-b))
     c.write_form.ensures

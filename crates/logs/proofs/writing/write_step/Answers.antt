@@ -17,7 +17,7 @@ letters-kept : (c : After-write_letters-behind) → length c.write_letters-behin
     c.args.out.now
 letters-kept c =
     let c7 = c in
-    let a = c7.args in c.write_letters-behind.auto.0 ∙ length-set a.out.now a.at a.s.rule
+    let a = c7.args in c.write_letters-behind.auto.out ∙ length-set a.out.now a.at a.s.rule
 
 pub slice_bounds-letters-end : goal.slice_bounds-letters-end
 slice_bounds-letters-end c = omega (arith, places (goal.at.slice_bounds-letters-end c).Start, c.rule_letters-n.ensures.1)
@@ -45,7 +45,7 @@ write_term-requires c =
     )
 
 pub shape_of-out : goal.shape_of-out
-shape_of-out c = c.write_term.auto.0 ∙ letters-kept (goal.at.shape_of-out c).After-write_letters-behind
+shape_of-out c = c.write_term.auto.out ∙ letters-kept (goal.at.shape_of-out c).After-write_letters-behind
 
 pub returns : goal.returns
 returns c =

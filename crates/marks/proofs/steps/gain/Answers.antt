@@ -30,7 +30,7 @@ factors c = let e : length c.args.s.m.factors ≡ 7 = search rules in omega (ari
 -- the step, its rows and its marks
 fitting : (r : After-rule_rows-rows) → Fitting r.args.w r.row_count-n.result
     r.rule_rows-rows.result r.args.s
-fitting r = let w = r in record {
+fitting r = let w = r.before.before.before.before in record {
   valid = w.requires.1;
   fits = w.requires.2;
   six = six w;

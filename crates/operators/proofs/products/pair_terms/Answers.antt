@@ -17,7 +17,7 @@ use Rattle.operators.proofs.products.pair_terms.Goals as goal
 -- a term stays: few factors
 few_factors_lem : (c : Else-n-eq0) → c.args.t.factor_count + c.args.u.factor_count ≤ 5
 few_factors_lem c =
-    let a = c in
+    let a = c.before.before in
     pair-few a.args.t a.args.u (omega (arith, left a, a.requires.left.few)) (omega (arith, right a, a.requires.right.few))
     (letters-passed _ _ _ a.requires _ c.parts-few.ensures c.if-n-eq0.false)
   where
@@ -34,7 +34,7 @@ coef_within_lem c = coef-passed _ _ _ c.requires _ c.parts-few.ensures c.if-n-eq
 -- the scalar parts joined
 joined : (c : After-join-b) → Base c.args.t c.args.u c.join-b.result
 joined c =
-    let s = c in
+    let s = c.before.before.before in
     base _ _ _ _ (coef_within_lem s) c.scalars.ensures c.scalars-2.ensures (few_factors_lem s) _ c.join-b.ensures
 
 pub parts-few-requires : goal.parts-few-requires

@@ -33,9 +33,9 @@ multiply-requires c =
 
 pub shape_of-work : goal.shape_of-work
 shape_of-work c =
-    c.multiply.auto.0
-    ∙ c.times_factors-n.auto.0
-    ∙ c.put.auto.0
+    c.multiply.auto.work
+    ∙ c.times_factors-n.auto.work
+    ∙ c.put.auto.work
 
 pub returns : goal.returns
 unfolding term_of

@@ -45,7 +45,7 @@ spread-requires c =
 
 pub loop-j-preserved : goal.loop-j-preserved
 loop-j-preserved c = (
-  c.spread.auto.0 ∙ c.loop-j.invariant.0,
+  c.spread.auto.work ∙ c.loop-j.invariant.0,
   omega (arith, c.loop-j.invariant.1),
   multiply_back _ _ _ _ c.requires _
       c.loop-j-test.true c.loop-j.invariant.1 _

@@ -40,7 +40,7 @@ put_product-requires c = (
 
 pub loop-i-preserved : goal.loop-i-preserved
 loop-i-preserved c = (
-  c.put_product.auto.0 ∙ c.loop-i.invariant.0,
+  c.put_product.auto.work ∙ c.loop-i.invariant.0,
   omega arith,
   spread_on _ _ _ _ _ c.requires _ _ c.loop-i.invariant.2
       c.loop-i-test.true _ c.put_product.ensures,

@@ -44,7 +44,7 @@ overflow_add-k c = omega (arith, c.requires.valid.counted.few)
 
 pub loop-k-preserved : goal.loop-k-preserved
 loop-k-preserved c = (
-  c.multiply-n.auto.0 ∙ c.loop-k.invariant.0,
+  c.multiply-n.auto.work ∙ c.loop-k.invariant.0,
   turn_on _ _ _ c.requires
       (few (goal.at.loop-k-preserved c).Start) _ c.loop-k-test.true _ _
       c.loop-k.invariant.1 _ c.block_of.ensures _ _

@@ -59,7 +59,7 @@ keep-j-requires c =
 
 pub loop-i-preserved : goal.loop-i-preserved
 loop-i-preserved c = (
-  c.keep-j.auto.0 ∙ c.loop-i.invariant.0,
+  c.keep-j.auto.work ∙ c.loop-i.invariant.0,
   write-apart _ _ _ _ _ c.requires.0 _
       _ _ _ c.loop-i.invariant.1
       c.loop-i-test.true _
@@ -74,7 +74,7 @@ keep-requires c =
     c.loop-i.invariant.1.some
 
 pub shape_of-work : goal.shape_of-work
-shape_of-work c = c.keep.auto.0 ∙ c.loop-i.invariant.0
+shape_of-work c = c.keep.auto.work ∙ c.loop-i.invariant.0
 
 pub returns : goal.returns
 returns c =

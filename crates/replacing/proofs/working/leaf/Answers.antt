@@ -4,6 +4,7 @@ use native.Mathlib.Omega.{arith}
 use Rattle.terms.specs.Abstraction.{part_of}
 use Rattle.leaves.proofs.Single.{vector-shape, letter-vector}
 use Rattle.replacing.proofs.Factors.{leaf-other, leaf_same, copied_gives}
+use Rattle.replacing.proofs.working.leaf.Goals.{After-coefs-2-1}
 use Rattle.replacing.proofs.working.leaf.Goals as goal
 
 pub alone-requires : goal.alone-requires
@@ -23,5 +24,5 @@ pub returns : goal.returns
 returns c =
     let p = c.requires in
     leaf_same _ _ _ _ _ _ c.if-x-replaced.false
-    (copied_gives _ _ _ _ _ _ p.form (omega (arith, shape_of-rows c, p.room, p.form.few)) (omega (arith, shape_of-coefs c, p.beside, p.form.few))
+    (copied_gives _ _ _ _ _ _ p.form (omega (arith, shape_of-rows (goal.at.returns c).After-coefs-2-1, p.room, p.form.few)) (omega (arith, shape_of-coefs (goal.at.returns c).After-coefs-2-1, p.beside, p.form.few))
     c.copy.ensures)

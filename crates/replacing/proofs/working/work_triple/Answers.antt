@@ -34,13 +34,13 @@ pub shape_of-rows : goal.shape_of-rows
 shape_of-rows c =
     let second = c in
     let first = c in
-    omega (arith, first.leaf-a.auto.1)
+    omega (arith, first.leaf-a.auto.replaced)
 
 pub shape_of-coefs : goal.shape_of-coefs
 shape_of-coefs c =
     let second = c in
     let first = c in
-    omega (arith, first.leaf-a.auto.1)
+    omega (arith, first.leaf-a.auto.replaced)
 
 pub returns : goal.returns
 returns c =

@@ -39,19 +39,28 @@ shape c =
     }))
 
 pub returns-then-not-is_rule : goal.returns-then-not-is_rule
-returns-then-not-is_rule c = let a = c in record { reached = rows_refused _ _ 11 _ _ refl (λ z. omega arith) (no_rule a.args.table.now (form (goal.at.returns-then-not-is_rule c).Start) a.args.s (six (goal.at.returns-then-not-is_rule c).Start) _ c.is_rule.ensures
-      c.if-not-is_rule.true); kind = refl }
+returns-then-not-is_rule c = let a = c in record {
+  reached = rows_refused _ _ 11 _ _ refl (λ z. omega arith) (no_rule a.args.table.now (form (goal.at.returns-then-not-is_rule c).Start) a.args.s (six (goal.at.returns-then-not-is_rule c).Start) _ c.is_rule.ensures
+      c.if-not-is_rule.true);
+  kind = refl;
+}
 
 pub returns-then-not-in_shape : goal.returns-then-not-in_shape
-returns-then-not-in_shape c = let a = c in record { reached = rows_refused _ _ 11 _ _ refl (λ z. omega arith)
+returns-then-not-in_shape c = let a = c in record {
+  reached = rows_refused _ _ 11 _ _ refl (λ z. omega arith)
       (no_shape a.args.table.now (form (goal.at.returns-then-not-in_shape c).Start) a.args.s (six (goal.at.returns-then-not-in_shape c).Start) _ c.is_rule.ensures
-      c.if-not-is_rule.false _ (shape (goal.at.returns-then-not-in_shape c).After-in_shape) c.if-not-in_shape.true); kind = refl }
+      c.if-not-is_rule.false _ (shape (goal.at.returns-then-not-in_shape c).After-in_shape) c.if-not-in_shape.true);
+  kind = refl;
+}
 
 pub returns-then-r-ne0 : goal.returns-then-r-ne0
-returns-then-r-ne0 c = let a = c in record { reached = rows_refused _ _ _ _ _ refl c.if-r-ne0.true
+returns-then-r-ne0 c = let a = c in record {
+  reached = rows_refused _ _ _ _ _ refl c.if-r-ne0.true
       (letters_refused a.args.table.now (form (goal.at.returns-then-r-ne0 c).Start) a.args.s (six (goal.at.returns-then-r-ne0 c).Start) _ c.is_rule.ensures c.if-not-is_rule.false _ (shape (goal.at.returns-then-r-ne0 c).After-in_shape)
       c.if-not-in_shape.false
-      _ c.test_step_letters-r.ensures c.if-r-ne0.true); kind = refl }
+      _ c.test_step_letters-r.ensures c.if-r-ne0.true);
+  kind = refl;
+}
 
 pub take_step-requires : goal.take_step-requires
 take_step-requires c = let a = c in (
@@ -65,8 +74,11 @@ take_step-requires c = let a = c in (
 )
 
 pub returns : goal.returns
-returns c = let a = c in record { reached = rows_as _ _ _ _ _
+returns c = let a = c in record {
+  reached = rows_as _ _ _ _ _
       (step-decides a.args.table.now (form (goal.at.returns c).Start) a.args.s (six (goal.at.returns c).Start) _ c.is_rule.ensures c.if-not-is_rule.false _ (shape (goal.at.returns c).After-in_shape)
       c.if-not-in_shape.false
       _ c.test_step_letters-r.ensures c.if-r-ne0.false)
-      c.take_step.ensures.0; kind = c.take_step.ensures.1.0 }
+      c.take_step.ensures.reached;
+  kind = c.take_step.ensures.kind;
+}

@@ -72,7 +72,7 @@ limit c = in_limit (term_of c.args.s.m) c.requires.step.m.in_shape
 
 -- the product's coefficient is read back as it was stored
 own : (c : After-times_row-t) → nat_abs c.times_row-t.result.coef ≤ 2147483647
-own c = let w = c in product-light w.args.s w.requires.step (six w) _ _ (product c)
+own c = let w = c.before.before.before.before.before.before.before in product-light w.args.s w.requires.step (six w) _ _ (product c)
 
 kept : (c : After-times_row-t) → back c.times_row-t.result.coef ≡ c.times_row-t.result.coef
 kept c = fits_back _ (omega (arith, own c))

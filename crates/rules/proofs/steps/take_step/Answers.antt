@@ -20,11 +20,14 @@ returns-then-e-ne0 c = let a = c in (
 )
 
 pub bring_step-m-requires : goal.bring_step-m-requires
-bring_step-m-requires c = let a = c in record { run = (a.requires.0.run, a.requires.0.light, a.requires.2, a.requires.3); step = (
+bring_step-m-requires c = let a = c in record {
+  run = (a.requires.0.run, a.requires.0.light, a.requires.2, a.requires.3);
+  step = (
     a.requires.1,
     step-fitting (form_by a.args.kind a.args.n a.args.rows.now a.args.coefs.now) a.args.s
         _ c.test_step-e.ensures c.if-e-ne0.false,
-  ) }
+  );
+}
 
 -- M's coefficient is within, and read back as it was stored
 limit : (c : Start) → nat_abs c.args.s.m.coef ≤ 2147483647
@@ -37,7 +40,7 @@ own c = ap nat_abs (fits_back c.args.s.m.coef (omega (arith, limit c)))
 -- the bound behind the step
 bounded : (c : After-raised-b) → Light c.raised-b.result c.bring_step-m.result
     c.bring_step-m.new.coefs
-bounded c = let a = c in
+bounded c = let a = c.before.before.before.before.before.before.before.before.before in
     light_more (a.args.bound + 7 * nat_abs a.args.s.m.coef) c.raised-b.result _ _ (omega (arith, c.raised-b.ensures, own a))
     (c.bring_step-m.ensures.light a.args.bound a.requires.4)
 

@@ -41,7 +41,7 @@ onward : (c : After-next_candidate-c)
     → RowPassed c.args.table.now
     (form c.before.before.before.before.before.before.before) c.args.first
     (c.loop-at.at / 40960 * 40960 + c.next_candidate-c.result.next)
-onward c u = let w = c in
+onward c u = let w = c.before.before.before.before.before.before.before in
     let v = c.loop-at in
     row_more w.args.marks.now w.args.table.now (form w) w.args.first v.at (v.at / 40960) c.next_candidate-c.result
     w.requires.0.in_shape w.requires.3 refl v.invariant.0
@@ -109,7 +109,7 @@ try_step-w-requires c = let w = c in
 
 pub find_place-p-requires : goal.find_place-p-requires
 find_place-p-requires c = let w = c in
-    let g = (c.try_step-w.ensures.0.form c.if-w-eq0.true).run in (
+    let g = (c.try_step-w.ensures.reached.form c.if-w-eq0.true).run in (
       g.room,
       g.valid,
       all-at RowValid w.args.rows.now w.args.n (c.loop-at.at / 40960) [] w.requires.0.run.room
@@ -133,8 +133,8 @@ pub returns-then-count-n : goal.returns-then-count-n
 unfolding SearchedBy
 returns-then-count-n c = let w = c in
     let l = run_length w.args.rows.now w.args.coefs.now w.args.n w.requires.0.run.room w.requires.0.run.beside in
-    shorter w.args.table.now (form (goal.at.returns-then-count-n c).Start) _ _ _ _ c.try_step-w.ensures.0
-    c.if-w-eq0.true c.try_step-w.ensures.1
+    shorter w.args.table.now (form (goal.at.returns-then-count-n c).Start) _ _ _ _ c.try_step-w.ensures.reached
+    c.if-w-eq0.true c.try_step-w.ensures.kind
     (omega (arith, c.if-count-n.true, l))
     c.next_candidate-c.ensures.counted
     _ c.find_place-p.ensures.inside
@@ -146,7 +146,7 @@ pub loop-at-preserved-else-count-n : goal.loop-at-preserved-else-count-n
 loop-at-preserved-else-count-n c = let w = c in
     let l = run_length w.args.rows.now w.args.coefs.now w.args.n w.requires.0.run.room w.requires.0.run.beside in (
       onward (goal.at.loop-at-preserved-else-count-n c).After-next_candidate-c (long_useless w.args.table.now (form (goal.at.loop-at-preserved-else-count-n c).Start)
-          _ _ _ _ c.try_step-w.ensures.0 c.if-w-eq0.true _ (omega (arith, c.if-count-n.false, l))),
+          _ _ _ _ c.try_step-w.ensures.reached c.if-w-eq0.true _ (omega (arith, c.if-count-n.false, l))),
       omega (
         arith,
         c.loop-at.invariant.1,
@@ -163,7 +163,7 @@ loop-at-smaller-else-w-eq0 c = further (goal.at.loop-at-smaller-else-w-eq0 c).Af
 pub loop-at-preserved-else-w-eq0 : goal.loop-at-preserved-else-w-eq0
 loop-at-preserved-else-w-eq0 c = (
   onward (goal.at.loop-at-preserved-else-w-eq0 c).After-next_candidate-c
-      (refused_useless c.args.table.now (form (goal.at.loop-at-preserved-else-w-eq0 c).Start) _ _ _ _ c.try_step-w.ensures.0 _ c.if-w-eq0.false),
+      (refused_useless c.args.table.now (form (goal.at.loop-at-preserved-else-w-eq0 c).Start) _ _ _ _ c.try_step-w.ensures.reached _ c.if-w-eq0.false),
   omega (arith, c.loop-at.invariant.1),
   omega (arith, c.loop-at.invariant.2),
 )

@@ -31,4 +31,4 @@ step_at-requires c = let w = c in (
 pub returns : goal.returns
 returns c = let w = c in record { reached = rows_as _ _ _ _ _ (ap (λ (l : List S.Term). step_at w.args.table.now (record { kind = w.args.kind; terms = l }) (step_of w.args.s))
       (run-copied _ _ _ _ _ c.copy.ensures))
-      c.step_at.ensures.0; kind = c.step_at.ensures.1 }
+      c.step_at.ensures.reached; kind = c.step_at.ensures.kind }

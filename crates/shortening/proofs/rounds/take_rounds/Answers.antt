@@ -51,14 +51,14 @@ fewer c = let v = c.loop-r in
     omega (arith, (found c).fewer, run_length v.rows v.coefs v.count v.invariant.1.run.room v.invariant.1.run.beside)
 
 -- the form that it reaches, copied
-reached : (c : After-copy) → FormRun c.args.kind c.loop-r.r.count c.copy.new.coefs c.copy.new.1.1.1.1.0
+reached : (c : After-copy) → FormRun c.args.kind c.loop-r.r.count c.copy.new.rows c.copy.new.coefs
 reached c = let v = c.loop-r in
     form-copied _ _ _ _ _ c.copy.ensures _ (omega (arith, fewer c.before.before.before.before.before.before, v.invariant.1.run.room))
     (omega (arith, fewer c.before.before.before.before.before.before, v.invariant.1.run.beside))
     (found c.before.before.before.before.before.before).form
 
-same : (c : After-copy) → run_of c.loop-r.r.count c.copy.new.coefs
-    c.copy.new.1.1.1.1.0 ≡ run_of c.loop-r.r.count
+same : (c : After-copy) → run_of c.loop-r.r.count c.copy.new.rows
+    c.copy.new.coefs ≡ run_of c.loop-r.r.count
     c.loop-r.to c.loop-r.tos
 same c = run-copied _ _ _ _ _ c.copy.ensures
 
@@ -66,8 +66,8 @@ leads : (c : After-copy)
     → Leads c.args.table.now (form c.before.before.before.before.before.before.before.before.before.before.before.before.before.before.before.before.before.before.before.before.before) (set c.loop-r.steps
     c.loop-r.n c.loop-r.r.step)
     (c.loop-r.n + 1)
-    (form_by c.args.kind c.loop-r.r.count c.copy.new.coefs
-    c.copy.new.1.1.1.1.0)
+    (form_by c.args.kind c.loop-r.r.count c.copy.new.rows
+    c.copy.new.coefs)
 leads c = let v = c.loop-r in
     subst (λ (l : List S.Term). Leads c.args.table.now (form c.before.before.before.before.before.before.before.before.before.before.before.before.before.before.before.before.before.before.before.before.before) (set v.steps v.n v.r.step) (v.n + 1)
     (record {
@@ -81,13 +81,13 @@ leads c = let v = c.loop-r in
 -- the marks carried over cover it
 covered : (c : After-mark_reached)
     → Covering c.mark_reached.new.marks (run_of c.loop-r.r.count
-    c.copy.new.coefs c.copy.new.1.1.1.1.0)
+    c.copy.new.rows c.copy.new.coefs)
 covered c = let v = c.loop-r in
     round-covered c.args.table.now
     (form c.before.before.before.before.before.before.before.before.before.before.before.before.before.before.before.before.before.before.before.before.before.before.before.before.before) (few c.before.before.before.before.before.before.before.before.before.before.before.before.before.before.before.before.before.before.before.before.before.before.before.before.before) v.steps v.n
     (current c.before.before.before.before.before.before.before.before.before.before) v.invariant.0 v.r v.to v.tos _ v.invariant.4
     c.loop-r-test.true
-    v.invariant.1.in_shape v.marks _ v.invariant.3 c.mark_reached.ensures.0 _ _ (same c.before.before.before.before)
+    v.invariant.1.in_shape v.marks _ v.invariant.3 c.mark_reached.ensures.covering _ _ (same c.before.before.before.before)
 
 pub no_step-none-requires : goal.no_step-none-requires
 no_step-none-requires c = tt
@@ -99,8 +99,8 @@ pub search-r-requires : goal.search-r-requires
 search-r-requires c = let w = c in (
   w.requires.0,
   omega arith,
-  c.mark_rows-marks.ensures.1,
-  c.mark_rows-marks.ensures.0,
+  c.mark_rows-marks.ensures.long,
+  c.mark_rows-marks.ensures.covering,
   w.requires.1,
   w.requires.2,
 )
@@ -109,8 +109,8 @@ pub loop-r-init : goal.loop-r-init
 loop-r-init c = let w = c in (
   rounds_none _ _ _ _ refl refl,
   w.requires.0,
-  c.mark_rows-marks.ensures.1,
-  c.mark_rows-marks.ensures.0,
+  c.mark_rows-marks.ensures.long,
+  c.mark_rows-marks.ensures.covering,
   c.search-r.ensures,
   refl,
   refl,
@@ -151,7 +151,7 @@ search-r-requires-in-loop-r c = let w = c in
     let v = c.loop-r in (
       reached (goal.at.search-r-requires-in-loop-r c).After-copy,
       (found (goal.at.search-r-requires-in-loop-r c).In-loop-r).behind,
-      c.mark_reached.ensures.1,
+      c.mark_reached.ensures.long,
       covered (goal.at.search-r-requires-in-loop-r c).After-mark_reached,
       omega (arith, w.requires.1, v.invariant.7),
       omega (arith, w.requires.2, v.invariant.8),
@@ -169,8 +169,8 @@ search-r-requires-then-not-r c = let w = c in
     let v = c.loop-r in (
       reached (goal.at.search-r-requires-then-not-r c).After-copy,
       omega arith,
-      c.mark_rows-marks-then-not-r.ensures.1,
-      c.mark_rows-marks-then-not-r.ensures.0,
+      c.mark_rows-marks-then-not-r.ensures.long,
+      c.mark_rows-marks-then-not-r.ensures.covering,
       omega (
         arith,
         w.requires.1,
@@ -194,8 +194,8 @@ pub loop-r-preserved-then-not-r : goal.loop-r-preserved-then-not-r
 loop-r-preserved-then-not-r c = let v = c.loop-r in (
   leads (goal.at.loop-r-preserved-then-not-r c).After-copy,
   reached (goal.at.loop-r-preserved-then-not-r c).After-copy,
-  c.mark_rows-marks-then-not-r.ensures.1,
-  c.mark_rows-marks-then-not-r.ensures.0,
+  c.mark_rows-marks-then-not-r.ensures.long,
+  c.mark_rows-marks-then-not-r.ensures.covering,
   c.search-r-then-not-r.ensures,
   omega (
     arith,
@@ -228,7 +228,7 @@ pub loop-r-preserved : goal.loop-r-preserved
 loop-r-preserved c = let v = c.loop-r in (
   leads (goal.at.loop-r-preserved c).After-copy,
   reached (goal.at.loop-r-preserved c).After-copy,
-  c.mark_reached.ensures.1,
+  c.mark_reached.ensures.long,
   covered (goal.at.loop-r-preserved c).After-mark_reached,
   found_anywhere c.args.table.now _ _ _ _ _ _ c.search-r-in-loop-r.ensures (not-false _ c.if-not-r.false),
   omega (arith, v.inv.5),
