@@ -100,7 +100,7 @@ def parted(block):
 def substitute(text, names):
     """The variables by what stands for them, but for fields."""
     return re.sub(ID + r"|\.", lambda it: it[0], text) if not names else re.sub(
-        rf"(?<![.\w'₀-])({'|'.join(re.escape(it) for it in sorted(names, key=len, reverse=True))})(?![\w'₀-])", lambda it: names[it[1]], text
+        rf"(?<![.\w'₀-])({'|'.join(re.escape(it) for it in sorted(names, key=len, reverse=True))})(?![\w'₀-])(?! =(?!=))", lambda it: names[it[1]], text
     )
 
 
@@ -159,12 +159,14 @@ def path_turned(path, function, places, typed={}, where=None):
         while k < len(rest) and rest[k] == "1" and k < len(named):
             k += 1
         if k - 1 < len(named):
-            rest = [{"kept": "auto"}.get(rest[0], rest[0]), named[k - 1], *rest[k + (rest[k : k + 1] == ["0"]) :]]
+            is_paired = rest[0] != "ensures" or k < len(named)
+            rest = [{"kept": "auto"}.get(rest[0], rest[0]), named[k - 1], *rest[k + (rest[k : k + 1] == ["0"] and is_paired) :]]
     if step in ("pre", "requires") and rest and rest[0].isdigit() and function.fields:
         k = 0
         while k < len(rest) and rest[k] == "1" and k + 1 < len(function.fields):
             k += 1
-        rest = [function.fields[k], *rest[k + (rest[k : k + 1] == ["0"]) :]]
+        # the last of them is not in a pair of its own
+        rest = [function.fields[k], *rest[k + (rest[k : k + 1] == ["0"] and k + 1 < len(function.fields)) :]]
     if step == "pre":
         step = "requires"
     return ".".join([parts[0], step, *rest])

@@ -20,7 +20,7 @@ returns-then-not-room c =
     }
 
 pub bounds-s-at : goal.bounds-s-at
-bounds-s-at c = omega (arith, roomy (goal.at.bounds-s-at c).After-shared_slice_known-2-1)
+bounds-s-at c = omega (arith, leb-true _ _ (sym c.room.ensures ∙ c.if-not-room.false))
 
 pub overflow_add-n : goal.overflow_add-n
 overflow_add-n c = omega (arith, roomy (goal.at.overflow_add-n c).After-shared_slice_known-2-1)

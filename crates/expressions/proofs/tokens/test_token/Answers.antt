@@ -17,10 +17,10 @@ pub returns-in-1 : goal.returns-in-1
 returns-in-1 c = token-letter _ _ _ _ _ c.in-1.is refl c.test_in_table.ensures
 
 pub returns-in-2-to-9 : goal.returns-in-2-to-9
-returns-in-2-to-9 c = token_known _ _ _ (low_known _ c.in-1.rest.1 c.in-1.rest.0.1) c.if-token-lt10.true
+returns-in-2-to-9 c = token_known _ _ _ (low_known _ c.in-2-to-9.in_default-own.rest.1 c.in-2-to-9.in_default-own.rest.0.1) c.in-2-to-9.if-token-lt10-own.true
 
 pub returns-in-0 : goal.returns-in-0
-returns-in-0 c = token_zero _ _ _ c.in-1.keys2
+returns-in-0 c = token_zero _ _ _ c.in-0.in-0-own.keys2
 
 pub returns-in-0-2 : goal.returns-in-0-2
-returns-in-0-2 c = token-high _ _ _ c.if-token-lt10.false
+returns-in-0-2 c = token-high _ _ _ c.in-0.if-token-lt10-own.false

@@ -10,7 +10,7 @@ pub returns-in-2 : goal.returns-in-2
 returns-in-2 c = bytes-constant _ c.in-2.is
 
 pub returns-in-0 : goal.returns-in-0
-returns-in-0 c = bytes-operator _ (λ e. omega (arith, c.in-1.keys3)) (λ e. omega (arith, c.in-1.keys3))
+returns-in-0 c = bytes-operator _ (λ e. omega (arith, c.in-0.in-0-own.keys3)) (λ e. omega (arith, c.in-0.in-0-own.keys3))
 
 pub returns-in-0-2 : goal.returns-in-0-2
-returns-in-0-2 c = bytes-operator _ c.in-1.rest.0.0.1 c.in-1.rest.0.1
+returns-in-0-2 c = bytes-operator _ c.in-0.in-0-own.rest.0.0.1 c.in-0.in-0-own.rest.0.1

@@ -37,7 +37,7 @@ returns-in-8 c = operates-wedge _ _ _ _ _ _ c.in-8.is c.wedge.ensures
 
 pub returns-in-0-to-2 : goal.returns-in-0-to-2
 returns-in-0-to-2 c =
-    either_way_lem c.in-3.branch (λ k. operates_none _ _ _ _ _ _ (λ e. omega (arith, k.keys6)) (λ e. omega (arith, k.keys6))
+    either_way_lem c.in-0-to-2-1.branch (λ k. operates_none _ _ _ _ _ _ (λ e. omega (arith, k.keys6)) (λ e. omega (arith, k.keys6))
     (λ e. omega (arith, k.keys6)) (λ e. omega (arith, k.keys6)) (λ e. omega (arith, k.keys6)) c.refuse.ensures)
     (λ k. operates_none _ _ _ _ _ _ k.rest.0.0.0.0.0.1 k.rest.0.0.0.0.1 k.rest.0.0.0.1 k.rest.0.0.1 k.rest.0.1
     c.refuse.ensures)

@@ -20,7 +20,7 @@ use Rattle.marks.proofs.Gains.{Gained, gained_none, gained_more, gained_apart, g
 use Rattle.marks.proofs.steps.gain.Given as goal
 
 abbrev pub invariant-loop-i : goal.invariant-loop-i
-invariant-loop-i l = (l.i ≤ l.n) × Gained l.t (record { l.rule = l.rule; l.letters = l.letters; l.m = l.m }) l.i l.g
+invariant-loop-i l = (l.i ≤ l.n) × Gained l.t (record { rule = l.rule; letters = l.letters; m = l.m }) l.i l.g
 
 abbrev pub decreases-loop-i : goal.decreases-loop-i
 decreases-loop-i l = l.n - l.i

@@ -14,4 +14,4 @@ returns-in-3 c = rw (ne_eqb c.args.rule 2 (omega (arith, c.in-3.is)), eq-eqb c.a
 
 pub returns-in_default : goal.returns-in_default
 unfolding block_size
-returns-in_default c = rw (ne_eqb c.args.rule 2 c.in-2.rest.0.1, ne_eqb c.args.rule 3 c.in-2.rest.1)
+returns-in_default c = rw (ne_eqb c.args.rule 2 c.in_default.in_default-own.rest.0.1, ne_eqb c.args.rule 3 c.in_default.in_default-own.rest.1)

@@ -35,5 +35,5 @@ pub returns-in-6 : goal.returns-in-6
 returns-in-6 c = ap (λ (n : ℕ). 2 ^ n) (sym c.in-6.is)
 
 pub returns-in_default : goal.returns-in_default
-returns-in_default c = let w = c.in-0.rest in ap (λ (n : ℕ). 2 ^ n) (seven c.args.n c.requires (four c.args.n
+returns-in_default c = let w = c.in_default.in_default-own.rest in ap (λ (n : ℕ). 2 ^ n) (seven c.args.n c.requires (four c.args.n
     (two c.args.n w.0.0.0.0.0.0.1 w.0.0.0.0.0.1) w.0.0.0.0.1 w.0.0.0.1) w.0.0.1 w.0.1 w.1)

@@ -23,10 +23,10 @@ six : (c : Start) → length c.args.s.letters ≡ 6
 six c = search rules
 
 factors : (c : Start) → c.args.s.m.factor_count ≤ length c.args.s.m.factors
-factors c = let e : length c.args.s.m.factors ≡ 7 = search rules in omega (arith, e, c.requires.step.m.counted.few)
+factors c = let e : length c.args.s.m.factors ≡ 7 = search rules in omega (arith, e, c.requires.step.0.m.counted.few)
 
 few : (c : In-loop-i) → c.row_count-count.result ≤ 7
-few c = rows_few _ _ c.requires.step.rule c.row_count-count.ensures
+few c = rows_few _ _ c.requires.step.0.rule c.row_count-count.ensures
 
 here : (c : In-loop-i) → c.loop-i.i < row_count c.args.s.rule
 here c = omega (arith, c.loop-i-test.true, c.row_count-count.ensures)
@@ -45,11 +45,11 @@ pub row_count-count-requires : goal.row_count-count-requires
 row_count-count-requires c = tt
 
 pub rule_rows-table-requires : goal.rule_rows-table-requires
-rule_rows-table-requires c = c.requires.step.rule
+rule_rows-table-requires c = c.requires.step.0.rule
 
 pub loop-i-init : goal.loop-i-init
 loop-i-init c = let w = c in
-    (omega arith, turned_none w.args.s w.requires.step (six (goal.at.loop-i-init c).Start) _ _ _ w.requires.run.0, refl, refl)
+    (omega arith, turned_none w.args.s w.requires.step.0 (six (goal.at.loop-i-init c).Start) _ _ _ w.requires.run.0, refl, refl)
 
 pub offset_bounds-table-i : goal.offset_bounds-table-i
 offset_bounds-table-i c = omega (arith, few (goal.at.offset_bounds-table-i c).In-loop-i)
@@ -59,7 +59,7 @@ bounds-table-i c = omega (arith, c.loop-i-test.true, few (goal.at.bounds-table-i
 
 pub times_row-t-requires : goal.times_row-t-requires
 times_row-t-requires c = let w = c in
-    let v = row_fits w.args.s w.requires.step (six (goal.at.times_row-t-requires c).Start) w.requires.step.1 c.loop-i.i (here (goal.at.times_row-t-requires c).In-loop-i) (factors (goal.at.times_row-t-requires c).Start) in
+    let v = row_fits w.args.s w.requires.step.0 (six (goal.at.times_row-t-requires c).Start) w.requires.step.1 c.loop-i.i (here (goal.at.times_row-t-requires c).In-loop-i) (factors (goal.at.times_row-t-requires c).Start) in
     record { counts = v.0; part = subst (λ (k : ℕ). (part_of w.args.s.m.part ≡ []) ⊎ (part_at w.args.s.letters (k % 64) ≡ [])) (sym (row (goal.at.times_row-t-requires c).In-loop-i)) v.1 }
 
 pub row_of-r-requires : goal.row_of-r-requires
@@ -68,11 +68,11 @@ row_of-r-requires c = (product (goal.at.row_of-r-requires c).After-times_row-t).
 -- M's coefficient is within
 limit : (c : Start) → nat_abs c.args.s.m.coef ≤ 2147483647
 unfolding term_of
-limit c = in_limit (term_of c.args.s.m) c.requires.step.m.in_shape
+limit c = in_limit (term_of c.args.s.m) c.requires.step.0.m.in_shape
 
 -- the product's coefficient is read back as it was stored
 own : (c : After-times_row-t) → nat_abs c.times_row-t.result.coef ≤ 2147483647
-own c = let w = c.before.before.before.before.before.before.before in product-light w.args.s w.requires.step (six w) _ _ (product c)
+own c = let w = c.before.before.before.before.before.before.before in product-light w.args.s w.requires.step.0 (six w) _ _ (product c)
 
 kept : (c : After-times_row-t) → back c.times_row-t.result.coef ≡ c.times_row-t.result.coef
 kept c = fits_back _ (omega (arith, own c))
@@ -100,7 +100,7 @@ pub loop-i-preserved : goal.loop-i-preserved
 loop-i-preserved c = let w = c in
     let v = c.loop-i in (
       omega arith,
-      turned_more w.args.s w.requires.step (six (goal.at.loop-i-preserved c).Start) _ _ _ v.i v.held _ _ _ _ _ _ _ _
+      turned_more w.args.s w.requires.step.0 (six (goal.at.loop-i-preserved c).Start) _ _ _ v.i v.held _ _ _ _ _ _ _ _
           (here (goal.at.loop-i-preserved c).In-loop-i)
           v.invariant.1 (product (goal.at.loop-i-preserved c).After-times_row-t)
           c.row_of-r.ensures (kept (goal.at.loop-i-preserved c).After-times_row-t)
@@ -119,5 +119,5 @@ pub returns : goal.returns
 returns c = let w = c in
     let v = c.loop-i in
     let e : v.i ≡ c.row_count-count.result = omega (arith, c.loop-i-test.false, v.invariant.0) in
-    turned_all w.args.s w.requires.step (six (goal.at.returns c).Start) _ _ _ v.i _ _ _ (omega (arith, e, c.row_count-count.ensures))
-    (omega (arith, e, rows_few _ _ w.requires.step.rule c.row_count-count.ensures)) v.invariant.1
+    turned_all w.args.s w.requires.step.0 (six (goal.at.returns c).Start) _ _ _ v.i _ _ _ (omega (arith, e, c.row_count-count.ensures))
+    (omega (arith, e, rows_few _ _ w.requires.step.0.rule c.row_count-count.ensures)) v.invariant.1

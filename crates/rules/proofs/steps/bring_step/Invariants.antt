@@ -19,9 +19,9 @@ use Rattle.rules.proofs.steps.bring_step.Given as goal
 
 abbrev pub invariant-loop-i : goal.invariant-loop-i
 invariant-loop-i l = (l.i ≤ l.count) × Turned (record {
-  l.rule = l.rule;
-  l.letters = l.letters;
-  l.m =
+  rule = l.rule;
+  letters = l.letters;
+  m =
       l.m;
 }) l.n l.initial.rows l.initial.coefs l.i l.held l.rows l.coefs × (length l.rows ≡ length l.initial.rows) × (length l.coefs ≡ length l.initial.coefs)
 

@@ -14,4 +14,4 @@ returns-in-5 c = rw (ne_eqb c.args.rule 3 (omega (arith, c.in-5.is)), eq-eqb c.a
 
 pub returns-in_default : goal.returns-in_default
 unfolding rule_kind
-returns-in_default c = rw (ne_eqb c.args.rule 3 c.in-3.rest.0.1, ne_eqb c.args.rule 5 c.in-3.rest.1)
+returns-in_default c = rw (ne_eqb c.args.rule 3 c.in_default.in_default-own.rest.0.1, ne_eqb c.args.rule 5 c.in_default.in_default-own.rest.1)
