@@ -241,11 +241,8 @@ def bare_ways(text, ways):
     return re.sub(rf"(?<![\w.'-])(?:{names}) ({of})(?![\w.'-])", r"\1", text)
 
 
-def as_record(body, fields):
-    """A tuple at the end of an answer as a record of the clauses."""
-    text = body.rstrip()
-    if not text.endswith(")"):
-        return body
+def tuple_at_end(text):
+    """Where the tuple that ends the text begins, and its parts."""
     depth, at = 0, len(text) - 1
     commas = []
     while at >= 0:
@@ -262,8 +259,20 @@ def as_record(body, fields):
         inner.append(text[last:comma].strip())
         last = comma + 1
     inner.append(text[last:-1].strip())
-    if not inner[-1]:
-        inner.pop()
+    return at, inner if inner[-1] else inner[:-1]
+
+
+def as_record(body, fields):
+    """A tuple at the end of an answer as a record of the clauses."""
+    text = body.rstrip()
+    if not text.endswith(")"):
+        return body
+    at, inner = tuple_at_end(text)
+    while len(inner) < len(fields) and inner and inner[-1].startswith("("):
+        start, more = tuple_at_end(inner[-1])
+        if start:
+            break
+        inner = inner[:-1] + more
     if len(inner) != len(fields) or not re.search(r"(=|\bin|,|↦)\s*$", text[:at]):
         return body
     return text[:at] + "record { " + "; ".join(f"{f} = {it}" for f, it in zip(fields, inner)) + " }"

@@ -52,10 +52,10 @@ loop-i-init c = let w = c in
     (omega arith, turned_none w.args.s w.requires.step.0 (six (goal.at.loop-i-init c).Start) _ _ _ w.requires.run.0, refl, refl)
 
 pub offset_bounds-table-i : goal.offset_bounds-table-i
-offset_bounds-table-i c = omega (arith, few (goal.at.offset_bounds-table-i c).In-loop-i)
+offset_bounds-table-i c = omega (arith, rows_few _ _ c.requires.step.0.rule c.row_count-count.ensures)
 
 pub bounds-table-i : goal.bounds-table-i
-bounds-table-i c = omega (arith, c.loop-i-test.true, few (goal.at.bounds-table-i c).In-loop-i, c.rule_rows-table.ensures.places)
+bounds-table-i c = omega (arith, c.loop-i-test.true, rows_few _ _ c.requires.step.0.rule c.row_count-count.ensures, c.rule_rows-table.ensures.places)
 
 pub times_row-t-requires : goal.times_row-t-requires
 times_row-t-requires c = let w = c in

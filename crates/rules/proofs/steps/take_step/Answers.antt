@@ -14,10 +14,7 @@ use Rattle.rules.proofs.steps.take_step.Goals.{After-raised-b, Start}
 use Rattle.rules.proofs.steps.take_step.Goals as goal
 
 pub returns-then-e-ne0 : goal.returns-then-e-ne0
-returns-then-e-ne0 c = let a = c in (
-  step_stays _ _ _ _ _ _ c.test_step-e.ensures _ _ c.if-e-ne0.true,
-  (refl, light_more a.args.bound (a.args.bound + 7 * nat_abs a.args.s.m.coef) a.args.n _ (omega arith) a.requires.4),
-)
+returns-then-e-ne0 c = let a = c in record { reached = step_stays _ _ _ _ _ _ c.test_step-e.ensures _ _ c.if-e-ne0.true; kind = refl; light = light_more a.args.bound (a.args.bound + 7 * nat_abs a.args.s.m.coef) a.args.n _ (omega arith) a.requires.4 }
 
 pub bring_step-m-requires : goal.bring_step-m-requires
 bring_step-m-requires c = let a = c in record {
@@ -51,9 +48,10 @@ pub test_limits-e-requires : goal.test_limits-e-requires
 test_limits-e-requires c = (c.bring_step-m.ensures.run.beside, λ _. bounded (goal.at.test_limits-e-requires c).After-raised-b)
 
 pub returns : goal.returns
-returns c = let a = c in (
-  step-moves _ _ _ _ _ _ c.test_step-e.ensures
+returns c = let a = c in record {
+  reached = step-moves _ _ _ _ _ _ c.test_step-e.ensures
       c.if-e-ne0.false a.requires.0 a.requires.1
-      _ _ _ c.bring_step-m.ensures _ c.test_limits-e.ensures,
-  (refl, c.bring_step-m.ensures.light a.args.bound a.requires.4),
-)
+      _ _ _ c.bring_step-m.ensures _ c.test_limits-e.ensures;
+  kind = refl;
+  light = c.bring_step-m.ensures.light a.args.bound a.requires.4;
+}
