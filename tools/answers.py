@@ -104,6 +104,20 @@ def substitute(text, names):
     )
 
 
+def of_call(step, rest, function):
+    """What a call left, kept or ensures, by the name of the parameter or of the clause."""
+    if rest[:1] in (["new"], ["auto"], ["kept"], ["ensures"]) and len(rest) > 1 and rest[1].isdigit() and step in function.callees:
+        params, clauses = SOURCES.get(function.callees[step], ([], []))
+        named = clauses if rest[0] == "ensures" else params
+        k = 1
+        while k < len(rest) and rest[k] == "1" and k < len(named):
+            k += 1
+        if k - 1 < len(named):
+            is_paired = rest[0] != "ensures" or k < len(named)
+            return [{"kept": "auto"}.get(rest[0], rest[0]), named[k - 1], *rest[k + (rest[k : k + 1] == ["0"] and is_paired) :]]
+    return rest
+
+
 def above(function, place):
     """The place and those that lead to it, the nearest first."""
     seen = []
@@ -152,15 +166,7 @@ def path_turned(path, function, places, typed={}, where=None):
     rest = [{"type-inv": "type_inv"}.get(it, it) for it in rest]
     if step in function.within and rest and rest[0] in function.within[step]:
         rest = [function.within[step][rest[0]], *rest[1:]]
-    if rest[:1] in (["new"], ["auto"], ["kept"], ["ensures"]) and len(rest) > 1 and rest[1].isdigit() and step in function.callees:
-        params, clauses = SOURCES.get(function.callees[step], ([], []))
-        named = clauses if rest[0] == "ensures" else params
-        k = 1
-        while k < len(rest) and rest[k] == "1" and k < len(named):
-            k += 1
-        if k - 1 < len(named):
-            is_paired = rest[0] != "ensures" or k < len(named)
-            rest = [{"kept": "auto"}.get(rest[0], rest[0]), named[k - 1], *rest[k + (rest[k : k + 1] == ["0"] and is_paired) :]]
+    rest = of_call(step, rest, function)
     if step in ("pre", "requires") and rest and rest[0].isdigit() and function.fields:
         k = 0
         while k < len(rest) and rest[k] == "1" and k + 1 < len(function.fields):
@@ -214,6 +220,12 @@ def turned(text, function, goal=None, helpers={}):
     typed = function.typed.get(where, {})
     text = PATH.sub(lambda it: path_turned(it[0], function, at, typed, where), text)
     for name, step in re.findall(r"let ([a-z][\w']*) = [\w.'-]*\.([\w-]+) in", text):
+        if step in function.callees:
+            text = re.sub(
+                rf"(?<![\w.'-]){re.escape(name)}\.(new|auto|kept|ensures)((?:\.\d)+)",
+                lambda it: ".".join([name, *of_call(step, [it[1], *it[2].strip(".").split(".")], function)]),
+                text,
+            )
         for a, b in function.within.get(step, {}).items():
             text = re.sub(rf"(?<![\w.'-]){re.escape(name)}\.{re.escape(a)}(?![\w'-])", f"{name}.{b}", text)
     # the test of a negation says what it says of what is negated
@@ -239,6 +251,53 @@ def bare_ways(text, ways):
     text = re.sub(rf"\((?:{names}) ({of})\)\.", r"\1.", text)
     text = re.sub(rf"\((?:{names}) ({of})\)", r"\1", text)
     return re.sub(rf"(?<![\w.'-])(?:{names}) ({of})(?![\w.'-])", r"\1", text)
+
+
+def group(text, at):
+    """The end of the bracketed group that begins at a place."""
+    depth = 0
+    for i in range(at, len(text)):
+        depth += text[i] in "([{"
+        depth -= text[i] in ")]}"
+        if depth == 0:
+            return i + 1
+    return len(text)
+
+
+def joined(text, function, whole):
+    """What an old answer took apart as a sum, where branches join, as cases of the join."""
+    at = 0
+    while True:
+        at = text.find("⊎_elim", at)
+        if at < 0:
+            return text
+        arms, i = [], at + len("⊎_elim")
+        for _ in range(2):
+            skip = re.match(r"\s*", text[i:]).end()
+            if text[i + skip : i + skip + 2] != "(λ":
+                break
+            end = group(text, i + skip)
+            arms.append(text[i + skip + 1 : end - 1])
+            i = end
+        of = re.match(r"\s*((?:[\w']+)\.if-([\w-]+))\.branch", text[i:])
+        if len(arms) < 2 or not of:
+            at += 1
+            continue
+        test = of[2]
+        values = sorted({it for it in re.findall(rf"\.if-{re.escape(test)}\.(\w[\w-]*)", whole + text) if it not in ("true", "false", "branch", "true-raw", "false-raw")})
+        made = []
+        for arm, name in zip(arms, ("then", "else")):
+            var, rest = re.match(r"(?s)λ (\w+)\. ?(.*)", arm).groups()
+            w = "w" if not re.search(r"(?<![\w.'])w(?![\w'])", rest) or var == "w" else "k"
+            rest = re.sub(rf"(?<![\w.'-]){var}(?:\.0)?\.(?:taken|left)(?![\w'-])", f"{w}.if-{test}.{'true' if name == 'then' else 'false'}", rest)
+            if len(values) == 1:
+                rest = re.sub(rf"(?<![\w.'-]){var}\.1(?![\w.'-])", f"{w}.{values[0]}-is", rest)
+            rest = re.sub(rf"(?<![\w.'-]){var}(?=\.)", w, rest)
+            made.append(f"{name}-{test} {w} ↦ {rest.strip()}")
+            function.used.add(f"{name}-{test}")
+        new = f"elim {of[1]}.branch [ {made[0]} | {made[1]} ]"
+        text = text[:at] + new + text[i + of.end() :]
+        at += 4
 
 
 def tuple_at_end(text):
@@ -390,6 +449,7 @@ def convert(folder, function):
             # lifetimes are no longer an argument
             rest = re.sub(rf"(?m)^{re.escape(name)} ({ID}) ([^\s=(]+) =", lambda it: f"{name} {it[1]} =", rest)
             body = f"pub {name} : goal.{name}\n" + rest
+        body = joined(body, function, text)
         if kind == "goal" and name in function.asked:
             body = as_record(body, function.asked[name])
         trivial = re.fullmatch(rf"(?s)pub \S+ : \S+\n{ID} c = (search rules|omega arith)", body)

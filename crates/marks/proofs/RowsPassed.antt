@@ -235,6 +235,7 @@ among_none h hs a = a
 among-split : (h k : ℕ) (l : List ℕ) → Among h (l ++ k ∷ []) → (h ≡ k) ⊎ Among h l
 unfolding Among
 among-split h k [] (inl e) = inl e
+among-split h k [] (inr a) = elim a [ ]
 among-split h k (x ∷ l) (inl e) = inr (inl e)
 among-split h k (x ∷ l) (inr a) = go (among-split h k l a)
   where

@@ -9,7 +9,7 @@ use lib.Pow.{pow_mono}
 use Rattle.terms.specs.Abstraction.{term_of}
 use Rattle.candidates.proofs.Trials.{PlacesPassed, places_none, mask-skipped, mask-passed, mask-found, places-end, factors-long}
 use Rattle.candidates.proofs.Scalars.{many_hopeless}
-use Rattle.candidates.proofs.trying.next_candidate.Goals.{After-mask_count-end, Start}
+use Rattle.candidates.proofs.trying.next_candidate.Goals.{After-mask_count-end, Start, else-left-le6, then-left-le6}
 use Rattle.candidates.proofs.trying.next_candidate.Goals as goal
 
 seven : (c : Start) → length c.args.t.factors ≡ 7
@@ -74,10 +74,9 @@ unfolding term_of
 loop-k-preserved c = let w = c in let v = c.loop-k in (
   omega (arith, v.invariant.0, v.invariant.1),
   omega arith,
-  ⊎_elim (λ x. mask-passed w.args.marks.now w.args.kind (term_of w.args.t) w.args.from v.k v.at v.invariant.2 _ x.1.ensures
-      x.2.left)
-      (λ x. mask-skipped w.args.marks.now w.args.kind (term_of w.args.t) w.args.from v.k v.at v.invariant.2
-      (many_hopeless w.args.marks.now w.args.kind (term_of w.args.t) v.k _ c.letters_left-left.ensures x.left)) c.if-left-le6.branch,
+  elim c.if-left-le6.branch [ then-left-le6 k ↦ mask-passed w.args.marks.now w.args.kind (term_of w.args.t) w.args.from v.k v.at v.invariant.2 _ k.1.ensures
+      k.2.left | else-left-le6 k ↦ mask-skipped w.args.marks.now w.args.kind (term_of w.args.t) w.args.from v.k v.at v.invariant.2
+      (many_hopeless w.args.marks.now w.args.kind (term_of w.args.t) v.k _ c.letters_left-left.ensures k.if-left-le6.false) ],
 )
 
 pub no_step-s-requires : goal.no_step-s-requires

@@ -8,7 +8,7 @@ use borrow.Author.Tests.{not-true}
 use Rattle.terms.specs.Abstraction.{term_of}
 use Rattle.candidates.proofs.Trials.{RulesPassed, place-rule, rules_none, rules-skipped, rules-shut, opened-there, rules-passed, rules-found, rules-end}
 use Rattle.candidates.proofs.Scalars.{ruled_hopeless}
-use Rattle.candidates.proofs.trying.next_of_mask.Goals.{In-loop-at}
+use Rattle.candidates.proofs.trying.next_of_mask.Goals.{In-loop-at, else-o, then-o}
 use Rattle.candidates.proofs.trying.next_of_mask.Goals as goal
 
 -- a place has a rule
@@ -93,11 +93,9 @@ loop-at-smaller c = omega (arith, c.loop-at-test.true)
 pub loop-at-preserved : goal.loop-at-preserved
 loop-at-preserved c = let w = c in let v = c.loop-at in (
   omega (arith, v.invariant.0),
-  ⊎_elim
-      (λ x. rules-passed w.args.marks.now w.args.kind w.args.t w.args.k w.args.from v.at (v.at / 64)
-      v.invariant.1 refl _ _ c.open-o.ensures x.0.taken _ x.1.ensures x.2.left)
-      (λ x. rules-shut w.args.marks.now w.args.kind w.args.t w.args.k w.args.from v.at (v.at / 64)
-      v.invariant.1 refl _ _ c.open-o.ensures x.left) c.if-o.branch,
+  elim c.if-o.branch [ then-o k ↦ rules-passed w.args.marks.now w.args.kind w.args.t w.args.k w.args.from v.at (v.at / 64)
+      v.invariant.1 refl _ _ c.open-o.ensures k.if-o.true _ k.1.ensures k.2.left | else-o k ↦ rules-shut w.args.marks.now w.args.kind w.args.t w.args.k w.args.from v.at (v.at / 64)
+      v.invariant.1 refl _ _ c.open-o.ensures k.if-o.false ],
 )
 
 pub no_step-s-requires : goal.no_step-s-requires

@@ -46,7 +46,7 @@ loop-i-preserved c =
     let w = c.write_step-next in
     let h : v.i < length s.args.q.steps = omega (arith, few (goal.at.loop-i-preserved c).Start, t) in (
       omega (arith, t),
-      w.auto.0 ∙ v.invariant.1,
+      w.auto.out ∙ v.invariant.1,
       step-within s.args.q.steps s.args.q.count v.i _ _ _ _ _ _ (few (goal.at.loop-i-preserved c).Start) t s.requires.0.steps w.ensures v.invariant.2,
       step-behind s.args.q.steps v.i _ _ _ _ _ _ _ h (omega (arith, s.requires.1)) v.invariant.3 w.ensures,
     )

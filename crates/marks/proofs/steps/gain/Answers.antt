@@ -18,7 +18,7 @@ use Rattle.rules.proofs.Taking.{row_fits}
 use Rattle.marks.specs.Steps.{RowGained}
 use Rattle.marks.proofs.RowsPassed.{Fitting, row_here, row_is, mark-here}
 use Rattle.marks.proofs.Gains.{Gained, gained_none, gained_more, gained_apart, gained_all}
-use Rattle.marks.proofs.steps.gain.Goals.{After-rule_rows-rows, Start}
+use Rattle.marks.proofs.steps.gain.Goals.{After-rule_rows-rows, Start, else-product_mark-h, then-product_mark-h}
 use Rattle.marks.proofs.steps.gain.Goals as goal
 
 six : (c : Start) → length c.args.s.letters ≡ 6
@@ -69,8 +69,11 @@ row_gain-requires c = let r = c in
     let w = c in
     let f = fitting (goal.at.row_gain-requires c).After-rule_rows-rows in
     let inside = c.loop-i-test.true in
-    let v = row_fits w.args.s w.requires.1 (six (goal.at.row_gain-requires c).Start) w.requires.2 _ (row_here f inside) (factors (goal.at.row_gain-requires c).Start) in record { counts = (w.requires.0, v.0.0, v.0.1); part = subst (λ (k : ℕ). (part_of w.args.s.m.part ≡ []) ⊎ (part_at w.args.s.letters (k % 64) ≡ []))
-          (sym (row_is f inside)) v.1 }
+    let v = row_fits w.args.s w.requires.1 (six (goal.at.row_gain-requires c).Start) w.requires.2 _ (row_here f inside) (factors (goal.at.row_gain-requires c).Start) in record {
+      counts = (w.requires.0, v.0.0, v.0.1);
+      part = subst (λ (k : ℕ). (part_of w.args.s.m.part ≡ []) ⊎ (part_at w.args.s.letters (k % 64) ≡ []))
+          (sym (row_is f inside)) v.1;
+    }
 
 pub add-g-requires : goal.add-g-requires
 add-g-requires c = let v = c.loop-i in
@@ -97,16 +100,17 @@ loop-i-preserved c = let v = c.loop-i in
     let f = fitting (goal.at.loop-i-preserved c).After-rule_rows-rows in
     let inside = c.loop-i-test.true in (
       omega (arith, inside),
-      ⊎_elim
-          (λ x. gained_more t s v.i (row_here f inside) _ v.invariant.1 _ _
-          (subst (λ (k : ℕ). RowGained (term_of t) (times_term (term_of s.m) (row_term s.letters k)) x.1.result) (row_is f inside) x.1.ensures)
-          (ap (to_z w64) x.3 ∙ back_is (record { sfits = x.2.ok }) ∙ x.2.ensures ∙ ap (λ (z : ℤ). to_z w64 v.g-bits +ℤ z) (back_is (record {
-            sfits =
-                x.1.ok;
-          }))))
-          (λ x. subst (λ (g : ℕ). Gained t s (v.i + 1) (to_z w64 g)) (sym x.1)
-          (gained_apart t s v.i (row_here f inside) _ v.invariant.1 _ _ (mark-here f inside _ c.product_mark.ensures.0)
-          c.term_mark-h.ensures.0 x.0.left)) c.if-product_mark-h.branch,
+      elim c.if-product_mark-h.branch [
+        | then-product_mark-h w ↦ gained_more t s v.i (row_here f inside) _ v.invariant.1 _ _
+            (subst (λ (k : ℕ). RowGained (term_of t) (times_term (term_of s.m) (row_term s.letters k)) w.1.result) (row_is f inside) w.1.ensures)
+            (ap (to_z w64) w.3 ∙ back_is (record { sfits = w.2.ok }) ∙ w.2.ensures ∙ ap (λ (z : ℤ). to_z w64 v.g-bits +ℤ z) (back_is (record {
+              sfits =
+                  w.1.ok;
+            })))
+        | else-product_mark-h w ↦ subst (λ (g : ℕ). Gained t s (v.i + 1) (to_z w64 g)) (sym w.1)
+            (gained_apart t s v.i (row_here f inside) _ v.invariant.1 _ _ (mark-here f inside _ c.product_mark.ensures.0)
+            c.term_mark-h.ensures.0 w.if-product_mark-h.false)
+      ],
     )
 
 pub returns : goal.returns

@@ -39,10 +39,13 @@ bounds-rows-i c = omega (
 )
 
 pub product_mark-h-requires : goal.product_mark-h-requires
-product_mark-h-requires c = let m = c.mark_step-w.ensures in record { small = (m.few_factors, m.small_part); letters = (
+product_mark-h-requires c = let m = c.mark_step-w.ensures in record {
+  small = (m.few_factors, m.small_part);
+  letters = (
     m.letters.places,
     m.letters.small,
-  ) }
+  );
+}
 
 pub bounds-marks-h : goal.bounds-marks-h
 bounds-marks-h c = omega (arith, c.product_mark-h.ensures.1, c.loop-i.invariant.1.long)
@@ -61,10 +64,13 @@ loop-i-preserved c = let v = c.loop-i in (
 
 pub returns : goal.returns
 returns c = let v = c.loop-i in
-    let w = c in record { covering = raised_all _ _ _ v.i v.marks w.args.s v.invariant.1 (omega (
+    let w = c in record {
+      covering = raised_all _ _ _ v.i v.marks w.args.s v.invariant.1 (omega (
         arith,
         v.invariant.0,
         c.loop-i-test.false,
         c.row_count-n.ensures,
       )) w.requires.0 (six (goal.at.returns c).Start) c.mark_step-w.ensures
-          c.rule_rows-rows.ensures; long = v.invariant.1.long }
+          c.rule_rows-rows.ensures;
+      long = v.invariant.1.long;
+    }

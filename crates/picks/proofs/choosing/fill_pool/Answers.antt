@@ -12,7 +12,7 @@ use Rattle.specification.specs.Letters.{vector}
 use Rattle.picks.specs.Choosing.{Pooled}
 use Rattle.picks.proofs.Openings.{factors-small, factors-few, factors_left_lem, pool-filled, part_left, part-kept}
 use Rattle.picks.proofs.Pools.{pooled_none, pooled_as, pooled_in}
-use Rattle.picks.proofs.choosing.fill_pool.Goals.{Joined-rule_kind-eq1, Start}
+use Rattle.picks.proofs.choosing.fill_pool.Goals.{Joined-rule_kind-eq1, Start, else-rule_kind-eq1, then-rule_kind-eq1}
 use Rattle.picks.proofs.choosing.fill_pool.Goals as goal
 
 seven : (c : Start) → length c.args.t.factors ≡ 7
@@ -22,9 +22,8 @@ part-pooled : (c : Joined-rule_kind-eq1) → Pooled (if eqb (rule_kind c.args.ru
     c.if-rule_kind-eq1.pool c.if-rule_kind-eq1.c
 part-pooled c = let w = c in
     let e = c.rule_kind.ensures in
-    ⊎_elim (λ x. pooled_in x.3 x.4 (pooled_as (part_left w.args.t.part (rule_kind w.args.rule) (sym e ∙ x.0.taken)) x.2.ensures))
-    (λ x. pooled_in x.1 x.2 (pooled_as (part-kept w.args.t.part (rule_kind w.args.rule) (λ q. x.0.left (e ∙ q)))
-    (pooled_none _ w.requires.1))) c.if-rule_kind-eq1.branch
+    elim c.if-rule_kind-eq1.branch [ then-rule_kind-eq1 k ↦ pooled_in k.3 k.4 (pooled_as (part_left w.args.t.part (rule_kind w.args.rule) (sym e ∙ k.if-rule_kind-eq1.true)) k.2.ensures) | else-rule_kind-eq1 k ↦ pooled_in k.1 k.2 (pooled_as (part-kept w.args.t.part (rule_kind w.args.rule) (λ q. k.if-rule_kind-eq1.false (e ∙ q)))
+    (pooled_none _ w.requires.1)) ]
 
 pub add_factors-requires : goal.add_factors-requires
 add_factors-requires c = let w = c in

@@ -7,6 +7,7 @@ use mathlib.Core.Logic.{⊎_elim}
 use lib.Dec.{eqb}
 use Rattle.specification.specs.Results.{if◌then◌else◌}
 use Rattle.picks.proofs.Picks.{rule-ordered, chosen, not_chosen}
+use Rattle.picks.proofs.choosing.in_rule_order.Goals.{else-rule-eq2, else-rule-eq3, then-rule-eq2, then-rule-eq3}
 use Rattle.picks.proofs.choosing.in_rule_order.Goals as goal
 
 pub returns : goal.returns
@@ -15,12 +16,12 @@ returns c = let w = c in
     let y = w.args.y.now in
     let d : c.if-rule-eq2.d ≡ (if eqb w.args.rule 2 then get_or x 3
     0 else get_or y 0 0) =
-    ⊎_elim (λ v. v.2 ∙ chosen (get_or x 3 0) (get_or y 0 0) w.args.rule 2 v.0.taken) (λ v. v.1 ∙ not_chosen (get_or x 3 0) (get_or y 0 0)
-    w.args.rule 2 v.0.left) c.if-rule-eq2.branch in
+    elim c.if-rule-eq2.branch [ then-rule-eq2 k ↦ k.2 ∙ chosen (get_or x 3 0) (get_or y 0 0) w.args.rule 2 k.if-rule-eq2.true | else-rule-eq2 k ↦ k.d-is ∙ not_chosen (get_or x 3 0) (get_or y 0 0)
+    w.args.rule 2 k.if-rule-eq2.false ] in
     let e : c.if-rule-eq3.e ≡ (if eqb w.args.rule 3 then get_or x 3 0 else get_or y 1
     0) =
-    ⊎_elim (λ v. v.2 ∙ chosen (get_or x 3 0) (get_or y 1 0) w.args.rule 3 v.0.taken) (λ v. v.1 ∙ not_chosen (get_or x 3 0) (get_or y 1 0)
-    w.args.rule 3 v.0.left) c.if-rule-eq3.branch in
+    elim c.if-rule-eq3.branch [ then-rule-eq3 k ↦ k.2 ∙ chosen (get_or x 3 0) (get_or y 1 0) w.args.rule 3 k.if-rule-eq3.true | else-rule-eq3 k ↦ k.e-is ∙ not_chosen (get_or x 3 0) (get_or y 1 0)
+    w.args.rule 3 k.if-rule-eq3.false ] in
     rule-ordered w.args.rule w.requires.0 x y _ w.requires.1 w.requires.2
     (λ i. c.low-l0.ensures i ∷ c.low-l1.ensures
     i ∷ c.low-l2.ensures i ∷ (c.low-l3.ensures

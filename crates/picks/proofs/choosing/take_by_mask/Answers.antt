@@ -5,7 +5,7 @@ use Prim.Native.Nat.{◌-◌, ◌≤◌}
 use lib.ListN.{length, take}
 use Rattle.picks.proofs.Masks.{Under, under_none, under_all, under_as, under_taken, under_left}
 use mathlib.Core.Logic.{⊎_elim}
-use Rattle.picks.proofs.choosing.take_by_mask.Goals.{Start}
+use Rattle.picks.proofs.choosing.take_by_mask.Goals.{Start, else-b-eq1, then-b-eq1}
 use Rattle.picks.proofs.choosing.take_by_mask.Goals as goal
 
 few : (c : Start) → c.args.n ≤ length c.args.from.now
@@ -34,10 +34,9 @@ loop-i-preserved c = let w = c in
     let v = c.loop-i in
     let inside = c.loop-i-test.true in (
       omega arith,
-      ⊎_elim (λ x. under_as x.2 x.3 (under_taken w.args.from.now w.args.n w.args.mask (few (goal.at.loop-i-preserved c).Start) w.requires.0 v.to v.b v.c
-          v.i inside v.invariant.1 x.0.taken))
-          (λ x. under_as x.1 x.2 (under_left w.args.from.now w.args.n w.args.mask (few (goal.at.loop-i-preserved c).Start) w.requires.0 v.to v.b v.c
-          v.i inside v.invariant.1 x.0.left)) c.if-b-eq1.branch,
+      elim c.if-b-eq1.branch [ then-b-eq1 k ↦ under_as k.2 k.3 (under_taken w.args.from.now w.args.n w.args.mask (few (goal.at.loop-i-preserved c).Start) w.requires.0 v.to v.b v.c
+          v.i inside v.invariant.1 k.if-b-eq1.true) | else-b-eq1 k ↦ under_as k.1 k.2 (under_left w.args.from.now w.args.n w.args.mask (few (goal.at.loop-i-preserved c).Start) w.requires.0 v.to v.b v.c
+          v.i inside v.invariant.1 k.if-b-eq1.false) ],
     )
 
 pub returns : goal.returns
