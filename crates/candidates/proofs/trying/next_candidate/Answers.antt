@@ -74,9 +74,12 @@ unfolding term_of
 loop-k-preserved c = let w = c in let v = c.loop-k in (
   omega (arith, v.invariant.0, v.invariant.1),
   omega arith,
-  elim c.if-left-le6.branch [ then-left-le6 k ↦ mask-passed w.args.marks.now w.args.kind (term_of w.args.t) w.args.from v.k v.at v.invariant.2 _ k.1.ensures
-      k.2.left | else-left-le6 k ↦ mask-skipped w.args.marks.now w.args.kind (term_of w.args.t) w.args.from v.k v.at v.invariant.2
-      (many_hopeless w.args.marks.now w.args.kind (term_of w.args.t) v.k _ c.letters_left-left.ensures k.if-left-le6.false) ],
+  elim c.if-left-le6.branch [
+    | then-left-le6 k ↦ mask-passed w.args.marks.now w.args.kind (term_of w.args.t) w.args.from v.k v.at v.invariant.2 _ k.1.ensures
+        k.2.left
+    | else-left-le6 k ↦ mask-skipped w.args.marks.now w.args.kind (term_of w.args.t) w.args.from v.k v.at v.invariant.2
+        (many_hopeless w.args.marks.now w.args.kind (term_of w.args.t) v.k _ c.letters_left-left.ensures k.if-left-le6.false)
+  ],
 )
 
 pub no_step-s-requires : goal.no_step-s-requires

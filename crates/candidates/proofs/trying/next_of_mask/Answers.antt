@@ -93,9 +93,12 @@ loop-at-smaller c = omega (arith, c.loop-at-test.true)
 pub loop-at-preserved : goal.loop-at-preserved
 loop-at-preserved c = let w = c in let v = c.loop-at in (
   omega (arith, v.invariant.0),
-  elim c.if-o.branch [ then-o k ↦ rules-passed w.args.marks.now w.args.kind w.args.t w.args.k w.args.from v.at (v.at / 64)
-      v.invariant.1 refl _ _ c.open-o.ensures k.if-o.true _ k.1.ensures k.2.left | else-o k ↦ rules-shut w.args.marks.now w.args.kind w.args.t w.args.k w.args.from v.at (v.at / 64)
-      v.invariant.1 refl _ _ c.open-o.ensures k.if-o.false ],
+  elim c.if-o.branch [
+    | then-o k ↦ rules-passed w.args.marks.now w.args.kind w.args.t w.args.k w.args.from v.at (v.at / 64)
+        v.invariant.1 refl _ _ c.open-o.ensures k.if-o.true _ k.1.ensures k.2.left
+    | else-o k ↦ rules-shut w.args.marks.now w.args.kind w.args.t w.args.k w.args.from v.at (v.at / 64)
+        v.invariant.1 refl _ _ c.open-o.ensures k.if-o.false
+  ],
 )
 
 pub no_step-s-requires : goal.no_step-s-requires

@@ -38,8 +38,11 @@ quotient : (c : After-struct_told-2-1) → back c.divide-q.result.value ≡ c.di
 quotient c = back_is {z = c.divide-q.result.value} (record { sfits = c.type_inv.q.1.0.1 })
 
 pub pick-p-requires : goal.pick-p-requires
-pick-p-requires c = let w = c in let s = w.requires.3 in record { rule = (w.requires.2, s.opened.places, w.requires.4); small = subst (All (λ (x : ℕ). x < 256))
-      (sym s.opened.letters) s.opened.small }
+pick-p-requires c = let w = c in let s = w.requires.3 in record {
+  rule = (w.requires.2, s.opened.places, w.requires.4);
+  small = subst (All (λ (x : ℕ). x < 256))
+      (sym s.opened.letters) s.opened.small;
+}
 
 pub returns-then-not-p : goal.returns-then-not-p
 returns-then-not-p c = let w = c in tried_none w.args.marks.now w.args.t w.args.rule

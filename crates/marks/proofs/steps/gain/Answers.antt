@@ -102,12 +102,12 @@ loop-i-preserved c = let v = c.loop-i in
       omega (arith, inside),
       elim c.if-product_mark-h.branch [
         | then-product_mark-h w ↦ gained_more t s v.i (row_here f inside) _ v.invariant.1 _ _
-            (subst (λ (k : ℕ). RowGained (term_of t) (times_term (term_of s.m) (row_term s.letters k)) w.1.result) (row_is f inside) w.1.ensures)
-            (ap (to_z w64) w.3 ∙ back_is (record { sfits = w.2.ok }) ∙ w.2.ensures ∙ ap (λ (z : ℤ). to_z w64 v.g-bits +ℤ z) (back_is (record {
+            (subst (λ (k : ℕ). RowGained (term_of t) (times_term (term_of s.m) (row_term s.letters k)) w.row_gain.result) (row_is f inside) w.row_gain.ensures)
+            (ap (to_z w64) w.g-is-bits ∙ back_is (record { sfits = w.add-g.type_inv }) ∙ w.add-g.ensures ∙ ap (λ (z : ℤ). to_z w64 v.g-bits +ℤ z) (back_is (record {
               sfits =
-                  w.1.ok;
+                  w.row_gain.type_inv;
             })))
-        | else-product_mark-h w ↦ subst (λ (g : ℕ). Gained t s (v.i + 1) (to_z w64 g)) (sym w.1)
+        | else-product_mark-h w ↦ subst (λ (g : ℕ). Gained t s (v.i + 1) (to_z w64 g)) (sym w.g-is-bits)
             (gained_apart t s v.i (row_here f inside) _ v.invariant.1 _ _ (mark-here f inside _ c.product_mark.ensures.0)
             c.term_mark-h.ensures.0 w.if-product_mark-h.false)
       ],

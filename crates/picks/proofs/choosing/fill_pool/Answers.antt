@@ -22,8 +22,11 @@ part-pooled : (c : Joined-rule_kind-eq1) → Pooled (if eqb (rule_kind c.args.ru
     c.if-rule_kind-eq1.pool c.if-rule_kind-eq1.c
 part-pooled c = let w = c in
     let e = c.rule_kind.ensures in
-    elim c.if-rule_kind-eq1.branch [ then-rule_kind-eq1 k ↦ pooled_in k.3 k.4 (pooled_as (part_left w.args.t.part (rule_kind w.args.rule) (sym e ∙ k.if-rule_kind-eq1.true)) k.2.ensures) | else-rule_kind-eq1 k ↦ pooled_in k.1 k.2 (pooled_as (part-kept w.args.t.part (rule_kind w.args.rule) (λ q. k.if-rule_kind-eq1.false (e ∙ q)))
-    (pooled_none _ w.requires.1)) ]
+    elim c.if-rule_kind-eq1.branch [
+      | then-rule_kind-eq1 k ↦ pooled_in k.pool-is k.c-is (pooled_as (part_left w.args.t.part (rule_kind w.args.rule) (sym e ∙ k.if-rule_kind-eq1.true)) k.add_part-c.ensures)
+      | else-rule_kind-eq1 k ↦ pooled_in k.pool-is k.c-is (pooled_as (part-kept w.args.t.part (rule_kind w.args.rule) (λ q. k.if-rule_kind-eq1.false (e ∙ q)))
+          (pooled_none _ w.requires.1))
+    ]
 
 pub add_factors-requires : goal.add_factors-requires
 add_factors-requires c = let w = c in

@@ -16,12 +16,18 @@ returns c = let w = c in
     let y = w.args.y.now in
     let d : c.if-rule-eq2.d ≡ (if eqb w.args.rule 2 then get_or x 3
     0 else get_or y 0 0) =
-    elim c.if-rule-eq2.branch [ then-rule-eq2 k ↦ k.2 ∙ chosen (get_or x 3 0) (get_or y 0 0) w.args.rule 2 k.if-rule-eq2.true | else-rule-eq2 k ↦ k.d-is ∙ not_chosen (get_or x 3 0) (get_or y 0 0)
-    w.args.rule 2 k.if-rule-eq2.false ] in
+    elim c.if-rule-eq2.branch [
+      | then-rule-eq2 k ↦ k.d-is ∙ chosen (get_or x 3 0) (get_or y 0 0) w.args.rule 2 k.if-rule-eq2.true
+      | else-rule-eq2 k ↦ k.d-is ∙ not_chosen (get_or x 3 0) (get_or y 0 0)
+          w.args.rule 2 k.if-rule-eq2.false
+    ] in
     let e : c.if-rule-eq3.e ≡ (if eqb w.args.rule 3 then get_or x 3 0 else get_or y 1
     0) =
-    elim c.if-rule-eq3.branch [ then-rule-eq3 k ↦ k.2 ∙ chosen (get_or x 3 0) (get_or y 1 0) w.args.rule 3 k.if-rule-eq3.true | else-rule-eq3 k ↦ k.e-is ∙ not_chosen (get_or x 3 0) (get_or y 1 0)
-    w.args.rule 3 k.if-rule-eq3.false ] in
+    elim c.if-rule-eq3.branch [
+      | then-rule-eq3 k ↦ k.e-is ∙ chosen (get_or x 3 0) (get_or y 1 0) w.args.rule 3 k.if-rule-eq3.true
+      | else-rule-eq3 k ↦ k.e-is ∙ not_chosen (get_or x 3 0) (get_or y 1 0)
+          w.args.rule 3 k.if-rule-eq3.false
+    ] in
     rule-ordered w.args.rule w.requires.0 x y _ w.requires.1 w.requires.2
     (λ i. c.low-l0.ensures i ∷ c.low-l1.ensures
     i ∷ c.low-l2.ensures i ∷ (c.low-l3.ensures

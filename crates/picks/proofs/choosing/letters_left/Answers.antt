@@ -10,7 +10,7 @@ use lib.ListN.{length, take, drop, get_or}
 use mathlib.Core.Logic.{⊎_elim}
 use Rattle.terms.specs.Numbers.{letters_of}
 use Rattle.picks.proofs.LettersLeft.{Counting, counting_none, scalar-stays, counting_all, counting_as, vectors-stay, factor-goes}
-use Rattle.picks.proofs.choosing.letters_left.Goals.{Start, else-b-eq0, then-b-eq0}
+use Rattle.picks.proofs.choosing.letters_left.Goals.{Start, else-b-eq0, then-b-eq0+else-l-eq1}
 use Rattle.picks.proofs.choosing.letters_left.Goals as goal
 
 few : (c : Start) → c.args.n ≤ length c.args.f.now
@@ -58,14 +58,17 @@ pub loop-i-preserved : goal.loop-i-preserved
 loop-i-preserved c = let v = c.loop-i in
     let f = c.args.f.now in (
       omega (arith, c.loop-i-test.true),
-      elim c.if-b-eq0.branch [ then-b-eq0 w ↦ let e : c.if-b-eq0.c ≡ v.c + w.2.result = w.4 in omega (arith, e, v.invariant.1, w.2.ensures, (letters-long (get_or f v.i 0)).1) | else-b-eq0 w ↦ let e : c.if-b-eq0.c ≡ v.c = w.c-is in omega (arith, e, v.invariant.1) ],
-      elim c.if-b-eq0.branch [ then-b-eq0 w ↦ counting_as w.4 (vectors-stay c.args.f.now c.args.n
-          c.args.mask
-          (few (goal.at.loop-i-preserved c).Start) c.loop-i.b c.loop-i.c c.loop-i.i c.loop-i-test.true
-          c.loop-i.invariant.2 w.if-b-eq0.true _ w.2.ensures w.3.left) | else-b-eq0 w ↦ counting_as w.c-is (factor-goes c.args.f.now c.args.n
-          c.args.mask
-          (few (goal.at.loop-i-preserved c).Start) c.loop-i.b c.loop-i.c c.loop-i.i c.loop-i-test.true
-          c.loop-i.invariant.2 w.if-b-eq0.false) ],
+      elim c.if-b-eq0.branch [ then-b-eq0+else-l-eq1 w ↦ let e : c.if-b-eq0.c ≡ v.c + w.letter_count-l.result = w.c-is in omega (arith, e, v.invariant.1, w.letter_count-l.ensures, (letters-long (get_or f v.i 0)).1) | else-b-eq0 w ↦ let e : c.if-b-eq0.c ≡ v.c = w.c-is in omega (arith, e, v.invariant.1) ],
+      elim c.if-b-eq0.branch [
+        | then-b-eq0+else-l-eq1 w ↦ counting_as w.c-is (vectors-stay c.args.f.now c.args.n
+            c.args.mask
+            (few (goal.at.loop-i-preserved c).Start) c.loop-i.b c.loop-i.c c.loop-i.i c.loop-i-test.true
+            c.loop-i.invariant.2 w.if-b-eq0.true _ w.letter_count-l.ensures w.if-l-eq1.false)
+        | else-b-eq0 w ↦ counting_as w.c-is (factor-goes c.args.f.now c.args.n
+            c.args.mask
+            (few (goal.at.loop-i-preserved c).Start) c.loop-i.b c.loop-i.c c.loop-i.i c.loop-i-test.true
+            c.loop-i.invariant.2 w.if-b-eq0.false)
+      ],
     )
 
 pub returns : goal.returns

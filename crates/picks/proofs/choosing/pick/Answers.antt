@@ -9,7 +9,7 @@ use lib.Seq.{length-take-le}
 use Rattle.theory.specs.Elements.{All}
 use Rattle.specification.specs.Rules.{rule_letters}
 use Rattle.picks.proofs.Picks.{wrong_size, block_falls, others-fall, block-not_first, picked_is, picked_as}
-use Rattle.picks.proofs.choosing.pick.Goals.{else-rule-eq5, then-rule-eq5}
+use Rattle.picks.proofs.choosing.pick.Goals.{else-rule-eq5, then-rule-eq5+else-x-y}
 use Rattle.picks.proofs.choosing.pick.Goals as goal
 
 pub returns-then-a-block_size : goal.returns-then-a-block_size
@@ -152,4 +152,4 @@ returns c = let w = c in
     (c.mask_count.ensures ∙ ap (λ (m : ℕ). 2 ^ m) (sym long)))
     c.take_by_mask-b.ensures
     _ c.ascend_strictly-2.ensures c.if-not-ascend_strictly-2.false w.requires.rule.0
-    (long ∙ e) _ c.in_rule_order-letters.ensures (subst (λ (m : ℕ). All (λ (x : ℕ). x < 256) (take m p)) (sym e) w.requires.small) (λ q. elim c.if-rule-eq5.branch [ then-rule-eq5 w ↦ w.1.left | else-rule-eq5 w ↦ absurd (w.if-rule-eq5.false q) ]))
+    (long ∙ e) _ c.in_rule_order-letters.ensures (subst (λ (m : ℕ). All (λ (x : ℕ). x < 256) (take m p)) (sym e) w.requires.small) (λ q. elim c.if-rule-eq5.branch [ then-rule-eq5+else-x-y w ↦ w.if-x-y.false | else-rule-eq5 w ↦ absurd (w.if-rule-eq5.false q) ]))

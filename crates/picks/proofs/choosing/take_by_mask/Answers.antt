@@ -34,9 +34,12 @@ loop-i-preserved c = let w = c in
     let v = c.loop-i in
     let inside = c.loop-i-test.true in (
       omega arith,
-      elim c.if-b-eq1.branch [ then-b-eq1 k ↦ under_as k.2 k.3 (under_taken w.args.from.now w.args.n w.args.mask (few (goal.at.loop-i-preserved c).Start) w.requires.0 v.to v.b v.c
-          v.i inside v.invariant.1 k.if-b-eq1.true) | else-b-eq1 k ↦ under_as k.1 k.2 (under_left w.args.from.now w.args.n w.args.mask (few (goal.at.loop-i-preserved c).Start) w.requires.0 v.to v.b v.c
-          v.i inside v.invariant.1 k.if-b-eq1.false) ],
+      elim c.if-b-eq1.branch [
+        | then-b-eq1 k ↦ under_as k.to-is k.c-is (under_taken w.args.from.now w.args.n w.args.mask (few (goal.at.loop-i-preserved c).Start) w.requires.0 v.to v.b v.c
+            v.i inside v.invariant.1 k.if-b-eq1.true)
+        | else-b-eq1 k ↦ under_as k.to-is k.c-is (under_left w.args.from.now w.args.n w.args.mask (few (goal.at.loop-i-preserved c).Start) w.requires.0 v.to v.b v.c
+            v.i inside v.invariant.1 k.if-b-eq1.false)
+      ],
     )
 
 pub returns : goal.returns

@@ -16,4 +16,4 @@ unfolding part_of
 returns c = let w = c in
     let e = c.rule_kind.ensures in
     unit-multiplier_is w.args.t w.args.k w.args.rule w.requires (seven (goal.at.returns c).Start) _ _ _ c.take_by_mask-n.ensures
-    (elim c.if-rule_kind-eq1.branch [ then-rule_kind-eq1 k ↦ ap part_of k.1 ∙ part-gone w.args.t.part (rule_kind w.args.rule) (sym e ∙ k.if-rule_kind-eq1.true) | else-rule_kind-eq1 k ↦ ap part_of k.1 ∙ part_stays w.args.t.part (rule_kind w.args.rule) (λ q. k.if-rule_kind-eq1.false (e ∙ q)) ])
+    (elim c.if-rule_kind-eq1.branch [ then-rule_kind-eq1 k ↦ ap part_of k.p-is ∙ part-gone w.args.t.part (rule_kind w.args.rule) (sym e ∙ k.if-rule_kind-eq1.true) | else-rule_kind-eq1 k ↦ ap part_of k.p-is ∙ part_stays w.args.t.part (rule_kind w.args.rule) (λ q. k.if-rule_kind-eq1.false (e ∙ q)) ])
