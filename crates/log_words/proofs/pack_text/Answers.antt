@@ -61,5 +61,5 @@ returns c =
     let c20 = c in
     let c24 = c in
     let r = c24.read_log_text-l in
-    pack_given _ _ _ _ r.ensures c20.if-l-ne0.false _ _ _ c15.write_log-m.ensures _ _ (omega (arith, r.ensures.few c20.if-l-ne0.false, r.auto.1.1.0))
+    pack_given _ _ _ _ r.ensures c20.if-l-ne0.false _ _ _ c15.write_log-m.ensures _ _ (omega (arith, r.ensures.few c20.if-l-ne0.false, r.auto.table))
     (told_first (tells-then (tells-then c12.put_byte-a.ensures c7.put-b.ensures) c2.put.ensures))

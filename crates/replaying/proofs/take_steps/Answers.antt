@@ -105,13 +105,13 @@ loop-i-preserved c =
     omega (arith, c.raised-bound.ensures, own (goal.at.loop-i-preserved c).Start v.i inside) in (
       omega arith,
       v.invariant.1,
-      subst (λ (k : ℕ). FormRun k w.result.count w.new.1.1.0 w.new.1.1.1.0) w.ensures.1.0 (w.ensures.0.form left),
+      subst (λ (k : ℕ). FormRun k w.result.count w.new.rows w.new.coefs) w.ensures.kind (w.ensures.reached.form left),
       λ log. v.invariant.3 log ∙ step-reaches a.args.q.steps a.args.q.count v.i (room (goal.at.loop-i-preserved c).Start)
           _ (v.i + 1) log _ inside
-          (w.ensures.0.gives left ∙ ap (λ (k : ℕ). given (form_by k w.result.count w.new.1.1.0 w.new.1.1.1.0)) w.ensures.1.0),
+          (w.ensures.reached.gives left ∙ ap (λ (k : ℕ). given (form_by k w.result.count w.new.rows w.new.coefs)) w.ensures.kind),
       omega (arith, v.invariant.4),
       omega (arith, v.invariant.5),
-      subst (λ (k : ℕ). Light k w.result.count w.new.1.1.1.0) (sym e) w.ensures.1.1,
+      subst (λ (k : ℕ). Light k w.result.count w.new.coefs) (sym e) w.ensures.light,
       omega (arith, e, v.invariant.7, limit (goal.at.loop-i-preserved c).Start v.i inside),
     )
 

@@ -75,7 +75,7 @@ shape_of-out c =
     let w = c in
     let o = w.print_steps-b.new.out in
     let p = c.print_line in
-    same_len_mid w.print_steps-b.result (length o - w.print_steps-b.result) o p.new.1.0 p.auto.1.0 ∙ steps-kept (goal.at.shape_of-out c).After-print_steps-b
+    same_len_mid w.print_steps-b.result (length o - w.print_steps-b.result) o p.new.out p.auto.out ∙ steps-kept (goal.at.shape_of-out c).After-print_steps-b
 
 pub returns : goal.returns
 returns c =

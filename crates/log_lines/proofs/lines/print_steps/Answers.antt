@@ -43,7 +43,7 @@ loop-i-preserved c =
     let w = c.print_step-next in
     let p = all-at (StepPrintable s.args.names.now) s.args.q.steps s.args.q.count v.i no_step (few (goal.at.loop-i-preserved c).Start) t s.requires.0.steps in
     let h = step_text_short s.args.names.now (get_or s.args.q.steps v.i no_step) p in (
-      omega (arith, t, v.invariant.0, w.ensures.ends, h, w.auto.1.0),
+      omega (arith, t, v.invariant.0, w.ensures.ends, h, w.auto.out),
       goes_on_lem _ _ _ _ _ _ _ _ _ _ (step-next _ _ _ _ (few (goal.at.loop-i-preserved c).Start) no_step t) (omega (arith, t, v.invariant.0, h)) v.invariant.1 w.ensures,
     )
 

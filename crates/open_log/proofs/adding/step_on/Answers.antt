@@ -26,4 +26,4 @@ returns c =
     let s = c in
     let w = c5.step_at-w in
     let e = held_is s.args.f _ _ c10.hold.ensures in
-    works_as _ _ _ (ap (λ (g : S.Form). step_at s.args.table.now g (step_of s.args.step)) e) (c.outcome.ensures.is _ w.ensures.0)
+    works_as _ _ _ (ap (λ (g : S.Form). step_at s.args.table.now g (step_of s.args.step)) e) (c.outcome.ensures.is _ w.ensures.reached)
