@@ -1,6 +1,5 @@
 -- One level of a tree: its tests, its operands left to right, and its operator. Assumes nothing.
 use mathlib.Core.Path.{◌≡◌, refl, ap, sym, subst, ◌∙◌}
-use mathlib.Core.Logic.{◌⊎◌, inl, inr}
 use mathlib.Core.Bool.{Bool, true, false}
 use mathlib.Core.List.{List, map}
 use Prim.Native.Nat.{ℕ, zero, suc, ◌+◌, ◌-◌, ◌≤◌, ◌<◌}
@@ -27,12 +26,7 @@ use Rattle.rows.proofs.RowForms.{rows_refused, rows_as}
 use Rattle.sums.proofs.Sums.{form-negated, negated-run}
 use Rattle.expressions.specs.declared.trees.Tree.{Tree}
 use Rattle.expressions.specs.Trees.{operand_count, test_token, test_head, binary, on_one, on_two, on_three, worked_of, Sound, ReadAs, LeafAt, read_leaf, LeafSecond}
-use Rattle.expressions.proofs.Heads.{more, chain, read_is, chain_more, bytes-passed, own-byte}
-
--- one of two, by cases
-pub either_way_lem : {A B C : Type 0} → A ⊎ B → (A → C) → (B → C) → C
-either_way_lem (inl a) f g = f a
-either_way_lem (inr b) f g = g b
+use Rattle.expressions.proofs.Heads.{chain, read_is, chain_more, bytes-passed, own-byte}
 
 -- ════ the operator of a token with two operands
 

@@ -44,8 +44,8 @@ loop-i-preserved c =
     let taken = c.loop-i-test.true in
     let compared = c.compare-n in
     let kept = c.keep_first-found in (
-      kept.auto.1.1.1.0 ∙ known.0,
-      kept.auto.1.0 ∙ compared.auto.0 ∙ known.1,
+      kept.auto.buffer ∙ known.0,
+      kept.auto.work ∙ (compared.auto.work ∙ known.1),
       so_far_more _ _ _ _ _ (same_value_lem _ _ _ _ _ asked.0 _ known.1 _ (three _ _ _ asked.1 taken) _ _ compared.ensures) _ _ _ _ known.2 kept.ensures,
       omega (arith, taken),
     )

@@ -1,7 +1,5 @@
 -- `evaluation::value` meets its contract. Assumes nothing.
-use Rattle.std.proofs.Common.{rules}
 use mathlib.Core.Path.{sym, ◌∙◌}
-use borrow.Author.Tests.{not-true, not-false}
 use Rattle.evaluation.proofs.Answering.{good_small, table_short, table_refused, form_refused, assignment_refused, value_given}
 use Rattle.evaluation.proofs.value.Goals as goal
 

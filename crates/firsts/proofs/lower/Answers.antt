@@ -5,10 +5,9 @@ use Rattle.firsts.proofs.lower.Goals as goal
 
 pub returns-then-is_before : goal.returns-then-is_before
 returns-then-is_before c =
-    let put = c.put_numbers in
     lowered-earlier _ _ _ _ _ _ _ c.eliminate.ensures
     c.is_before.ensures c.if-is_before.true
-    put.auto.0 put.ensures.0 put.ensures.1
+    c.put_numbers.auto.buffer c.put_numbers.ensures.written c.put_numbers.ensures.behind
 
 pub returns-else-is_before : goal.returns-else-is_before
 returns-else-is_before c =

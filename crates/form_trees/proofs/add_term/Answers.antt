@@ -1,4 +1,3 @@
-use Rattle.std.proofs.Common.{rules}
 use native.Mathlib.Omega.{arith}
 use Rattle.specification.specs.Reduction.{sum_forms}
 use Rattle.replacing.proofs.Multiplied.{refused_on, given_on}

@@ -1,14 +1,8 @@
 -- `form_trees::add_terms` meets its contract. The loop: what stands in the rows, plus the terms left, is the whole. Assumes nothing.
-use Rattle.std.proofs.Common.{rules}
-use mathlib.Core.Path.{◌≡◌, refl}
-use Prim.Native.Nat.{◌-◌, ◌≤◌}
+use mathlib.Core.Path.{refl}
 use native.Mathlib.Omega.{arith}
-use lib.ListN.{length, drop}
-use Rattle.theory.specs.Reduction.Standing.{plus_each}
 use Rattle.integers.proofs.Machine.{back_is}
-use Rattle.rows.specs.Rows.{form_by, run_of}
-use Rattle.replacing.specs.Replacing.{leaf_by, plus_term}
-use Rattle.replacing.proofs.Turns.{Left, left_as, turn_refused, turn_taken, turns-done, plus_none, plus_first}
+use Rattle.replacing.proofs.Turns.{left_as, turn_refused, turn_taken, turns-done}
 use Rattle.form_trees.proofs.Rowed.{row_at, term-valid, term_next, terms_none}
 use Rattle.form_trees.proofs.add_terms.Goals as goal
 
@@ -51,7 +45,8 @@ pub returns-then-w-ne0 : goal.returns-then-w-ne0
 returns-then-w-ne0 c =
     let s = c in
     let v = c.loop-i.invariant in
-    turn_refused _ _ _ _ _ _ _ _ _ _ (left_as _ _ _ _ _ _ _ _ _ _ (term_next _ _ _ s.requires.0 _ c.loop-i-test.true _ (back_is (record { sfits = c.term_of-arg-1.given })) _ c.term_of-t.ensures) v.5) _ _ _ c.add_term-w.ensures c.if-w-ne0.true
+    turn_refused _ _ _ _ _ _ _ _ _ _ (left_as _ _ _ _ _ _ _ _ _ _ (term_next _ _ _ s.requires.0 _ c.loop-i-test.true _
+    (back_is (record { sfits = c.term_of-arg-1.given })) _ c.term_of-t.ensures) v.5) _ _ _ c.add_term-w.ensures c.if-w-ne0.true
 
 pub overflow_add-i : goal.overflow_add-i
 overflow_add-i c = omega (arith, c.loop-i-test.true, c.requires.0.form.few)
@@ -68,7 +63,8 @@ loop-i-preserved c =
       omega (arith, v.2),
       omega (arith, v.3),
       omega (arith, v.4),
-      turn_taken _ _ _ _ _ _ _ _ _ _ (left_as _ _ _ _ _ _ _ _ _ _ (term_next _ _ _ s.requires.0 _ c.loop-i-test.true _ (back_is (record { sfits = c.term_of-arg-1.given })) _ c.term_of-t.ensures) v.5) _ _ _ c.add_term-w.ensures c.if-w-ne0.false,
+      turn_taken _ _ _ _ _ _ _ _ _ _ (left_as _ _ _ _ _ _ _ _ _ _ (term_next _ _ _ s.requires.0 _ c.loop-i-test.true _
+          (back_is (record { sfits = c.term_of-arg-1.given })) _ c.term_of-t.ensures) v.5) _ _ _ c.add_term-w.ensures c.if-w-ne0.false,
     )
 
 pub shape_of-rows : goal.shape_of-rows

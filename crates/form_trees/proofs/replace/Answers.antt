@@ -1,5 +1,4 @@
 -- `form_trees::replace` meets its contract: both forms in rows, worked, and by value again. Assumes nothing.
-use Rattle.std.proofs.Common.{rules}
 use native.Mathlib.Omega.{arith}
 use Rattle.rows.proofs.RowForms.{outcome_refused, outcome_given}
 use Rattle.form_trees.proofs.Whole.{first_run, second_run, by_value}

@@ -1,5 +1,4 @@
 -- `form_trees::work_terms` meets its contract: the empty form, or its first term and the others. Assumes nothing.
-use Rattle.std.proofs.Common.{rules}
 use Prim.Native.Nat.{ℕ, ◌<◌}
 use mathlib.Core.Path.{◌≡◌}
 use native.Mathlib.Omega.{arith}
@@ -29,7 +28,8 @@ pub returns-then-w-ne0 : goal.returns-then-w-ne0
 returns-then-w-ne0 c =
     let s = c in
     let l = some_term c.if-n-eq0.false in
-    first_refused _ _ _ _ _ (term_next _ _ _ (record { kind = _; form = s.requires.0 }) _ l _ (back_is (record { sfits = c.term_of-arg-1.given })) _ c.term_of-t.ensures) _ _ _ c.work_term-w.ensures c.if-w-ne0.true
+    first_refused _ _ _ _ _ (term_next _ _ _ (record { kind = _; form = s.requires.0 }) _ l _
+    (back_is (record { sfits = c.term_of-arg-1.given })) _ c.term_of-t.ensures) _ _ _ c.work_term-w.ensures c.if-w-ne0.true
 
 pub add_terms-requires : goal.add_terms-requires
 add_terms-requires c =
@@ -46,4 +46,6 @@ pub returns : goal.returns
 returns c =
     let s = c in
     let l = some_term c.if-n-eq0.false in
-    others-added _ _ _ _ _ (term_next _ _ _ (record { kind = _; form = s.requires.0 }) _ l _ (back_is (record { sfits = c.term_of-arg-1.given })) _ c.term_of-t.ensures) _ _ _ c.work_term-w.ensures _ _ _ c.if-w-ne0.false c.add_terms.ensures
+    others-added _ _ _ _ _ (term_next _ _ _ (record { kind = _; form = s.requires.0 }) _ l _
+    (back_is (record { sfits = c.term_of-arg-1.given })) _ c.term_of-t.ensures) _ _ _ c.work_term-w.ensures _ _ _
+    c.if-w-ne0.false c.add_terms.ensures

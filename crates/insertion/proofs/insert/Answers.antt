@@ -1,4 +1,3 @@
-use Rattle.std.proofs.Common.{rules}
 use Rattle.specification.specs.Insertion.{insert_call}
 use Rattle.forms.proofs.FormCalls.{table_refused, short_refused, content_refused, form_written}
 use Rattle.insertion.specs.Answers.{inserted_of}

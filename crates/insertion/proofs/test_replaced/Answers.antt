@@ -1,4 +1,3 @@
-use Rattle.std.proofs.Common.{rules}
 use mathlib.Core.Path.{◌∙◌}
 use Rattle.specification.specs.Results.{◌>>◌}
 use Rattle.insertion.specs.Tests.{test_replaced}

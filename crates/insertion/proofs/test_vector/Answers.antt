@@ -1,4 +1,3 @@
-use Rattle.std.proofs.Common.{rules}
 use Rattle.insertion.proofs.Inserting.{not_vector, is-vector}
 use Rattle.insertion.proofs.test_vector.Goals as goal
 

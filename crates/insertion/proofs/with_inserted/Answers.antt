@@ -1,5 +1,4 @@
 -- `insertion::with_inserted` meets its contract: both forms, the letter and the kind, then working. Assumes nothing.
-use Rattle.std.proofs.Common.{rules}
 use Rattle.insertion.proofs.Inserting.{forms_refused, replaced_refused, second-vector, working_decides}
 use Rattle.insertion.proofs.with_inserted.Goals as goal
 

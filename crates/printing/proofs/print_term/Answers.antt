@@ -15,7 +15,7 @@ factors-kept c = c.print_factors-star.auto.out ∙ c.print_size-factors.auto.out
 
 star-kept : (c : After-print_star-part)
     → length c.print_star-part.new.out ≡ length c.args.out.now
-star-kept c = c.print_star-part.auto.out ∙ factors-kept c.before.before.before.before
+star-kept c = c.print_star-part.auto.out ∙ (c.print_factors-star.auto.out ∙ c.print_size-factors.auto.out)
 
 pub print_size-factors-requires : goal.print_size-factors-requires
 unfolding term_of

@@ -1,5 +1,4 @@
 -- `reduction::form_of` meets its contract: the length, the tree read, the bytes left over, and the form by value. Assumes nothing.
-use Rattle.std.proofs.Common.{rules}
 use Rattle.expressions.specs.Trees.{Sound}
 use Rattle.expressions.proofs.Levels.{read_sound}
 use Rattle.reduction.proofs.Calls.{too_long, not_read, left_over_lem, read_whole}

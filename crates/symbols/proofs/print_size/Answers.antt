@@ -13,19 +13,17 @@ use Rattle.terms.specs.Abstraction.{term_of}
 use Rattle.symbols.specs.Text.{other_letters}
 use Rattle.symbols.proofs.Pieces.{size_left-out, size-decimal}
 use Rattle.symbols.proofs.Progress.{written_as_lem}
-use Rattle.symbols.proofs.print_size.Goals.{After-size-n, After-struct_told-1}
+use Rattle.symbols.proofs.print_size.Goals.{After-size-n}
 use Rattle.symbols.proofs.print_size.Goals as goal
 
--- the coefficient is of 64 bits
-coef-fits : (c : After-struct_told-1) → SFits w64 c.args.t.coef
-coef-fits c = record { sfits = c.type_inv.t.0.1 }
-
--- its size
+-- the size of the coefficient, which is of 64 bits
 sized : (c : After-size-n) → c.size-n.result ≡ nat_abs c.args.t.coef
-sized c = c.size-n.ensures ∙ ap nat_abs (back_is (coef-fits c.before))
+sized c = let h : SFits w64 c.args.t.coef = record { sfits = c.type_inv.t.0.1 } in c.size-n.ensures ∙ ap nat_abs (back_is h)
 
 pub size-n-requires : goal.size-n-requires
-size-n-requires c = omega (arith, ap nat_abs (back_is (coef-fits (goal.at.size-n-requires c).After-struct_told-1)), coef_size_lem c.args.t c.requires.0)
+size-n-requires c =
+    let h : SFits w64 c.args.t.coef = record { sfits = c.type_inv.t.0.1 } in
+    omega (arith, ap nat_abs (back_is h), coef_size_lem c.args.t c.requires.0)
 
 pub is_left_out-requires : goal.is_left_out-requires
 is_left_out-requires c = c.requires.0.counted
@@ -35,14 +33,11 @@ returns-then-is_left_out c = written_none _ _ _ (size_left-out _ _ _ _ (sized (g
 
 pub print_decimal-requires : goal.print_decimal-requires
 print_decimal-requires c =
-    let w = c in
-    let s = c in
-    let e = size-decimal s.args.t.coef w.size-n.result (other_letters (term_of s.args.t)) w.is_left_out.result (sized (goal.at.print_decimal-requires c).After-size-n)
-    w.is_left_out.ensures c.if-is_left_out.false in
-    (omega (arith, sized (goal.at.print_decimal-requires c).After-size-n, coef_size_lem s.args.t s.requires.0), omega (arith, ap length e, s.requires.1))
+    let sz = sized (goal.at.print_decimal-requires c).After-size-n in
+    let e = size-decimal c.args.t.coef c.size-n.result (other_letters (term_of c.args.t)) c.is_left_out.result sz c.is_left_out.ensures c.if-is_left_out.false in
+    (omega (arith, sz, coef_size_lem c.args.t c.requires.0), omega (arith, ap length e, c.requires.1))
 
 pub returns : goal.returns
 returns c =
-    let w = c in
-    written_as_lem _ _ _ _ _ _ (size-decimal _ _ _ _ (sized (goal.at.returns c).After-size-n) w.is_left_out.ensures c.if-is_left_out.false)
+    written_as_lem _ _ _ _ _ _ (size-decimal _ _ _ _ (sized (goal.at.returns c).After-size-n) c.is_left_out.ensures c.if-is_left_out.false)
     c.print_decimal.ensures

@@ -1,4 +1,3 @@
-use Rattle.std.proofs.Common.{rules}
 use Rattle.integers.proofs.Machine.{back_is}
 use Rattle.term_trees.proofs.Splitting.{front_as}
 use Rattle.term_trees.proofs.front_of.Goals as goal

@@ -1,4 +1,3 @@
-use Rattle.std.proofs.Common.{rules}
 use Rattle.terms.specs.Abstraction.{part_of}
 use Rattle.term_trees.proofs.Splitting.{kind_none, kind_some}
 use Rattle.term_trees.proofs.kind_of_part.Goals as goal

@@ -1,16 +1,12 @@
 -- `term_trees::times_factors` meets its contract. The loop: what stands in the rows, times the factors left, is the whole. Assumes nothing.
 use Rattle.std.proofs.Common.{rules}
 use mathlib.Core.Path.{◌≡◌, refl, ap}
-use mathlib.Core.List.{map}
 use Prim.Native.Nat.{◌-◌, ◌≤◌, ◌<◌}
 use native.Mathlib.Omega.{arith}
-use lib.ListN.{length, take, drop}
+use lib.ListN.{length}
 use Rattle.theory.specs.Reduction.Standing.{times_each}
-use Rattle.terms.specs.Numbers.{letters_of}
 use Rattle.terms.specs.Abstraction.{term_of}
-use Rattle.rows.specs.Rows.{form_by}
-use Rattle.replacing.specs.Replacing.{leaf_by, times_factor}
-use Rattle.replacing.proofs.Turns.{Left, left_as, turn_refused, turn_taken, turns-done, times_none, times_first, factors_left, factor_next, factors_none, factors-behind, factor_at_lem}
+use Rattle.replacing.proofs.Turns.{left_as, turn_refused, turn_taken, turns-done, factor_next, factors_none, factors-behind, factor_at_lem}
 use Rattle.term_trees.proofs.times_factors.Goals.{Start}
 use Rattle.term_trees.proofs.times_factors.Goals as goal
 
@@ -49,7 +45,7 @@ pub times_factor-w-requires : goal.times_factor-w-requires
 times_factor-w-requires c =
     let s = c in
     let v = c.loop-left.invariant in
-    let l : s.args.t.factor_count - c.loop-left.false < s.args.t.factor_count = omega (arith, c.loop-left-test.true, v.0) in
+    let l : s.args.t.factor_count - c.loop-left.left < s.args.t.factor_count = omega (arith, c.loop-left-test.true, v.0) in
     let w = factor_at_lem _ _ s.requires.0 (room (goal.at.times_factor-w-requires c).Start) l in
     (w.0, w.1, record { form = s.requires.2.form; room = omega (arith, v.2, s.requires.2.room); beside = omega (arith, v.3, s.requires.2.beside) }, v.4.form)
 
@@ -63,7 +59,8 @@ pub returns-then-w-ne0 : goal.returns-then-w-ne0
 unfolding term_of
 returns-then-w-ne0 c =
     let v = c.loop-left.invariant in
-    turn_refused _ _ _ _ _ _ _ _ _ _ (left_as _ _ _ _ _ _ _ _ _ _ (factor_next _ _ _ v.1 v.0 c.loop-left-test.true) v.4) _ _ _ c.times_factor-w.ensures c.if-w-ne0.true
+    turn_refused _ _ _ _ _ _ _ _ _ _ (left_as _ _ _ _ _ _ _ _ _ _ (factor_next _ _ _ v.1 v.0 c.loop-left-test.true) v.4) _ _ _
+    c.times_factor-w.ensures c.if-w-ne0.true
 
 pub overflow_sub-left-in-loop-left : goal.overflow_sub-left-in-loop-left
 overflow_sub-left-in-loop-left c = c.loop-left-test.true
@@ -78,7 +75,8 @@ loop-left-preserved c =
       v.1,
       omega (arith, v.2),
       omega (arith, v.3),
-      turn_taken _ _ _ _ _ _ _ _ _ _ (left_as _ _ _ _ _ _ _ _ _ _ (factor_next _ _ _ v.1 v.0 c.loop-left-test.true) v.4) _ _ _ c.times_factor-w.ensures c.if-w-ne0.false,
+      turn_taken _ _ _ _ _ _ _ _ _ _ (left_as _ _ _ _ _ _ _ _ _ _ (factor_next _ _ _ v.1 v.0 c.loop-left-test.true) v.4) _ _ _
+          c.times_factor-w.ensures c.if-w-ne0.false,
     )
 
 pub shape_of-rows : goal.shape_of-rows

@@ -1,21 +1,22 @@
 -- `term_trees::times_factors` meets its contract. The loop: what stands in the rows, times the factors left, is the whole. Assumes nothing.
-use mathlib.Core.Path.{◌≡◌, refl, ap}
+use mathlib.Core.Path.{◌≡◌}
 use mathlib.Core.List.{map}
-use Prim.Native.Nat.{◌-◌, ◌≤◌, ◌<◌}
-use native.Mathlib.Omega.{arith}
+use Prim.Native.Nat.{◌≤◌}
 use lib.ListN.{length, take, drop}
 use Rattle.theory.specs.Reduction.Standing.{times_each}
 use Rattle.terms.specs.Numbers.{letters_of}
-use Rattle.terms.specs.Abstraction.{term_of}
 use Rattle.rows.specs.Rows.{form_by}
 use Rattle.replacing.specs.Replacing.{leaf_by, times_factor}
-use Rattle.replacing.proofs.Turns.{Left, left_as, turn_refused, turn_taken, turns-done, times_none, times_first, factors_left, factor_next, factors_none, factors-behind, factor_at_lem}
+use Rattle.replacing.proofs.Turns.{Left, times_none, times_first, factors_left}
 use Rattle.term_trees.proofs.times_factors.Given as goal
 
 abbrev pub invariant-loop-left : goal.invariant-loop-left
-invariant-loop-left l = (l.left ≤ l.n) × (l.n ≤ length l.f) × (length l.rows ≡ length l.initial.rows) × (length l.coefs ≡ length l.initial.coefs) × Left (times_each (leaf_by l.replaced l.m l.right l.rights)) (times_factor (leaf_by l.replaced l.m l.right l.rights)) (times_none (leaf_by l.replaced l.m l.right l.rights))
+invariant-loop-left l = (l.left ≤ l.n) × (l.n ≤ length l.f) × (length l.rows ≡ length l.initial.rows) × (length l.coefs ≡ length l.initial.coefs)
+    × Left (times_each (leaf_by l.replaced l.m l.right l.rights)) (times_factor (leaf_by l.replaced l.m l.right l.rights))
+    (times_none (leaf_by l.replaced l.m l.right l.rights))
     (times_first (leaf_by l.replaced l.m l.right l.rights))
-    (times_each (leaf_by l.replaced l.m l.right l.rights) (form_by l.initial.w.kind l.initial.w.count l.initial.rows l.initial.coefs) (drop l.k (map letters_of (take l.n l.f)))) (factors_left l.f l.n l.left) l.w l.rows l.coefs
+    (times_each (leaf_by l.replaced l.m l.right l.rights) (form_by l.initial.w.kind l.initial.w.count l.initial.rows l.initial.coefs)
+    (drop l.k (map letters_of (take l.n l.f)))) (factors_left l.f l.n l.left) l.w l.rows l.coefs
 
 abbrev pub decreases-loop-left : goal.decreases-loop-left
 decreases-loop-left l = l.left

@@ -29,8 +29,13 @@ pub times_factors-y-requires : goal.times_factors-y-requires
 times_factors-y-requires c =
     let g = c.alone-x.ensures in
     let z = given_stands _ _ _ _ g in
-    let p = c.requires in
-    (p.0, leading-within _ _ _ (room (goal.at.times_factors-y-requires c).Start) p.1, record { form = p.2.form; room = omega (arith, p.2.room); beside = omega (arith, p.2.beside) }, g.form z, z)
+    let p = c.requires in (
+      p.0,
+      leading-within _ _ _ (room (goal.at.times_factors-y-requires c).Start) p.1,
+      record { form = p.2.form; room = omega (arith, p.2.room); beside = omega (arith, p.2.beside) },
+      g.form z,
+      z,
+    )
 
 pub returns-then-y-ne0 : goal.returns-then-y-ne0
 returns-then-y-ne0 c =

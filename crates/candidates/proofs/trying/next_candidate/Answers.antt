@@ -9,7 +9,7 @@ use lib.Pow.{pow_mono}
 use Rattle.terms.specs.Abstraction.{term_of}
 use Rattle.candidates.proofs.Trials.{PlacesPassed, places_none, mask-skipped, mask-passed, mask-found, places-end, factors-long}
 use Rattle.candidates.proofs.Scalars.{many_hopeless}
-use Rattle.candidates.proofs.trying.next_candidate.Goals.{After-mask_count-end, Start, else-left-le6, then-left-le6}
+use Rattle.candidates.proofs.trying.next_candidate.Goals.{After-mask_count-end, Start, else-left-le6, then-left-le6+else-r}
 use Rattle.candidates.proofs.trying.next_candidate.Goals as goal
 
 seven : (c : Start) → length c.args.t.factors ≡ 7
@@ -56,8 +56,8 @@ overflow_add-next c = omega (
 pub returns-then-r : goal.returns-then-r
 returns-then-r c = let w = c in let v =
     c.loop-k in
-    mask-found w.args.marks.now w.args.kind (term_of w.args.t) w.args.from v.k v.at v.inv.2
-    _ c.next_of_mask-r.ensures v.inv.0 (omega (
+    mask-found w.args.marks.now w.args.kind (term_of w.args.t) w.args.from v.k v.at v.invariant.2
+    _ c.next_of_mask-r.ensures v.invariant.0 (omega (
       arith,
       c.loop-k-test.true,
       few (goal.at.returns-then-r c).After-mask_count-end,
@@ -75,8 +75,8 @@ loop-k-preserved c = let w = c in let v = c.loop-k in (
   omega (arith, v.invariant.0, v.invariant.1),
   omega arith,
   elim c.if-left-le6.branch [
-    | then-left-le6 k ↦ mask-passed w.args.marks.now w.args.kind (term_of w.args.t) w.args.from v.k v.at v.invariant.2 _ k.1.ensures
-        k.2.left
+    | then-left-le6+else-r k ↦ mask-passed w.args.marks.now w.args.kind (term_of w.args.t) w.args.from v.k v.at v.invariant.2 _ k.next_of_mask-r.ensures
+        k.if-r.false
     | else-left-le6 k ↦ mask-skipped w.args.marks.now w.args.kind (term_of w.args.t) w.args.from v.k v.at v.invariant.2
         (many_hopeless w.args.marks.now w.args.kind (term_of w.args.t) v.k _ c.letters_left-left.ensures k.if-left-le6.false)
   ],

@@ -8,7 +8,7 @@ use borrow.Author.Tests.{not-true}
 use Rattle.terms.specs.Abstraction.{term_of}
 use Rattle.candidates.proofs.Trials.{RulesPassed, place-rule, rules_none, rules-skipped, rules-shut, opened-there, rules-passed, rules-found, rules-end}
 use Rattle.candidates.proofs.Scalars.{ruled_hopeless}
-use Rattle.candidates.proofs.trying.next_of_mask.Goals.{In-loop-at, else-o, then-o}
+use Rattle.candidates.proofs.trying.next_of_mask.Goals.{In-loop-at, else-o, then-o+else-r}
 use Rattle.candidates.proofs.trying.next_of_mask.Goals as goal
 
 -- a place has a rule
@@ -77,8 +77,8 @@ pub returns-then-r : goal.returns-then-r
 returns-then-r c = let w = c in let v =
     c.loop-at in
     rules-found w.args.marks.now w.args.kind w.args.t w.args.k w.args.from v.at (v.at / 64)
-    v.inv.1 refl _ _ c.open-o.ensures c.if-o.true
-    _ c.next_pick-r.ensures v.inv.0 c.loop-at-test.true
+    v.invariant.1 refl _ _ c.open-o.ensures c.if-o.true
+    _ c.next_pick-r.ensures v.invariant.0 c.loop-at-test.true
     c.if-r.true
 
 pub overflow_add-at-in-loop-at : goal.overflow_add-at-in-loop-at
@@ -94,8 +94,8 @@ pub loop-at-preserved : goal.loop-at-preserved
 loop-at-preserved c = let w = c in let v = c.loop-at in (
   omega (arith, v.invariant.0),
   elim c.if-o.branch [
-    | then-o k ↦ rules-passed w.args.marks.now w.args.kind w.args.t w.args.k w.args.from v.at (v.at / 64)
-        v.invariant.1 refl _ _ c.open-o.ensures k.if-o.true _ k.1.ensures k.2.left
+    | then-o+else-r k ↦ rules-passed w.args.marks.now w.args.kind w.args.t w.args.k w.args.from v.at (v.at / 64)
+        v.invariant.1 refl _ _ c.open-o.ensures k.if-o.true _ k.next_pick-r.ensures k.if-r.false
     | else-o k ↦ rules-shut w.args.marks.now w.args.kind w.args.t w.args.k w.args.from v.at (v.at / 64)
         v.invariant.1 refl _ _ c.open-o.ensures k.if-o.false
   ],

@@ -63,8 +63,8 @@ loop-j-smaller-then-not-may_take_block c = omega (arith, c.loop-j-test.true)
 pub loop-j-preserved-then-not-may_take_block : goal.loop-j-preserved-then-not-may_take_block
 loop-j-preserved-then-not-may_take_block c = let w = c in let v =
     c.loop-j in (
-      omega (arith, v.inv.0),
-      picks-skipped w.args.marks.now w.args.t w.args.rule w.args.o w.args.from v.j v.inv.1 v.inv.0
+      omega (arith, v.invariant.0),
+      picks-skipped w.args.marks.now w.args.t w.args.rule w.args.o w.args.from v.j v.invariant.1 v.invariant.0
           (λ kind k op inside can. takes-no_block w.args.t w.args.rule w.args.o v.j kind k op inside can _ _ _ c.bit_digits-digits.ensures c.block_size-block.ensures c.may_leave_first-first.ensures (c.may_take_block.ensures c.if-not-may_take_block.true)),
     )
 
@@ -90,7 +90,7 @@ overflow_add-j-in-loop-j c = omega (
 pub returns-then-r : goal.returns-then-r
 returns-then-r c = let w = c in let v =
     c.loop-j in
-    picks-found w.args.marks.now w.args.t w.args.rule w.args.o w.args.from v.j v.inv.1 v.inv.0
+    picks-found w.args.marks.now w.args.t w.args.rule w.args.o w.args.from v.j v.invariant.1 v.invariant.0
     _ c.try_pick-r.ensures c.if-r.true (omega (
       arith,
       c.loop-j-test.true,
@@ -103,8 +103,8 @@ loop-j-smaller c = omega (arith, c.loop-j-test.true)
 pub loop-j-preserved : goal.loop-j-preserved
 loop-j-preserved c = let w = c in let v =
     c.loop-j in (
-      omega (arith, v.inv.0),
-      picks_more w.args.marks.now w.args.t w.args.rule w.args.o w.args.from v.j v.inv.1 v.inv.0
+      omega (arith, v.invariant.0),
+      picks_more w.args.marks.now w.args.t w.args.rule w.args.o w.args.from v.j v.invariant.1 v.invariant.0
           _ c.try_pick-r.ensures c.if-r.false,
     )
 

@@ -3,8 +3,6 @@ use mathlib.Core.Path.{◌≡◌, refl, sym, ◌∙◌}
 use Prim.Native.Nat.{◌-◌, ◌≤◌}
 use native.Mathlib.Omega.{arith}
 use lib.ListN.{length, length-map}
-use mir.Val.{to_z}
-use mir.Syntax.{w64}
 use Rattle.integers.proofs.Machine.{back, back_is}
 use Rattle.elimination.specs.Differences.{FormExpandable}
 use Rattle.polynomials.specs.Memory.{summands}
@@ -13,7 +11,7 @@ use Rattle.elimination.proofs.Differences.{Filled, fill-starts, fill-asks, sum_f
 use Rattle.elimination.proofs.components.expand_form.Given as goal
 
 abbrev pub invariant-loop-k : goal.invariant-loop-k
-invariant-loop-k l = (length l.work ≡ length l.initial.work) × Filled l.start l.f l.i (to_z w64 l.sign) l.k l.n (summands l.initial.work) (summands l.work)
+invariant-loop-k l = (length l.work ≡ length l.initial.work) × Filled l.start l.f l.i l.sign l.k l.n (summands l.initial.work) (summands l.work)
 
 abbrev pub decreases-loop-k : goal.decreases-loop-k
 decreases-loop-k l = l.f.count - l.k

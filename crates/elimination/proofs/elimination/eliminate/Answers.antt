@@ -10,5 +10,4 @@ choose-requires c =
 
 pub returns : goal.returns
 returns c =
-    let cleared = c.clear in
-    cleared_first _ _ _ _ _ cleared.auto.0 cleared.ensures.1 c.choose.ensures
+    cleared_first _ _ _ _ _ c.clear.auto.buffer c.clear.ensures.behind c.choose.ensures

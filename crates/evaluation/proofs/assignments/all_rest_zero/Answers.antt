@@ -1,10 +1,6 @@
 -- `evaluation::assignments::all_rest_zero` meets its contract: the test holds at every letter below n. Assumes nothing.
-use Rattle.std.proofs.Common.{rules}
 use mathlib.Core.Path.{◌≡◌, refl, sym, ◌∙◌}
-use mathlib.Core.Bool.{true}
-use Prim.Native.Nat.{◌-◌, ◌≤◌}
 use native.Mathlib.Omega.{arith}
-use borrow.Author.Tests.{not-true, not-false}
 use lib.ListN.{length}
 use Rattle.specification.specs.Lists.{each}
 use Rattle.specification.specs.Evaluation.{rest_is_zero}

@@ -1,13 +1,10 @@
 -- `evaluation::assignments::all_rest_zero` meets its contract: the test holds at every letter below n. Assumes nothing.
-use mathlib.Core.Path.{◌≡◌, refl, sym, ◌∙◌}
+use mathlib.Core.Path.{◌≡◌}
 use mathlib.Core.Bool.{true}
 use Prim.Native.Nat.{◌-◌, ◌≤◌}
-use native.Mathlib.Omega.{arith}
-use borrow.Author.Tests.{not-true, not-false}
 use lib.ListN.{length}
 use Rattle.specification.specs.Lists.{each}
 use Rattle.specification.specs.Evaluation.{rest_is_zero}
-use Rattle.evaluation.proofs.Assigned.{one_fails, one_more}
 use Rattle.evaluation.proofs.assignments.all_rest_zero.Given as goal
 
 abbrev pub invariant-loop-n : goal.invariant-loop-n

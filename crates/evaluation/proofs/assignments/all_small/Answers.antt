@@ -1,11 +1,6 @@
 -- `evaluation::assignments::all_small` meets its contract: the bytes from i on decide. Assumes nothing.
-use Rattle.std.proofs.Common.{rules}
-use mathlib.Core.Path.{◌≡◌, refl, sym, ◌∙◌}
-use Prim.Native.Nat.{◌-◌, ◌≤◌}
+use mathlib.Core.Path.{refl, sym, ◌∙◌}
 use native.Mathlib.Omega.{arith}
-use borrow.Author.Tests.{not-true, not-false}
-use lib.ListN.{length, drop}
-use Rattle.specification.specs.Lists.{all}
 use Rattle.specification.specs.Evaluation.{six_or_less}
 use Rattle.evaluation.proofs.Assigned.{byte-fails, byte-passes, bytes-end}
 use Rattle.evaluation.proofs.assignments.all_small.Goals as goal

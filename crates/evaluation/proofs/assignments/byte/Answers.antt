@@ -1,5 +1,4 @@
 -- `evaluation::assignments::byte` meets its contract. Assumes nothing.
-use Rattle.std.proofs.Common.{rules}
 use mathlib.Core.Path.{sym}
 use lib.ListN.{get_or-eq_default}
 use Rattle.evaluation.proofs.assignments.byte.Goals as goal

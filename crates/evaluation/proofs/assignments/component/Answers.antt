@@ -1,5 +1,4 @@
 -- `evaluation::assignments::component` meets its contract. Assumes nothing.
-use Rattle.std.proofs.Common.{rules}
 use mathlib.Core.Path.{◌∙◌, ap}
 use Rattle.specification.specs.Evaluation.{signed_byte}
 use Rattle.integers.proofs.Machine.{back_is}

@@ -1,7 +1,5 @@
 -- `evaluation::assignments::good_assignment` meets its contract. Assumes nothing.
-use Rattle.std.proofs.Common.{rules}
 use mathlib.Core.Path.{sym, ◌∙◌}
-use borrow.Author.Tests.{not-true, not-false}
 use Rattle.evaluation.proofs.Assigned.{wrong-length, not-small, rest-decides}
 use Rattle.evaluation.proofs.assignments.good_assignment.Goals as goal
 

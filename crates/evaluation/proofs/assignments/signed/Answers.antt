@@ -1,5 +1,4 @@
 -- `evaluation::assignments::signed` meets its contract. Assumes nothing.
-use Rattle.std.proofs.Common.{rules}
 use native.Mathlib.Omega.{arith}
 use Rattle.evaluation.proofs.Assigned.{low_byte, high_byte-asks, high_byte}
 use Rattle.evaluation.proofs.assignments.signed.Goals as goal

@@ -1,5 +1,4 @@
 -- `evaluation::assignments::six_or_less` meets its contract. Assumes nothing.
-use Rattle.std.proofs.Common.{rules}
 use Rattle.evaluation.proofs.Assigned.{six-below, six-above}
 use Rattle.evaluation.proofs.assignments.six_or_less.Goals as goal
 

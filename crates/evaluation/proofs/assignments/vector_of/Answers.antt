@@ -1,5 +1,4 @@
 -- `evaluation::assignments::vector_of` meets its contract. Assumes nothing.
-use Rattle.std.proofs.Common.{rules}
 use Rattle.evaluation.proofs.Assigned.{vector_is}
 use Rattle.evaluation.proofs.assignments.vector_of.Goals as goal
 

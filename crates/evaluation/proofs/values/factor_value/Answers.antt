@@ -1,5 +1,4 @@
 -- `evaluation::values::factor_value` meets its contract. Assumes nothing.
-use Rattle.std.proofs.Common.{rules}
 use Rattle.evaluation.proofs.Folds.{letter-small, letter-small-for-dot, factor_one, factor_two, factor-three}
 use Rattle.evaluation.proofs.values.factor_value.Goals as goal
 

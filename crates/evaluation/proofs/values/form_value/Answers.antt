@@ -1,14 +1,10 @@
 -- `evaluation::values::form_value` meets its contract: v is the sum of the terms from n on. Assumes nothing.
 use Rattle.std.proofs.Common.{rules}
-use mathlib.Core.Path.{◌≡◌, sym, ◌∙◌}
-use mathlib.Core.List.{map}
+use mathlib.Core.Path.{◌≡◌}
 use Prim.Native.Nat.{◌≤◌}
 use native.Mathlib.Nat.{le_refl}
 use native.Mathlib.Omega.{arith}
-use lib.ListN.{length, length-map, take, drop}
-use Rattle.specification.specs.Evaluation.{assignment, terms_value}
-use Rattle.terms.specs.Abstraction.{term_of}
-use Rattle.evaluation.specs.Vectors.{vec_of}
+use lib.ListN.{length}
 use Rattle.terms.proofs.Arrays.{no_term}
 use Rattle.forms.proofs.Forms.{term_at_lem}
 use Rattle.evaluation.proofs.Folds.{no-terms, term_more, sum_small, summand-small, terms_of_lem, all_terms}
@@ -43,7 +39,8 @@ plus-v-requires c =
     let w = c in
     let v = c.loop-n in
     let t = c.loop-n-test.true in (
-      summand-small _ _ _ w.requires.0 (term_at_lem _ _ _ w.requires.1 (few (goal.at.plus-v-requires c).Start) (omega (arith, v.invariant.0, t))) c.term_value.ensures,
+      summand-small _ _ _ w.requires.0 (term_at_lem _ _ _ w.requires.1 (few (goal.at.plus-v-requires c).Start)
+          (omega (arith, v.invariant.0, t))) c.term_value.ensures,
       sum_small _ _ _ (few (goal.at.plus-v-requires c).Start) _ _ w.requires.0 (terms_of_lem _ w.requires.1) w.requires.1.few t v.invariant.1,
     )
 

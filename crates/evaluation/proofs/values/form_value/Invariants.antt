@@ -1,16 +1,11 @@
 -- `evaluation::values::form_value` meets its contract: v is the sum of the terms from n on. Assumes nothing.
-use mathlib.Core.Path.{◌≡◌, sym, ◌∙◌}
+use mathlib.Core.Path.{◌≡◌}
 use mathlib.Core.List.{map}
 use Prim.Native.Nat.{◌≤◌}
-use native.Mathlib.Nat.{le_refl}
-use native.Mathlib.Omega.{arith}
-use lib.ListN.{length, length-map, take, drop}
+use lib.ListN.{take, drop}
 use Rattle.specification.specs.Evaluation.{assignment, terms_value}
 use Rattle.terms.specs.Abstraction.{term_of}
 use Rattle.evaluation.specs.Vectors.{vec_of}
-use Rattle.terms.proofs.Arrays.{no_term}
-use Rattle.forms.proofs.Forms.{term_at_lem}
-use Rattle.evaluation.proofs.Folds.{no-terms, term_more, sum_small, summand-small, terms_of_lem, all_terms}
 use Rattle.evaluation.proofs.values.form_value.Given as goal
 
 abbrev pub invariant-loop-n : goal.invariant-loop-n

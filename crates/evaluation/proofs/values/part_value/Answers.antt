@@ -1,5 +1,4 @@
 -- `evaluation::values::part_value` meets its contract. Assumes nothing.
-use Rattle.std.proofs.Common.{rules}
 use Rattle.evaluation.proofs.Folds.{letter-small, part-nothing, part-letter, part-wedge}
 use Rattle.evaluation.proofs.values.part_value.Goals as goal
 

@@ -1,5 +1,4 @@
 -- `evaluation::values::term_value` meets its contract. Assumes nothing.
-use Rattle.std.proofs.Common.{rules}
 use Rattle.evaluation.proofs.Folds.{scalar-asks, term_asks, term-gives}
 use Rattle.evaluation.proofs.values.term_value.Goals as goal
 

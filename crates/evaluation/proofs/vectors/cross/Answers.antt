@@ -1,5 +1,4 @@
 -- `evaluation::vectors::cross` meets its contract. Assumes nothing.
-use Rattle.std.proofs.Common.{rules}
 use Rattle.evaluation.proofs.Arithmetic.{cross-asks_first, cross-asks-second, cross-asks_both, cross-gives}
 use Rattle.evaluation.proofs.vectors.cross.Goals as goal
 

@@ -1,5 +1,4 @@
 -- `evaluation::vectors::dot` meets its contract. Assumes nothing.
-use Rattle.std.proofs.Common.{rules}
 use Rattle.evaluation.proofs.Arithmetic.{dot-asks_x, dot-asks-y, dot-asks-z, dot-asks_two, dot-asks-three, dot-gives}
 use Rattle.evaluation.proofs.vectors.dot.Goals as goal
 

@@ -1,5 +1,4 @@
 -- `evaluation::vectors::plus` meets its contract. Assumes nothing.
-use Rattle.std.proofs.Common.{rules}
 use Rattle.evaluation.proofs.Arithmetic.{plus-asks_x, plus-asks-y, plus-asks-z, plus-gives}
 use Rattle.evaluation.proofs.vectors.plus.Goals as goal
 

@@ -1,5 +1,4 @@
 -- `evaluation::vectors::times` meets its contract. Assumes nothing.
-use Rattle.std.proofs.Common.{rules}
 use Rattle.evaluation.proofs.Arithmetic.{times-asks_x, times-asks-y, times-asks-z, times-gives, Fitting}
 use Rattle.evaluation.proofs.vectors.times.Goals.{After-struct_told-1}
 use Rattle.evaluation.proofs.vectors.times.Goals as goal

@@ -1,5 +1,4 @@
 -- `evaluation::vectors::triple` meets its contract. Assumes nothing.
-use Rattle.std.proofs.Common.{rules}
 use mathlib.Core.Path.{◌∙◌, ap}
 use Rattle.specification.specs.Values.{Vec, dot}
 use Rattle.evaluation.specs.Vectors.{vec_of}

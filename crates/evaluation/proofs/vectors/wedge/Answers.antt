@@ -1,5 +1,4 @@
 -- `evaluation::vectors::wedge` meets its contract. Assumes nothing.
-use Rattle.std.proofs.Common.{rules}
 use Rattle.evaluation.proofs.Arithmetic.{wedge-asks_x, wedge-asks-y, wedge-asks-z, wedge-gives}
 use Rattle.evaluation.proofs.vectors.wedge.Goals as goal
 

@@ -1,4 +1,3 @@
-use Rattle.std.proofs.Common.{rules}
 use Rattle.expressions.proofs.Heads.{count_one, count_two, count_three, count_low, count_high}
 use Rattle.expressions.proofs.tokens.operands.Goals as goal
 

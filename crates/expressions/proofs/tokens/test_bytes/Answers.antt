@@ -1,4 +1,3 @@
-use Rattle.std.proofs.Common.{rules}
 use Rattle.expressions.proofs.Heads.{no-token, no_bytes, all_bytes}
 use Rattle.expressions.proofs.tokens.test_bytes.Goals as goal
 

@@ -1,4 +1,3 @@
-use Rattle.std.proofs.Common.{rules}
 use Rattle.expressions.proofs.Heads.{head_bytes, head-depth, bytes-there, head-token}
 use Rattle.expressions.proofs.tokens.test_head.Goals as goal
 

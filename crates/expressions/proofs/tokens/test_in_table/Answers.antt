@@ -1,4 +1,3 @@
-use Rattle.std.proofs.Common.{rules}
 use Rattle.expressions.proofs.Heads.{in_table, not_in-table}
 use Rattle.expressions.proofs.tokens.test_in_table.Goals as goal
 

@@ -1,4 +1,3 @@
-use Rattle.std.proofs.Common.{rules}
 use Rattle.expressions.proofs.Heads.{starts, bytes-letter, token-letter, token_known, low_known, token_zero, token-high}
 use mathlib.Core.Path.{refl}
 use native.Mathlib.Omega.{arith}

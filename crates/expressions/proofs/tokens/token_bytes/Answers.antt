@@ -1,4 +1,3 @@
-use Rattle.std.proofs.Common.{rules}
 use native.Mathlib.Omega.{arith}
 use Rattle.expressions.proofs.Heads.{bytes-letter, bytes-constant, bytes-operator}
 use Rattle.expressions.proofs.tokens.token_bytes.Goals as goal

@@ -1,5 +1,4 @@
 -- `expressions::trees::apply_one` meets its contract: refused, or the signs turned. Assumes nothing.
-use Rattle.std.proofs.Common.{rules}
 use Rattle.expressions.proofs.Levels.{one_refused, one_negated}
 use native.Mathlib.Omega.{arith}
 use Rattle.expressions.proofs.trees.apply_one.Goals as goal

@@ -1,5 +1,4 @@
 -- `expressions::trees::apply_three` meets its contract: the first refusal, or the triple. Assumes nothing.
-use Rattle.std.proofs.Common.{rules}
 use Rattle.expressions.specs.Trees.{Sound}
 use Rattle.expressions.proofs.Levels.{first_refused, second_refused, third_refused, triple-worked}
 use Rattle.expressions.proofs.trees.apply_three.Goals as goal

@@ -1,5 +1,4 @@
 -- `expressions::trees::apply_two` meets its contract: the first refusal, or the operator. Assumes nothing.
-use Rattle.std.proofs.Common.{rules}
 use Rattle.expressions.specs.Trees.{Sound}
 use Rattle.expressions.proofs.Levels.{left_refused, right_refused, both-worked}
 use Rattle.expressions.proofs.trees.apply_two.Goals as goal

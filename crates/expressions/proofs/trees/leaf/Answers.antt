@@ -1,5 +1,4 @@
 -- `expressions::trees::leaf` meets its contract: a letter, or a constant. Assumes nothing.
-use Rattle.std.proofs.Common.{rules}
 use mathlib.Core.Path.{refl}
 use Prim.Native.Nat.{◌+◌}
 use Rattle.expressions.proofs.Heads.{starts}
@@ -38,4 +37,4 @@ pub returns : goal.returns
 returns c =
     leaf-constant _ _ _ c.requires.0 _ _ _ _
     c.if-token-eq1.false
-    (constant-read_back _ _ _ _ _ c.four_bytes_at.ensures c.constant-w.ensures) (refl, refl, refl)
+    (constant-read_back _ _ _ _ _ (c.four_bytes_at.ensures.value, c.four_bytes_at.ensures.bound) c.constant-w.ensures) (refl, refl, refl)

@@ -1,7 +1,7 @@
 -- `expressions::trees::operate` meets its contract by the token. Assumes nothing.
-use Rattle.std.proofs.Common.{rules}
-use Rattle.expressions.proofs.Levels.{either_way_lem, operates-sum, operates-difference, operates-times, operates-dot, operates-wedge, operates_none}
+use Rattle.expressions.proofs.Levels.{operates-sum, operates-difference, operates-times, operates-dot, operates-wedge, operates_none}
 use native.Mathlib.Omega.{arith}
+use Rattle.expressions.proofs.trees.operate.Goals.{in-5-1, in_default-1}
 use Rattle.expressions.proofs.trees.operate.Goals as goal
 
 pub sum-requires : goal.sum-requires
@@ -37,7 +37,9 @@ returns-in-8 c = operates-wedge _ _ _ _ _ _ c.in-8.is c.wedge.ensures
 
 pub returns-in-0-to-2 : goal.returns-in-0-to-2
 returns-in-0-to-2 c =
-    either_way_lem c.in-0-to-2-1.branch (λ k. operates_none _ _ _ _ _ _ (λ e. omega (arith, k.keys6)) (λ e. omega (arith, k.keys6))
-    (λ e. omega (arith, k.keys6)) (λ e. omega (arith, k.keys6)) (λ e. omega (arith, k.keys6)) c.refuse.ensures)
-    (λ k. operates_none _ _ _ _ _ _ k.rest.0.0.0.0.0.1 k.rest.0.0.0.0.1 k.rest.0.0.0.1 k.rest.0.0.1 k.rest.0.1
-    c.refuse.ensures)
+    elim c.in-0-to-2-1.branch [
+      | in-5-1 w ↦ operates_none _ _ _ _ _ _ (λ e. omega (arith, w.in-5-1.keys6)) (λ e. omega (arith, w.in-5-1.keys6))
+          (λ e. omega (arith, w.in-5-1.keys6)) (λ e. omega (arith, w.in-5-1.keys6)) (λ e. omega (arith, w.in-5-1.keys6)) c.refuse.ensures
+      | in_default-1 w ↦ let k = w.in_default-1.rest in
+          operates_none _ _ _ _ _ _ k.0.0.0.0.0.1 k.0.0.0.0.1 k.0.0.0.1 k.0.0.1 k.0.1 c.refuse.ensures
+    ]

@@ -1,5 +1,4 @@
 -- `expressions::trees::read_leaf` meets its contract: the tests at a tree, then the leaf. Assumes nothing.
-use Rattle.std.proofs.Common.{rules}
 use mathlib.Core.List.{[]}
 use Rattle.expressions.proofs.Levels.{level, level_refused, leaf_at, level-leaf}
 use Rattle.expressions.proofs.trees.read_leaf.Goals as goal

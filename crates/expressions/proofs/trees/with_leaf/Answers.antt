@@ -1,5 +1,4 @@
 -- `expressions::trees::with_leaf` meets its contract. Assumes nothing.
-use Rattle.std.proofs.Common.{rules}
 use mathlib.Core.Path.{refl}
 use native.Mathlib.Omega.{arith}
 use Rattle.expressions.proofs.Levels.{read_sound}
@@ -12,8 +11,8 @@ pub returns-then-b-ne0 : goal.returns-then-b-ne0
 returns-then-b-ne0 c = let b = c.read_leaf-b in
     record {
       second = b.result;
-      right = b.new.1.1.1.1.0;
-      rights = b.new.1.1.1.1.1.0;
+      right = b.new.rows;
+      rights = b.new.coefs;
       read = b.ensures;
       refuses = λ _. refl;
       works = λ z. absurd (c.if-b-ne0.true z);
@@ -33,8 +32,8 @@ pub returns : goal.returns
 returns c = let b = c.read_leaf-b in
     record {
       second = b.result;
-      right = b.new.1.1.1.1.0;
-      rights = b.new.1.1.1.1.1.0;
+      right = b.new.rows;
+      rights = b.new.coefs;
       read = b.ensures;
       refuses = λ h. absurd (h c.if-b-ne0.false);
       works = λ _. c.apply_two-w.ensures;

@@ -1,15 +1,9 @@
 -- `operators::products::bring_few` meets its contract: the first i terms are brought in. Assumes nothing.
-use mathlib.Core.Path.{◌≡◌, refl, sym, subst}
-use mathlib.Core.Logic.{⊎_elim}
-use Prim.Native.Nat.{◌+◌, ◌*◌, ◌-◌, ◌≤◌}
-use native.Mathlib.Omega.{arith}
+use mathlib.Core.Path.{◌≡◌}
+use Prim.Native.Nat.{◌-◌, ◌≤◌}
 use lib.ListN.{length}
-use Rattle.gathering.specs.Bringing.{coef_bound, Bringable}
-use Rattle.rows.proofs.RowForms.{light_more}
 use Rattle.sums.specs.Results.{Brought}
-use Rattle.sums.proofs.Bringing.{brought_none}
-use Rattle.operators.specs.Products.{few_bound}
-use Rattle.operators.proofs.Multiplying.{few_taken, few_more, few_all}
+use Rattle.operators.proofs.Multiplying.{few_taken}
 use Rattle.operators.proofs.products.bring_few.Given as goal
 
 abbrev pub invariant-loop-i : goal.invariant-loop-i

@@ -1,15 +1,9 @@
 -- `operators::products::bring_pairs` meets its contract. The loop: the terms of the pairs of the first i left terms are brought in. Assumes nothing.
-use Rattle.std.proofs.Common.{rules}
-use mathlib.Core.Path.{◌≡◌, refl}
+use mathlib.Core.Path.{refl}
 use mathlib.Core.List.{[]}
-use Prim.Native.Nat.{◌*◌, ◌-◌, ◌≤◌}
-use lib.ListN.{length, take}
-use Rattle.specification.specs.Reduction.{product_terms}
 use Rattle.integers.proofs.Machine.{back_is}
 use Rattle.terms.proofs.Arrays.{all-at}
-use Rattle.rows.specs.Rows.{RowValid, run_of}
-use Rattle.pairing.specs.Parts.{parts_of}
-use Rattle.sums.specs.Results.{Brought}
+use Rattle.rows.specs.Rows.{RowValid}
 use Rattle.operators.proofs.Multiplying.{pairs_none, pairs-so_far, pairs-light, left-fits, pairs_more, pairs_all}
 use native.Mathlib.Omega.{arith}
 use Rattle.operators.proofs.products.bring_pairs.Goals as goal

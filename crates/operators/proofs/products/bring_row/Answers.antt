@@ -1,15 +1,9 @@
 -- `operators::products::bring_row` meets its contract. The loop: the terms of the first j pairs are brought in. Assumes nothing.
-use Rattle.std.proofs.Common.{rules}
-use mathlib.Core.Path.{◌≡◌, refl}
+use mathlib.Core.Path.{refl}
 use mathlib.Core.List.{[]}
-use Prim.Native.Nat.{◌*◌, ◌-◌, ◌≤◌}
-use lib.ListN.{length, take}
 use Rattle.integers.proofs.Machine.{back_is}
-use Rattle.terms.specs.Abstraction.{term_of}
 use Rattle.terms.proofs.Arrays.{all-at}
-use Rattle.rows.specs.Rows.{RowValid, run_of}
-use Rattle.sums.specs.Results.{Brought}
-use Rattle.pair_limits.specs.Limits.{row_terms}
+use Rattle.rows.specs.Rows.{RowValid}
 use Rattle.operators.proofs.Multiplying.{row-none, pair_fits, row_more, row-light, row_all}
 use native.Mathlib.Omega.{arith}
 use Rattle.operators.proofs.products.bring_row.Goals as goal

@@ -1,5 +1,4 @@
 -- `operators::products::dot` meets its contract by the kinds of its operands. Assumes nothing.
-use Rattle.std.proofs.Common.{rules}
 use mathlib.Core.Path.{refl}
 use mathlib.Core.Logic.{inl, inr}
 use Rattle.pair_limits.specs.Limits.{Kinds}

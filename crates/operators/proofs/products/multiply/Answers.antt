@@ -1,5 +1,4 @@
 -- `operators::products::multiply` meets its contract: the tests of the pairs, their terms gathered, and what is gathered closed. Assumes nothing.
-use Rattle.std.proofs.Common.{rules}
 use Rattle.operators.proofs.Multiplying.{pairs_refused, pairs_fit, pairs-gathered, pairs-give}
 use native.Mathlib.Omega.{arith}
 use Rattle.operators.proofs.products.multiply.Goals as goal

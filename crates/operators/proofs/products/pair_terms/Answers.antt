@@ -9,8 +9,8 @@ use Rattle.theory.specs.Reduction.Pairs.{pair_coef_fits}
 use Rattle.terms.specs.Abstraction.{term_of}
 use Rattle.gathering.specs.Bringing.{Bringable}
 use Rattle.pair_limits.proofs.Fitting.{paired-together}
-use Rattle.operators.proofs.Pairs.{Base, letters-passed, coef-passed, pair-few, joins-counts, joins-fits, joins_part, base, piece-counts, piece-fits, piece-part}
-use Rattle.operators.proofs.Pairs.{piece_is, piece_size, made_none, made-few, made_two}
+use Rattle.operators.proofs.Pairs.{Base, letters-passed, coef-passed, pair-few, joins-counts, joins-fits, joins_part, base}
+use Rattle.operators.proofs.Pairs.{piece-counts, piece-fits, piece-part, piece_is, piece_size, made_none, made-few, made_two}
 use Rattle.operators.proofs.products.pair_terms.Goals.{After-join-b, Else-n-eq0, Start}
 use Rattle.operators.proofs.products.pair_terms.Goals as goal
 
@@ -51,13 +51,13 @@ join-b-requires c =
     let k = c.scalars-2.ensures in
     let w = coef_within_lem (goal.at.join-b-requires c).Else-n-eq0 in
     let f = few_factors_lem (goal.at.join-b-requires c).Else-n-eq0 in
-    (joins-counts _ _ _ _ w h k f, (joins-fits _ _ _ _ w h k f, joins_part _ _ _ _ w h k f))
+    record { counts = joins-counts _ _ _ _ w h k f; fits = joins-fits _ _ _ _ w h k f; part = joins_part _ _ _ _ w h k f }
 
 pub join-x-requires : goal.join-x-requires
 join-x-requires c =
     let b = joined (goal.at.join-x-requires c).After-join-b in
     let s = c.parts-few.ensures.first in
-    (piece-counts _ _ _ _ b s, (piece-fits _ _ _ _ b s, piece-part _ _ _ _ b s))
+    record { counts = piece-counts _ _ _ _ b s; fits = piece-fits _ _ _ _ b s; part = piece-part _ _ _ _ b s }
 
 pub returns-then-n-lt2 : goal.returns-then-n-lt2
 returns-then-n-lt2 c =
@@ -77,7 +77,7 @@ pub join-y-requires : goal.join-y-requires
 join-y-requires c =
     let b = joined (goal.at.join-y-requires c).After-join-b in
     let s = c.parts-few.ensures.second in
-    (piece-counts _ _ _ _ b s, (piece-fits _ _ _ _ b s, piece-part _ _ _ _ b s))
+    record { counts = piece-counts _ _ _ _ b s; fits = piece-fits _ _ _ _ b s; part = piece-part _ _ _ _ b s }
 
 pub returns : goal.returns
 returns c =

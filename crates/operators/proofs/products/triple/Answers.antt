@@ -1,5 +1,4 @@
 -- `operators::products::triple` meets its contract: the third kind, then a wedge and a dot. Assumes nothing.
-use Rattle.std.proofs.Common.{rules}
 use Rattle.operators.proofs.Multiplying.{triple-six, triple_refused, triple-dot}
 use native.Mathlib.Omega.{arith}
 use Rattle.operators.proofs.products.triple.Goals as goal

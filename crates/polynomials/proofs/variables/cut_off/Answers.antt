@@ -1,9 +1,9 @@
 -- `polynomials::variables::cut_off` meets its contract: so much is cut, and the digits `k` are left. Assumes nothing.
 use Rattle.std.proofs.Common.{rules}
-use mathlib.Core.Logic.{⊎_elim}
 use native.Mathlib.Omega.{arith}
 use Rattle.polynomials.proofs.Digits.{Cutting, cut-starts, cut_none, cut_same, cut-other, cut_last, cut-kept, count_few, product-most, place-most, counted_as}
 use Rattle.polynomials.proofs.variables.cut_off.Goals as goal
+use Rattle.polynomials.proofs.variables.cut_off.Goals.{then-a-ne0+else-a-d, else-a-ne0}
 
 pub loop-k-init : goal.loop-k-init
 loop-k-init c = cut-starts _ _ c.ranges.key.fits
@@ -22,8 +22,10 @@ overflow_mul-place c = omega (arith, place-most _ _ _ _ _ c.loop-k.invariant c.l
 
 pub loop-k-preserved : goal.loop-k-preserved
 loop-k-preserved c =
-    ⊎_elim (λ w. counted_as w.2 (cut_same _ _ _ _ _ c.loop-k.invariant c.loop-k-test.true w.0.taken w.1.left))
-    (λ w. counted_as w.1 (cut_none _ _ _ _ _ c.loop-k.invariant c.loop-k-test.true w.0.left)) c.if-a-ne0.branch
+    elim c.if-a-ne0.branch [
+      | then-a-ne0+else-a-d w ↦ counted_as w.e-is (cut_same _ _ _ _ _ c.loop-k.invariant c.loop-k-test.true w.if-a-ne0.true w.if-a-d.false)
+      | else-a-ne0 w ↦ counted_as w.e-is (cut_none _ _ _ _ _ c.loop-k.invariant c.loop-k-test.true w.if-a-ne0.false)
+    ]
 
 pub overflow_add-f : goal.overflow_add-f
 overflow_add-f c = omega (arith, count_few _ _ _ _ _ c.loop-k.invariant)

@@ -1,12 +1,10 @@
 -- `replacing::occurrences::factor_has` meets its contract by the factor's case. Assumes nothing.
-use Rattle.std.proofs.Common.{rules}
 use mathlib.Core.Path.{◌≡◌, ◌∙◌}
 use mathlib.Core.Bool.{◌||◌}
-use mathlib.Core.Logic.{⊎_elim}
 use lib.Dec.{eqb}
 use borrow.Author.Tests.{eq-eqb, ne_eqb}
 use Rattle.replacing.proofs.Places.{or_first, or_second, scalar-has, dot-has, triple-has}
-use Rattle.replacing.proofs.occurrences.factor_has.Goals.{Joined-x-letter-2}
+use Rattle.replacing.proofs.occurrences.factor_has.Goals.{Joined-x-letter-2, then-x-letter-2, else-x-letter-2}
 use Rattle.replacing.proofs.occurrences.factor_has.Goals as goal
 
 pub returns-in-Scalar : goal.returns-in-Scalar
@@ -23,7 +21,11 @@ returns-else-x-letter c =
 -- a triple's first two letters
 either : (c : Joined-x-letter-2) → c.if-x-letter-2.t-12 ≡ (eqb c.in-Triple.x c.args.letter
     || eqb c.in-Triple.y c.args.letter)
-either c = ⊎_elim (λ x. x.1 ∙ or_first _ _ (eq-eqb _ _ x.0.taken)) (λ x. x.1 ∙ or_second _ _ (ne_eqb _ _ x.0.left)) c.if-x-letter-2.branch
+either c =
+    elim c.if-x-letter-2.branch [
+      | then-x-letter-2 w ↦ w.t-12-is ∙ or_first _ _ (eq-eqb _ _ w.if-x-letter-2.true)
+      | else-x-letter-2 w ↦ w.t-12-is ∙ or_second _ _ (ne_eqb _ _ w.if-x-letter-2.false)
+    ]
 
 pub returns-then-y-letter : goal.returns-then-y-letter
 returns-then-y-letter c =

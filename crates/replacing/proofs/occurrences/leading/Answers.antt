@@ -1,12 +1,7 @@
 -- `replacing::occurrences::leading`. The loop: the leading factors are the first i and the leading ones from factor i on. Assumes nothing.
-use Rattle.std.proofs.Common.{rules}
-use mathlib.Core.Path.{◌≡◌}
-use mathlib.Core.List.{map}
-use Prim.Native.Nat.{◌+◌, ◌-◌, ◌≤◌}
+use Prim.Native.Nat.{◌≤◌}
 use native.Mathlib.Omega.{arith}
-use lib.ListN.{length, take, drop}
-use Rattle.theory.specs.Reduction.Standing.{leading_of}
-use Rattle.terms.specs.Numbers.{letters_of}
+use lib.ListN.{length}
 use Rattle.terms.proofs.Arrays.{all-at}
 use Rattle.replacing.proofs.Places.{leading-found, leading-passed, leading-ended}
 use Rattle.replacing.proofs.occurrences.leading.Goals.{Start}

@@ -2,12 +2,9 @@
 use mathlib.Core.Path.{◌≡◌}
 use mathlib.Core.List.{map}
 use Prim.Native.Nat.{◌+◌, ◌-◌, ◌≤◌}
-use native.Mathlib.Omega.{arith}
-use lib.ListN.{length, take, drop}
+use lib.ListN.{take, drop}
 use Rattle.theory.specs.Reduction.Standing.{leading_of}
 use Rattle.terms.specs.Numbers.{letters_of}
-use Rattle.terms.proofs.Arrays.{all-at}
-use Rattle.replacing.proofs.Places.{leading-found, leading-passed, leading-ended}
 use Rattle.replacing.proofs.occurrences.leading.Given as goal
 
 abbrev pub invariant-loop-i : goal.invariant-loop-i

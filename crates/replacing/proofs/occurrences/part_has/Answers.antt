@@ -1,5 +1,4 @@
 -- `replacing::occurrences::part_has` meets its contract by the part's case. Assumes nothing.
-use Rattle.std.proofs.Common.{rules}
 use mathlib.Core.Path.{◌∙◌}
 use borrow.Author.Tests.{eq-eqb, ne_eqb}
 use Rattle.replacing.proofs.Places.{or_first, or_second, nothing-has, letter-has, wedge-has}

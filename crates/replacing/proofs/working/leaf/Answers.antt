@@ -1,10 +1,8 @@
 -- `replacing::working::leaf` meets its contract: another letter is itself, and for the letter the form is copied. Assumes nothing.
-use Rattle.std.proofs.Common.{rules}
 use native.Mathlib.Omega.{arith}
 use Rattle.terms.specs.Abstraction.{part_of}
 use Rattle.leaves.proofs.Single.{vector-shape, letter-vector}
 use Rattle.replacing.proofs.Factors.{leaf-other, leaf_same, copied_gives}
-use Rattle.replacing.proofs.working.leaf.Goals.{After-coefs-2-1}
 use Rattle.replacing.proofs.working.leaf.Goals as goal
 
 pub alone-requires : goal.alone-requires
@@ -24,5 +22,5 @@ pub returns : goal.returns
 returns c =
     let p = c.requires in
     leaf_same _ _ _ _ _ _ c.if-x-replaced.false
-    (copied_gives _ _ _ _ _ _ p.form (omega (arith, shape_of-rows (goal.at.returns c).After-coefs-2-1, p.room, p.form.few)) (omega (arith, shape_of-coefs (goal.at.returns c).After-coefs-2-1, p.beside, p.form.few))
-    c.copy.ensures)
+    (copied_gives _ _ _ _ _ _ p.form (omega (arith, c.copy.auto.rows, p.room, p.form.few))
+    (omega (arith, c.copy.auto.coefs, p.beside, p.form.few)) c.copy.ensures)

@@ -1,4 +1,3 @@
-use Rattle.std.proofs.Common.{rules}
 use Rattle.specification.specs.Reduction.{times_forms}
 use Rattle.replacing.proofs.Multiplied.{refused_on, given_on}
 use Rattle.replacing.proofs.working.times_worked.Goals as goal

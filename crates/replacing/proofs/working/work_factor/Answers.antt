@@ -1,8 +1,6 @@
 -- `replacing::working::work_factor` meets its contract: as it is without the letter, else by the factor's case. Assumes nothing.
-use Rattle.std.proofs.Common.{rules}
 use mathlib.Core.Path.{sym, ◌∙◌}
 use native.Mathlib.Omega.{arith}
-use borrow.Author.Tests.{not-true}
 use Rattle.replacing.proofs.Factors.{factor-alone, factor-without, factor-dot, factor-triple}
 use Rattle.replacing.proofs.Places.{scalar-has}
 use Rattle.replacing.proofs.working.work_factor.Goals as goal

@@ -1,5 +1,4 @@
 -- `replacing::working::work_part` meets its contract by the part's case. Assumes nothing.
-use Rattle.std.proofs.Common.{rules}
 use Rattle.replacing.proofs.Factors.{part_none, part-letter, part-wedge}
 use Rattle.replacing.proofs.working.work_part.Goals as goal
 

@@ -1,5 +1,4 @@
 -- `replacing::working::work_triple` meets its contract: three letters, and their triple. Assumes nothing.
-use Rattle.std.proofs.Common.{rules}
 use mathlib.Core.Path.{◌≡◌}
 use native.Mathlib.Omega.{arith}
 use Rattle.specification.specs.Reduction.{triple_forms}
@@ -19,28 +18,13 @@ third-stands c = given_stands _ _ _ _ c.leaf-d.ensures
 
 pub triple-requires : goal.triple-requires
 triple-requires c =
-    let third = c in
-    let second = c in
-    let first = c in
-    let p = first.requires in (
-      first.leaf-a.ensures.form (first_stands (goal.at.triple-requires c).After-leaf-a),
-      second.leaf-b.ensures.form (second-stands (goal.at.triple-requires c).After-leaf-b),
+    let p = c.requires in (
+      c.leaf-a.ensures.form (first_stands (goal.at.triple-requires c).After-leaf-a),
+      c.leaf-b.ensures.form (second-stands (goal.at.triple-requires c).After-leaf-b),
       omega (arith, p.room),
       omega (arith, p.beside),
-      third.leaf-d.ensures.form (third-stands (goal.at.triple-requires c).After-leaf-d),
+      c.leaf-d.ensures.form (third-stands (goal.at.triple-requires c).After-leaf-d),
     )
-
-pub shape_of-rows : goal.shape_of-rows
-shape_of-rows c =
-    let second = c in
-    let first = c in
-    omega (arith, first.leaf-a.auto.replaced)
-
-pub shape_of-coefs : goal.shape_of-coefs
-shape_of-coefs c =
-    let second = c in
-    let first = c in
-    omega (arith, first.leaf-a.auto.replaced)
 
 pub returns : goal.returns
 returns c =

@@ -1,5 +1,4 @@
 -- `replacing::working::work_wedge` meets its contract: two letters, and their wedge. Assumes nothing.
-use Rattle.std.proofs.Common.{rules}
 use mathlib.Core.Path.{◌≡◌}
 use native.Mathlib.Omega.{arith}
 use Rattle.specification.specs.Reduction.{wedge_forms}

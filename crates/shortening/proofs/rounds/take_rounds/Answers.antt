@@ -174,14 +174,14 @@ search-r-requires-then-not-r c = let w = c in
       omega (
         arith,
         w.requires.1,
-        v.inv.7,
+        v.invariant.7,
         c.to-in-loop-r-1.given,
         c.to-1.given,
       ),
       omega (
         arith,
         w.requires.2,
-        v.inv.8,
+        v.invariant.8,
         c.tos-in-loop-r-1.given,
         c.tos-1.given,
       ),
@@ -199,23 +199,23 @@ loop-r-preserved-then-not-r c = let v = c.loop-r in (
   c.search-r-then-not-r.ensures,
   omega (
     arith,
-    v.inv.5,
+    v.invariant.5,
     c.rows-1.given,
   ),
   omega (
     arith,
-    v.inv.6,
+    v.invariant.6,
     c.coefs-1.given,
   ),
   omega (
     arith,
-    v.inv.7,
+    v.invariant.7,
     c.to-in-loop-r-1.given,
     c.to-then-not-r-1.given,
   ),
   omega (
     arith,
-    v.inv.8,
+    v.invariant.8,
     c.tos-in-loop-r-1.given,
     c.tos-then-not-r-1.given,
   ),
@@ -231,10 +231,10 @@ loop-r-preserved c = let v = c.loop-r in (
   c.mark_reached.ensures.long,
   covered (goal.at.loop-r-preserved c).After-mark_reached,
   found_anywhere c.args.table.now _ _ _ _ _ _ c.search-r-in-loop-r.ensures (not-false _ c.if-not-r.false),
-  omega (arith, v.inv.5),
-  omega (arith, v.inv.6),
-  omega (arith, v.inv.7),
-  omega (arith, v.inv.8),
+  omega (arith, v.invariant.5),
+  omega (arith, v.invariant.6),
+  omega (arith, v.invariant.7),
+  omega (arith, v.invariant.8),
 )
 
 pub shape_of-rows : goal.shape_of-rows
