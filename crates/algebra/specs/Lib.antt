@@ -4,8 +4,3 @@ pub mod Numbers
 pub mod Lists
 pub mod Integers
 pub mod Polynomials
-pub mod Mass
-pub mod Normaliser
-pub mod Grid
-pub mod Keys
-pub mod Nonvanishing

@@ -21,8 +21,8 @@ use Rattle.theory.specs.Tests.{and_split, tested, required}
 use Rattle.theory.specs.Sorting as O
 use Rattle.theory.specs.Reordering.{reordered-back, reordered_all, reordered-sorted}
 use Rattle.theory.specs.Shape.Letters.{Known, known_is, letters_known, FactorKnown}
-use Rattle.theory.specs.Rules.Table.{by-rule}
-use Rattle.theory.specs.Rules.Steps.{step-admitted}
+use Rattle.theory.proofs.Rules.Table.{by-rule}
+use Rattle.theory.proofs.Rules.Steps.{step-admitted}
 use Rattle.theory.specs.Shortening.Masks.{taken, left_over}
 use Rattle.theory.specs.Shortening.Candidates.{in_rule_order, multiplier, pool, candidate}
 use Rattle.terms.specs.declared.types.Part.{Part}

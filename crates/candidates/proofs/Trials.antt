@@ -27,7 +27,7 @@ use Rattle.theory.specs.Order.{nat-laws, monomial}
 use Rattle.theory.specs.Sorting as O
 use Rattle.theory.specs.Shape.Terms.{term-opens}
 use Rattle.theory.specs.Shape.Forms.{within_given}
-use Rattle.theory.specs.Rules.Steps.{step_taken, step-admitted}
+use Rattle.theory.proofs.Rules.Steps.{step_taken, step-admitted}
 use Rattle.theory.specs.Gathering.Coefficients.{coeff}
 use Rattle.theory.specs.Shortening.Masks.{taken, left_over}
 use Rattle.theory.specs.Shortening.Candidates.{block_size, in_rule_order, block_is_first, multiplier, pool, candidate, gain, is_candidate}

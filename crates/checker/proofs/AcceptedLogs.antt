@@ -13,10 +13,10 @@ use Rattle.specification.specs.Logs.{write_log, accepted, check_call, within_lim
 use Rattle.specification.specs.Logs as L
 use Rattle.specification.specs.Promises.{AcceptedEnds, WithinLimits, LogPromise}
 use Rattle.theory.specs.Records.Positions.{Bytes}
-use Rattle.theory.specs.Records.Logs.{last_start_of}
-use Rattle.theory.specs.Replay.Accepted.{Derives, derivation-accepted}
-use Rattle.theory.specs.Replay.Accepted as R
-use Rattle.theory.specs.Replay.Ends.{accepted-ends, ends-hold}
+use Rattle.theory.proofs.Records.Logs.{last_start_of}
+use Rattle.theory.proofs.Replay.Accepted.{Derives, derivation-accepted}
+use Rattle.theory.proofs.Replay.Accepted as R
+use Rattle.theory.proofs.Replay.Ends.{accepted-ends, ends-hold}
 use Rattle.theory.specs.Replay.Limits as N
 use Rattle.checker.specs.declared.Checked.{Checked}
 use Rattle.checker.specs.declared.Checked.TheVariants.{Accepted, Refused}

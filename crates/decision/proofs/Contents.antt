@@ -12,7 +12,7 @@ use lib.IntN.{ℤ, pos, ◌+ℤ◌, ◌*ℤ◌}
 use lib.IntN as I
 use lib.ListN.{length}
 use Rattle.algebra.specs.Integers as R
-use Rattle.algebra.specs.Normaliser.{var, ◌⊗◌, solve, normalising}
+use Rattle.algebra.proofs.Normaliser.{var, ◌⊗◌, solve, normalising}
 use Rattle.algebra.specs.Lists.{tabulated}
 use Rattle.specification.specs.Results.{if◌then◌else◌}
 use Rattle.specification.specs.Lists.{joined}

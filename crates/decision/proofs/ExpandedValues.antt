@@ -11,7 +11,7 @@ use lib.IntN.{ℤ, pos, negsuc, ◌+ℤ◌, ◌-ℤ◌, ◌*ℤ◌}
 use lib.IntN as I
 use lib.ListN.{length}
 use Rattle.algebra.specs.Integers as R
-use Rattle.algebra.specs.Normaliser.{Ex, var, lit, ◌⊕◌, ◌⊖◌, ◌⊗◌, solve, normalising}
+use Rattle.algebra.proofs.Normaliser.{Ex, var, lit, ◌⊕◌, ◌⊖◌, ◌⊗◌, solve, normalising}
 use Rattle.specification.specs.Results.{if◌then◌else◌}
 use Rattle.specification.specs.Lists.{joined}
 use Rattle.specification.specs.Values.{Vec, scalar_value, dot, triple, ◌•◌, ◌+v◌}

@@ -24,7 +24,7 @@ use Rattle.theory.specs.Tests.{past, into, given_same}
 use Rattle.theory.specs.Elements.{All, all_append}
 use Rattle.theory.specs.Text.LineColumns.{ColumnWithin}
 use Rattle.theory.specs.Text.GoodNames.{GoodSoFar, declared_good}
-use Rattle.theory.specs.Text.Derivations.{step-line-shape, Leading, Going, first_goes, step-goes, declared-within, first_within, one_step-within}
+use Rattle.theory.proofs.Text.Derivations.{step-line-shape, Leading, Going, first_goes, step-goes, declared-within, first_within, one_step-within}
 use Rattle.theory.specs.Text.Columns.{refused≢placed}
 use Rattle.terms.specs.declared.types.Form.{Form}
 use Rattle.terms.specs.Abstraction.{form_of}

@@ -19,7 +19,7 @@ use Rattle.specification.specs.Lines as L
 use Rattle.specification.proofs.Computing.{computing}
 use Rattle.specification.proofs.TextExamples.{computing_text}
 use Rattle.specification.proofs.LogTextExamples.{computing_lines}
-use Rattle.theory.specs.Text.Derivations.{lines-first, start-goes}
+use Rattle.theory.proofs.Text.Derivations.{lines-first, start-goes}
 use Rattle.terms.specs.Abstraction.{form_of}
 use Rattle.logs.specs.Steps.{steps_of}
 use Rattle.lines.specs.declared.places.Place.{Place}

@@ -7,7 +7,7 @@ use Rattle.specification.specs.Commands.{unopened, underway}
 use Rattle.specification.specs.Commands as C
 use Rattle.specification.specs.OpenLogs.{add_to}
 use Rattle.specification.specs.Logs.{write_step}
-use Rattle.theory.specs.Text.Derivations.{Going}
+use Rattle.theory.proofs.Text.Derivations.{Going}
 use Rattle.terms.specs.declared.types.Form.{Form}
 use Rattle.terms.specs.Abstraction.{form_of}
 use Rattle.terms.specs.Valid.{FormValid}

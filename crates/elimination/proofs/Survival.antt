@@ -13,7 +13,7 @@ use borrow.Author.Tests.{eq-eqb, ne_eqb, eqb-true, eqb-false}
 use lib.IntN.{ℤ, pos, ◌+ℤ◌, ◌*ℤ◌}
 use lib.IntN as I
 use Rattle.algebra.specs.Integers as R
-use Rattle.algebra.specs.Grid.{eval, AllZero, grid-points}
+use Rattle.algebra.proofs.Grid.{eval, AllZero, grid-points}
 use Rattle.theory.specs.Elements.{All}
 use Rattle.polynomials.specs.Keys.{rest, exponent, Ordered}
 use Rattle.polynomials.specs.Summands.{Summand, weigh, substituted, is_some, Rising}

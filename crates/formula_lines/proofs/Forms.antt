@@ -13,7 +13,7 @@ use Rattle.specification.proofs.TextExamples.{computing_text}
 use Rattle.theory.specs.Shape.Letters.{good_short}
 use Rattle.theory.specs.Text.Names.{names_count}
 use Rattle.theory.specs.Text.Columns.{refused≢placed}
-use Rattle.theory.specs.Text.Letters.{text-letters_tested}
+use Rattle.theory.proofs.Text.Letters.{text-letters_tested}
 use Rattle.terms.specs.Abstraction.{form_of}
 use Rattle.lines.specs.declared.places.Place.{Place}
 use Rattle.lines.specs.Places.{place_of}

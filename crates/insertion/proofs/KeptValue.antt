@@ -10,9 +10,9 @@ use Rattle.specification.specs.Insertion.{take_insertion, with_inserted, insert_
 use Rattle.specification.specs.Promises.{Inserts}
 use Rattle.theory.specs.Tests.{bound}
 use Rattle.theory.specs.Records.Positions.{Bytes}
-use Rattle.theory.specs.Records.Lengths.{form_short}
+use Rattle.theory.proofs.Records.Lengths.{form_short}
 use Rattle.theory.specs.Records.Insertion.{InsertionTaken, insertion_taken}
-use Rattle.theory.specs.Reduction.Insertion.{InsertedInto, insertion_replaces}
+use Rattle.theory.proofs.Reduction.Insertion.{InsertedInto, insertion_replaces}
 use Rattle.forms.proofs.FormCalls.{FormAnswered, form-answered, reads_back}
 use Rattle.insertion.specs.declared.Inserted.{Inserted}
 use Rattle.insertion.specs.Answers.{inserted_of}

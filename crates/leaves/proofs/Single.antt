@@ -17,7 +17,7 @@ use Rattle.theory.specs.Tests.{holds}
 use Rattle.theory.specs.Elements.{all_T}
 use Rattle.theory.specs.Shape.Terms.{in_limit}
 use Rattle.theory.specs.Shape.Forms.{FormInShape, form-gathered}
-use Rattle.theory.specs.Reduction.Work.{alone, letter_form_lem, constant_form_lem}
+use Rattle.theory.proofs.Reduction.Work.{alone, letter_form_lem, constant_form_lem}
 use Rattle.integers.proofs.Machine.{back, back_is}
 use Rattle.terms.specs.declared.types.Term.{Term}
 use Rattle.terms.specs.Numbers.{letters_of}

@@ -10,7 +10,7 @@ use Rattle.specification.specs.Rules.{test_step_letters}
 use Rattle.theory.specs.Tests.{tested}
 use Rattle.theory.specs.Elements.{All}
 use Rattle.theory.specs.Shape.Letters.{letters_known, term_known}
-use Rattle.theory.specs.Replay.Accepted.{test_steps}
+use Rattle.theory.proofs.Replay.Accepted.{test_steps}
 use Rattle.terms.specs.Abstraction.{term_of}
 use Rattle.rules.specs.declared.steps.Step.{Step}
 use Rattle.rules.specs.Steps.{step_of, StepValid}

@@ -18,7 +18,7 @@ use Rattle.record_writing.specs.Written.{Written}
 use Rattle.record_writing.proofs.Writes.{written_store, written_then}
 use Rattle.rules.specs.declared.steps.Step.{Step}
 use Rattle.rules.specs.Steps.{step_of}
-use Rattle.theory.specs.Records.Lengths.{letters-few}
+use Rattle.theory.proofs.Records.Lengths.{letters-few}
 use Rattle.logs.proofs.WrittenLogs.{taken_few, part_written}
 use Rattle.symbols.proofs.Decimals.{decimal_one}
 use Rattle.printing.proofs.Texts.{single_short, text_written, written_text}

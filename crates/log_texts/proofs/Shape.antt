@@ -22,7 +22,7 @@ use Rattle.theory.specs.Tests.{and_both, and_split, eqb_T, tested}
 use Rattle.theory.specs.Elements.{All, all_append}
 use Rattle.theory.specs.Shape.Forms.{FormInShape}
 use Rattle.theory.specs.Text.Names.{names_count}
-use Rattle.theory.specs.Text.Letters.{text_keeps_value}
+use Rattle.theory.proofs.Text.Letters.{text_keeps_value}
 use Rattle.theory.specs.Text.GoodNames.{header_good}
 use Rattle.log_texts.specs.Letters.{behind_letters}
 use Rattle.log_texts.specs.Formulas.{behind_mark}

@@ -14,7 +14,7 @@ use Rattle.specification.specs.Rules as R
 use Rattle.specification.specs.Logs.{write_step, write_steps, write_log}
 use Rattle.theory.specs.Elements.{All, all_map}
 use Rattle.theory.specs.Records.Terms.{term_short}
-use Rattle.theory.specs.Records.Lengths.{letters-few, records_short}
+use Rattle.theory.proofs.Records.Lengths.{letters-few, records_short}
 use Rattle.integers.specs.Over.{over}
 use Rattle.integers.proofs.Over.{over-nil}
 use Rattle.terms.specs.Abstraction.{term_of}

@@ -16,7 +16,7 @@ use Rattle.theory.specs.Order.{monomial, compare_monomials, compare_terms-monomi
 use Rattle.theory.specs.Gathering.Weights.{weight, weigh, weigh-append}
 use Rattle.theory.specs.Gathering.Coefficients.{only, coeff}
 use Rattle.theory.specs.Gathering.Gathered.{gather-coefficient}
-use Rattle.theory.specs.Rules.Table.{step_terms-rule}
+use Rattle.theory.proofs.Rules.Table.{step_terms-rule}
 use Rattle.terms.specs.declared.types.Term.{Term}
 use Rattle.terms.specs.Abstraction.{term_of}
 use Rattle.terms.proofs.Arrays.{mapped-behind}

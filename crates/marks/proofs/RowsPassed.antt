@@ -20,7 +20,7 @@ use Rattle.specification.specs.Rules.{is_rule, rule_letters, step_terms}
 use Rattle.theory.specs.Elements.{All, all_implies}
 use Rattle.theory.specs.Shape.Forms.{form-gathered}
 use Rattle.theory.specs.Gathering.Gathered.{into-join, gather-onto}
-use Rattle.theory.specs.Rules.Table.{step_terms-rule}
+use Rattle.theory.proofs.Rules.Table.{step_terms-rule}
 use Rattle.terms.specs.Abstraction.{term_of}
 use Rattle.terms.proofs.Arrays.{stored-behind, mapped-behind}
 use Rattle.rules.specs.declared.steps.Step.{Step}

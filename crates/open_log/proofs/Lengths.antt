@@ -15,9 +15,9 @@ use Rattle.theory.specs.Tests.{refused≢given, given_same, past, into, tested}
 use Rattle.theory.specs.Shape.Letters.{table_good_lem}
 use Rattle.theory.specs.Shape.Forms.{FormInShape}
 use Rattle.theory.specs.Records.Positions.{Bytes}
-use Rattle.theory.specs.Records.Lengths.{form_short}
-use Rattle.theory.specs.Replay.Ends.{derives_none, derives_more}
-use Rattle.theory.specs.OpenLogs.States.{StateGood, state_short, state_one_record, taken_form}
+use Rattle.theory.proofs.Records.Lengths.{form_short}
+use Rattle.theory.proofs.Replay.Ends.{derives_none, derives_more}
+use Rattle.theory.proofs.OpenLogs.States.{StateGood, state_short, state_one_record, taken_form}
 
 -- ════ states that the calls give
 

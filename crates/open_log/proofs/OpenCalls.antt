@@ -15,8 +15,8 @@ use Rattle.specification.specs.OpenLogs.{answer_state, open_tested, open_call, a
 use Rattle.specification.specs.OpenLogs as O
 use Rattle.theory.specs.Shape.Letters.{good_short, table_good_lem}
 use Rattle.terms.specs.Abstraction.{form_of}
-use Rattle.theory.specs.OpenLogs.States.{state_read}
-use Rattle.theory.specs.OpenLogs.Deciding.{open-decided}
+use Rattle.theory.proofs.OpenLogs.States.{state_read}
+use Rattle.theory.proofs.OpenLogs.Deciding.{open-decided}
 use Rattle.decision.specs.declared.Decision.{Decision}
 use Rattle.decision.specs.declared.Decision.TheVariants as decided
 use Rattle.decision.specs.Answers.{decision_of}

@@ -21,7 +21,7 @@ use Rattle.specification.specs.Reduction.{product, times_forms, dot_forms, wedge
 use Rattle.theory.specs.Tests.{and-false, required, passed}
 use Rattle.theory.specs.Elements.{All, all_split, all_T, T_all, flat_map-append}
 use Rattle.theory.specs.Shape.Forms.{AllFit, form-fits}
-use Rattle.theory.specs.Reduction.Products.{product_fits}
+use Rattle.theory.proofs.Reduction.Products.{product_fits}
 use Rattle.terms.specs.declared.types.Term.{Term}
 use Rattle.terms.specs.Abstraction.{term_of, Counted}
 use Rattle.terms.proofs.Arrays.{mapped-behind}

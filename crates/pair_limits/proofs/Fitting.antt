@@ -23,8 +23,8 @@ use Rattle.theory.specs.Gathering.Tidy.{in_order-signs}
 use Rattle.theory.specs.Shape.Terms.{Fits, no_part, term-opens}
 use Rattle.theory.specs.Shape.Forms.{FormInShape, form-fits}
 use Rattle.theory.specs.Shape.Bare.{Bare}
-use Rattle.theory.specs.Reduction.Products.{PartOf, Follows}
-use Rattle.theory.specs.Reduction.Operators.{times_left, times_right, dot_op, times_left-follows, times_right-follows, dot-follows, wedge-follows}
+use Rattle.theory.proofs.Reduction.Products.{PartOf, Follows}
+use Rattle.theory.proofs.Reduction.Operators.{times_left, times_right, dot_op, times_left-follows, times_right-follows, dot-follows, wedge-follows}
 use Rattle.theory.specs.Reduction.Pairs.{pair_letters_fit, pair_coef_fits, MakesModest, times-modest, dot-modest, wedge-modest, letters-stay, coefs-stay}
 use Rattle.theory.specs.Reduction.Pairs.{letters-alike, coefs-alike, stays_by-parts}
 use Rattle.terms.specs.declared.types.Term.{Term}

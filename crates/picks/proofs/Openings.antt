@@ -23,7 +23,7 @@ use Rattle.theory.specs.Tests.{and_split, required, passes, refused≢given}
 use Rattle.theory.specs.Reordering.{reordered-sorted, reordered_all}
 use Rattle.theory.specs.Sorting as O
 use Rattle.theory.specs.Shape.Terms.{term-opens, term-closes}
-use Rattle.theory.specs.Rules.Steps.{step-admitted}
+use Rattle.theory.proofs.Rules.Steps.{step-admitted}
 use Rattle.theory.specs.Shortening.Masks.{taken, left_over}
 use Rattle.theory.specs.Shortening.Candidates.{block_size, block_is_first, multiplier, pool, candidate, is_candidate}
 use Rattle.terms.specs.declared.types.Part.{Part}

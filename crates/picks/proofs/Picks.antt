@@ -12,7 +12,7 @@ use Rattle.specification.specs.Results.{if◌then◌else◌}
 use Rattle.specification.specs.Lists.{ascend}
 use Rattle.specification.specs.Rules.{rule_letters, is_rule}
 use Rattle.theory.specs.Elements.{All}
-use Rattle.theory.specs.Rules.Table.{by-rule}
+use Rattle.theory.proofs.Rules.Table.{by-rule}
 use Rattle.theory.specs.Shortening.Masks.{taken, left_over}
 use Rattle.theory.specs.Shortening.Candidates.{block_size, in_rule_order, block_is_first}
 use Rattle.terms.proofs.Arrays.{rest_at, nothing_left_lem}

@@ -15,7 +15,7 @@ use Rattle.specification.specs.Reduction.{reduced}
 use Rattle.specification.specs.Printing.{alphabet, print_tested, print_result, print_call, TextWritten, print_answer, line_bytes}
 use Rattle.theory.specs.Tests.{given_same, refused≢given}
 use Rattle.theory.specs.Shape.Letters.{table_good_lem, good_short}
-use Rattle.theory.specs.Reduction.Work.{reduction_keeps_value}
+use Rattle.theory.proofs.Reduction.Work.{reduction_keeps_value}
 use Rattle.terms.specs.Abstraction.{form_of}
 use Rattle.terms.specs.declared.types.Outcome.{Outcome}
 use Rattle.letters.specs.Tested.{test_of}

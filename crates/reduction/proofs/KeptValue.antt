@@ -8,8 +8,8 @@ use Rattle.specification.specs.Terms.{Form}
 use Rattle.specification.specs.Records.{form_bytes, take_form}
 use Rattle.specification.specs.Reduction.{reduced, reduce_call}
 use Rattle.specification.specs.Promises.{KeepsValue}
-use Rattle.theory.specs.Records.Lengths.{form_short}
-use Rattle.theory.specs.Reduction.Work.{ReducedTo, reduction_keeps_value}
+use Rattle.theory.proofs.Records.Lengths.{form_short}
+use Rattle.theory.proofs.Reduction.Work.{ReducedTo, reduction_keeps_value}
 use Rattle.forms.proofs.FormCalls.{FormAnswered, form-answered, reads_back}
 use Rattle.reduction.specs.declared.Reduced.{Reduced}
 use Rattle.reduction.specs.Answers.{reduced_of}

@@ -11,7 +11,7 @@ use lib.Seq.{get_or-take, get_or-drop}
 use Rattle.specification.specs.Rules.{rule1, rule2, rule3, rule4, bracket, rule5, sides, rule_letters, is_rule}
 use Rattle.specification.specs.Terms as S
 use Rattle.theory.specs.Elements.{All}
-use Rattle.theory.specs.Rules.Table.{by-rule, rule_terms}
+use Rattle.theory.proofs.Rules.Table.{by-rule, rule_terms}
 use Rattle.rule_table.specs.Table.{rule_rows, letter, letter_at, factor_letters, factor_at, part_at, row_sign, row_term, row_terms, first_row, row_count, RowsOf}
 
 -- six letters

@@ -21,8 +21,8 @@ use Rattle.theory.specs.Shape.Terms.{kind_of_part, term-opens, in_limit}
 use Rattle.theory.specs.Tests.{required, passed}
 use Rattle.theory.specs.Shape.Forms.{FormInShape, AllFit, form-gathered, within_given, within-in_shape}
 use Rattle.theory.specs.Gathering.Gathered.{into-join, gather-onto}
-use Rattle.theory.specs.Rules.Table.{step_terms-rule}
-use Rattle.theory.specs.Rules.Steps.{StepShape, agreeing, step_fits, step-parts}
+use Rattle.theory.proofs.Rules.Table.{step_terms-rule}
+use Rattle.theory.proofs.Rules.Steps.{StepShape, agreeing, step_fits, step-parts}
 use Rattle.terms.specs.declared.types.Term.{Term}
 use Rattle.terms.specs.Numbers.{letters_of}
 use Rattle.terms.specs.Abstraction.{part_of, term_of}

@@ -23,7 +23,7 @@ use Rattle.theory.specs.Order.{monomial}
 use Rattle.theory.specs.Shape.Forms.{FormInShape}
 use Rattle.theory.specs.Shape.Letters.{MonomialKnown, AllKnown}
 use Rattle.theory.specs.Gathering.Coefficients.{term_at}
-use Rattle.theory.specs.Rules.Steps.{step-admitted}
+use Rattle.theory.proofs.Rules.Steps.{step-admitted}
 use Rattle.theory.specs.Shortening.Candidates.{candidate, gain, is_candidate, NoCandidate}
 use Rattle.terms.specs.declared.types.Term.{Term}
 use Rattle.terms.specs.Abstraction.{term_of, Counted}

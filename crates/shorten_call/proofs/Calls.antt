@@ -16,9 +16,9 @@ use Rattle.specification.specs.Shortening.{Shortens}
 use Rattle.specification.specs.Printing.{alphabet, input_table, print_tested, print_result, print_steps, print_log}
 use Rattle.specification.specs.Printing.{lines_bytes, TextWritten, PrintedBy, LinesPrintedBy, LinesPrinted}
 use Rattle.theory.specs.Shape.Letters.{table_good_lem, good_short}
-use Rattle.theory.specs.Reduction.Work.{reduction_keeps_value}
-use Rattle.theory.specs.Records.Logs.{log_of}
-use Rattle.theory.specs.Replay.Accepted.{Derives}
+use Rattle.theory.proofs.Reduction.Work.{reduction_keeps_value}
+use Rattle.theory.proofs.Records.Logs.{log_of}
+use Rattle.theory.proofs.Replay.Accepted.{Derives}
 use Rattle.terms.specs.Abstraction.{form_of}
 use Rattle.terms.specs.declared.types.Outcome.{Outcome}
 use Rattle.terms.specs.Valid.{Gives}

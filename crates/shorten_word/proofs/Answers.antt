@@ -8,7 +8,7 @@ use Rattle.specification.specs.Text.{text_form}
 use Rattle.specification.specs.Lines.{line_of, next_line, to_line}
 use Rattle.specification.specs.LogTexts.{log_text}
 use Rattle.specification.specs.Commands.{refusal_text, ShorteningTold, ShortenAnswer}
-use Rattle.theory.specs.Records.Logs.{log_of}
+use Rattle.theory.proofs.Records.Logs.{log_of}
 use Rattle.theory.specs.Text.Names.{names_count}
 use Rattle.theory.specs.Text.LineColumns.{formula_within}
 use Rattle.terms.specs.Abstraction.{form_of}

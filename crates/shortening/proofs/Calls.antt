@@ -13,9 +13,9 @@ use Rattle.specification.specs.Shortening.{shortening_bytes, shortened, unshorte
 use Rattle.specification.specs.Shortening as H
 use Rattle.theory.specs.Shape.Letters.{table_good_lem}
 use Rattle.theory.specs.Records.Positions.{Bytes}
-use Rattle.theory.specs.Records.Lengths.{saving-log_short}
+use Rattle.theory.proofs.Records.Lengths.{saving-log_short}
 use Rattle.theory.specs.Records.Taken.{taken_so}
-use Rattle.theory.specs.Replay.Accepted.{Derives}
+use Rattle.theory.proofs.Replay.Accepted.{Derives}
 use Rattle.terms.specs.Abstraction.{form_of, outcome_of}
 use Rattle.terms.proofs.Forms.{form-long}
 use Rattle.terms.specs.declared.types.Outcome.{Outcome}

@@ -19,12 +19,12 @@ use Rattle.theory.specs.Elements.{All, all_append}
 use Rattle.theory.specs.Shape.Forms.{FormInShape, form-gathered, within_given}
 use Rattle.theory.specs.Gathering.Gathered.{gather-onto}
 use Rattle.theory.specs.Shape.Letters.{AllKnown, terms_known, known_terms}
-use Rattle.theory.specs.Rules.Steps.{step-closes, step_taken, step-admitted}
-use Rattle.theory.specs.Records.Logs.{StepsInShape}
-use Rattle.theory.specs.Replay.Accepted.{test_steps, steps_more, tests_more}
-use Rattle.theory.specs.Replay.Ends.{steps-keep}
+use Rattle.theory.proofs.Rules.Steps.{step-closes, step_taken, step-admitted}
+use Rattle.theory.proofs.Records.Logs.{StepsInShape}
+use Rattle.theory.proofs.Replay.Accepted.{test_steps, steps_more, tests_more}
+use Rattle.theory.proofs.Replay.Ends.{steps-keep}
 use Rattle.theory.specs.Shortening.Candidates.{NoCandidate}
-use Rattle.theory.specs.Shortening.Completeness.{no_candidate-shortest}
+use Rattle.theory.proofs.Shortening.Completeness.{no_candidate-shortest}
 use Rattle.terms.specs.declared.types.Form.{Form}
 use Rattle.terms.specs.Abstraction.{form_of}
 use Rattle.terms.specs.Valid.{FormValid}

@@ -13,8 +13,8 @@ use Rattle.specification.specs.Shortening.{Shortest, ShortenedTo}
 use Rattle.specification.specs.Logs.{write_steps, write_log}
 use Rattle.theory.specs.Records.Positions.{Bytes}
 use Rattle.theory.specs.Records.Forms.{form-read_back}
-use Rattle.theory.specs.Records.Logs.{last_start_of}
-use Rattle.theory.specs.Replay.Accepted.{Derives}
+use Rattle.theory.proofs.Records.Logs.{last_start_of}
+use Rattle.theory.proofs.Replay.Accepted.{Derives}
 use Rattle.forms.proofs.RoundTrip.{taken_written}
 use Rattle.checker.specs.Answers.{checked_of}
 use Rattle.checker.proofs.AcceptedLogs.{answers-derivation}

@@ -10,8 +10,8 @@ use Rattle.specification.specs.Letters.{good_table}
 use Rattle.specification.specs.Records.{test_terms}
 use Rattle.specification.specs.Logs.{write_log}
 use Rattle.specification.specs.Shortening.{Shortens}
-use Rattle.theory.specs.Records.Logs.{log_of, log-read_back}
-use Rattle.theory.specs.Replay.Accepted.{Derives, derivation-accepted}
+use Rattle.theory.proofs.Records.Logs.{log_of, log-read_back}
+use Rattle.theory.proofs.Replay.Accepted.{Derives, derivation-accepted}
 use Rattle.terms.specs.declared.types.Form.{Form}
 use Rattle.terms.specs.Abstraction.{form_of}
 use Rattle.terms.specs.Valid.{FormValid}

@@ -8,8 +8,8 @@ use Rattle.specification.specs.Logs.{take_steps}
 use Rattle.specification.specs.Shortening.{Shortest}
 use Rattle.theory.specs.Elements.{All}
 use Rattle.theory.specs.Shape.Letters.{AllKnown}
-use Rattle.theory.specs.Records.Logs.{StepsInShape}
-use Rattle.theory.specs.Replay.Accepted.{Derives, test_steps}
+use Rattle.theory.proofs.Records.Logs.{StepsInShape}
+use Rattle.theory.proofs.Replay.Accepted.{Derives, test_steps}
 use Rattle.theory.specs.Shortening.Candidates.{NoCandidate}
 use Rattle.terms.specs.declared.types.Form.{Form}
 use Rattle.terms.specs.Abstraction.{form_of}

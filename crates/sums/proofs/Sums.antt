@@ -16,7 +16,7 @@ use Rattle.theory.specs.Order.{monomial}
 use Rattle.theory.specs.Gathering.Gathered.{gather-onto}
 use Rattle.theory.specs.Shape.Terms.{Fits}
 use Rattle.theory.specs.Shape.Forms.{FormInShape, form-fits, form-gathered}
-use Rattle.theory.specs.Reduction.Operators.{negate-in_shape}
+use Rattle.theory.proofs.Reduction.Operators.{negate-in_shape}
 use Rattle.terms.proofs.Arrays.{all-at}
 use Rattle.rows.specs.declared.Worked.{Worked}
 use Rattle.rows.specs.Rows.{RowValid, term_by, terms_by, run_of, Light, form_by, FormRun, RowsGive, Copied}

@@ -10,10 +10,7 @@ pub mod Gathering
 pub mod Shape
 pub mod Values
 pub mod Reduction
-pub mod Rules
 pub mod Records
 pub mod Replay
-pub mod OpenLogs
 pub mod Shortening
-pub mod Lines
 pub mod Text

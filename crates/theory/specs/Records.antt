@@ -9,5 +9,3 @@ pub mod Terms
 pub mod Forms
 pub mod Taken
 pub mod Insertion
-pub mod Logs
-pub mod Lengths

@@ -1,4 +1,2 @@
 -- The replay: what it accepts, and what the ends of an accepted log have in common.
-pub mod Accepted
-pub mod Ends
 pub mod Limits

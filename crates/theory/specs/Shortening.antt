@@ -1,7 +1,3 @@
 -- Shortening: the candidates by indices for a step to fewer terms, and that they are enough.
 pub mod Masks
-pub mod Relabelled
 pub mod Candidates
-pub mod Symmetries
-pub mod Saved
-pub mod Completeness

@@ -15,7 +15,7 @@ use Rattle.specification.specs.Printing.{alphabet, input_table}
 use Rattle.specification.specs.LogTexts.{log_text}
 use Rattle.specification.specs.Commands.{checked_text, tested_log, tested_text, unpacked_text, unpack_log, unpack_input}
 use Rattle.theory.specs.Shape.Letters.{table_good_lem, good_short}
-use Rattle.theory.specs.Replay.Accepted.{passed, steps_letters-accepted}
+use Rattle.theory.proofs.Replay.Accepted.{passed, steps_letters-accepted}
 use Rattle.terms.specs.declared.types.Form.{Form}
 use Rattle.terms.specs.Abstraction.{form_of}
 use Rattle.terms.specs.Valid.{FormValid}

@@ -1,5 +1,5 @@
 use Rattle.std.proofs.Common.{rules}
-use Rattle.theory.specs.Records.Lengths.{form_short}
+use Rattle.theory.proofs.Records.Lengths.{form_short}
 use mathlib.Core.Path.{sym}
 use lib.Seq.{length-take-le}
 use Rattle.records.proofs.Inside.{written_inside}

@@ -4,7 +4,7 @@ use Rattle.std.proofs.Math.Path.{refl, ap}
 use mathlib.Core.List.{List, [], ◌∷◌}
 use Rattle.std.proofs.Common.{arith}
 use Rattle.algebra.specs.Polynomials.{nil}
-use Rattle.algebra.specs.Normaliser.{Ex, var, lit, ◌⊕◌, ◌⊖◌, ◌⊗◌, ⟦◌⟧◌, norm, solve, normalising}
+use Rattle.algebra.proofs.Normaliser.{Ex, var, lit, ◌⊕◌, ◌⊖◌, ◌⊗◌, ⟦◌⟧◌, norm, solve, normalising}
 use Rattle.specification.specs.Values.{Vec, scalar_value, ◌+v◌, ◌•◌, dot, wedge, triple}
 use Rattle.specification.specs.Terms.{Term}
 use Rattle.specification.specs.Evaluation.{factor_value, factors_value, part_value, term_value, terms_value}

@@ -3,7 +3,7 @@ use Rattle.std.proofs.Common.{rules}
 use mathlib.Core.Bool.{true≢false}
 use mathlib.Core.Path.{refl, sym}
 use native.Mathlib.Omega.{arith}
-use Rattle.theory.specs.Text.Derivations.{start-goes}
+use Rattle.theory.proofs.Text.Derivations.{start-goes}
 use Rattle.derivation_word.specs.Derivations.{names_of, kinds_of, derivation_of}
 use Rattle.derivation_word.proofs.answering.start.Goals as goal
 

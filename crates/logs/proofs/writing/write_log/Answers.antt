@@ -6,7 +6,7 @@ use native.Mathlib.Omega.{arith}
 use lib.ListN.{length, length-set}
 use borrow.Rule.Slice.PartMut.{mid_len, same_len_mid}
 use Rattle.specification.specs.Records.{form_bytes}
-use Rattle.theory.specs.Records.Lengths.{form_short}
+use Rattle.theory.proofs.Records.Lengths.{form_short}
 use Rattle.terms.specs.Abstraction.{form_of}
 use Rattle.logs.specs.Steps.{steps_of}
 use Rattle.logs.proofs.WrittenLogs.{steps_short, steps-counted, log_written}

@@ -7,7 +7,7 @@ use native.Mathlib.Omega.{arith}
 use borrow.Rule.Slice.PartMut.{mid_len, same_len_mid}
 use lib.ListN.{length, set, length-set}
 use lib.Seq.{length-take-le}
-use Rattle.theory.specs.Records.Lengths.{form_short}
+use Rattle.theory.proofs.Records.Lengths.{form_short}
 use Rattle.terms.specs.Abstraction.{form_of}
 use Rattle.logs.proofs.WrittenLogs.{taken_few}
 use Rattle.open_log.proofs.StateBytes.{state_written_lem}

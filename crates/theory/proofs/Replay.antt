@@ -1,0 +1,3 @@
+-- The replay: what it accepts, and what the ends of an accepted log have in common.
+pub mod Accepted
+pub mod Ends
