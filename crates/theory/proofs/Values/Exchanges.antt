@@ -20,6 +20,7 @@ use Rattle.theory.specs.Sorting as O
 use Rattle.theory.specs.Signs.{pair_lt, pair_eq, pair_gt}
 use Rattle.theory.specs.Shape.Terms.{OneToThree}
 use Rattle.theory.specs.Values.Vectors.{by-components, one_•, zero_•}
+use Rattle.theory.proofs.Values.TripleExchange.{triple-exchange_last}
 use Rattle.theory.specs.Values.Expressions.{◌•e◌, dot_e, wedge_e, triple_e, A, B, C, letters, same_numbers, same_vectors}
 
 -- ════ exchanges and equal letters
@@ -46,12 +47,6 @@ pub triple-exchange_first : (a b c : Vec) → triple a b c ≡ negsuc 0 *ℤ tri
 unfolding normalising
 triple-exchange_first a b c =
     same_numbers (triple_e A B C) (lit (negsuc 0) ⊗ triple_e B A C) (letters (a ∷ b ∷ c ∷ [])) refl
-
--- (acb) = −(abc)
-pub triple-exchange_last : (a b c : Vec) → triple a b c ≡ negsuc 0 *ℤ triple a c b
-unfolding normalising
-triple-exchange_last a b c =
-    same_numbers (triple_e A B C) (lit (negsuc 0) ⊗ triple_e A C B) (letters (a ∷ b ∷ c ∷ [])) refl
 
 -- (abc) = (bca)
 pub triple-turn : (a b c : Vec) → triple a b c ≡ triple b c a
