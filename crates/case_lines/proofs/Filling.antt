@@ -7,7 +7,7 @@ use native.Mathlib.Omega.{arith}
 use lib.ListN.{length, get_or, set}
 use lib.Seq.{get_or-set_same, get_or-set_other}
 use Rattle.algebra.specs.Numbers.{below_more}
-use Rattle.case_lines.specs.Filling.{filling, AllFilling, Stand}
+use Rattle.case_lines.specs.Filling.{filling, Stand}
 
 -- one byte more is filled
 pub filled_more : (l : List ℕ) (i : ℕ) → i < length l → ((x : ℕ) → x < i → get_or l x 0 ≡ filling) → (x : ℕ) → x < i + 1 → get_or (set l i filling) x 0 ≡ filling

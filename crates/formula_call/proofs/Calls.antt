@@ -1,16 +1,16 @@
 -- The form of a text by value, and the call: its tests in order, a refused text, a record written. Assumes nothing.
 use mathlib.Core.Path.{◌≡◌, refl, ap, sym, subst, ◌∙◌}
-use mathlib.Core.Bool.{Bool, true, false, ◌&&◌}
+use mathlib.Core.Bool.{Bool, true, false}
 use mathlib.Core.List.{List}
 use Prim.Native.Nat.{ℕ, ◌≤◌, ◌<◌}
 use native.Mathlib.Omega.{arith}
 use borrow.Author.Tests.{le-leb, lt-leb, eq-eqb, ne_eqb}
-use lib.Dec.{T, leb, eqb}
+use lib.Dec.{leb, eqb}
 use lib.IntN.{ℤ}
 use lib.ListN.{length, set}
 use lib.Seq.{set_split}
-use Rattle.specification.specs.Results.{Result, Test, refused, given, ◌>>◌, require, if◌then◌else◌}
-use Rattle.specification.specs.Letters.{good_table, test_table}
+use Rattle.specification.specs.Results.{Result, Test, refused, given, if◌then◌else◌}
+use Rattle.specification.specs.Letters.{test_table}
 use Rattle.specification.specs.Terms as S
 use Rattle.specification.specs.Records.{form_bytes, write_form}
 use Rattle.specification.specs.Text.{Placed, refused_at, placed, at_column, good_names, test_names, text_form, text_tested, text_answer, text_call}
@@ -29,7 +29,7 @@ use Rattle.letters.proofs.LetterTests.{test-passed, test_refused}
 use Rattle.records.proofs.Inside.{written_inside}
 use Rattle.forms.specs.Written.{FormWritten}
 use Rattle.formulas.specs.declared.joining.Reading.{Reading}
-use Rattle.formulas.specs.Readings.{Named, placed_of, text_of, Read, TextRead}
+use Rattle.formulas.specs.Readings.{Named, placed_of, text_of, TextRead}
 use Rattle.formula_call.specs.declared.TextForm.{TextForm}
 use Rattle.formula_call.specs.declared.FormulaRead.{FormulaRead}
 use Rattle.formula_call.specs.declared.FormulaRead.TheVariants.{Written}

@@ -5,13 +5,13 @@ use mathlib.Core.List.{List}
 use Prim.Native.Nat.{ℕ, ◌≤◌, ◌<◌, ◌^◌}
 use native.Mathlib.Omega.{arith}
 use borrow.Author.Tests.{eq-eqb, ne_eqb, eqb-true, eqb-false, lt-ltb, le-ltb, leb-true, leb-false}
-use lib.Dec.{T, eqb, ltb, leb, eqb→eq}
+use lib.Dec.{eqb, ltb, leb, eqb→eq}
 use lib.IntN.{ℤ, pos, nat_abs}
 use lib.ListN.{length, get_or}
 use mir.Syntax.{w64}
 use mir.Val.{to_z}
 use mir.ValLaws.{to_z_pos}
-use Rattle.specification.specs.Results.{Result, refused, given, if◌then◌else◌}
+use Rattle.specification.specs.Results.{given, if◌then◌else◌}
 use Rattle.specification.specs.Letters.{kind_of}
 use Rattle.specification.specs.Terms.{Form}
 use Rattle.specification.specs.Reduction.{letter_form, constant_form, triple_forms}
@@ -22,12 +22,12 @@ use Rattle.theory.specs.Text.Columns.{beyond_refused}
 use Rattle.theory.specs.Text.Turns.{byte-there}
 use Rattle.theory.specs.Text.OnTheWay.{Way, triple_at, way_name, way_number, way_triple, way_closed}
 use Rattle.rows.specs.declared.Worked.{Worked}
-use Rattle.rows.specs.Rows.{form_by, FormRun, RowsGive}
+use Rattle.rows.specs.Rows.{form_by, RowsGive}
 use Rattle.texts.specs.declared.Number.{Number}
 use Rattle.texts.specs.Numbers.{capped, NumberRead}
 use Rattle.formulas.specs.declared.joining.Reading.{Reading}
-use Rattle.formulas.specs.Readings.{placed_of, way_of, Refused, Read, Formed, WayGives, NameRead, TripleRead, ClosedAs}
-use Rattle.formulas.proofs.Results.{placed-form, placed_at, way_read, way-unread, gives_refused, gives_read, gives_as, then_refused, then_read}
+use Rattle.formulas.specs.Readings.{placed_of, Refused, Formed, WayGives, NameRead, TripleRead, ClosedAs}
+use Rattle.formulas.proofs.Results.{placed-form, placed_at, way_read, gives_refused, gives_read, gives_as, then_refused, then_read}
 
 -- ════ names
 

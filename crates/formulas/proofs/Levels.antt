@@ -6,13 +6,12 @@ use Prim.Native.Nat.{ℕ, zero, suc, ◌-◌, ◌≤◌, ◌<◌}
 use native.Mathlib.Omega.{arith}
 use native.Mathlib.Numerals.{sub-one}
 use borrow.Author.Tests.{eq-eqb, ne_eqb}
-use lib.Dec.{eqb, leb}
+use lib.Dec.{leb}
 use lib.IntN.{ℤ}
 use lib.ListN.{length, get_or}
-use Rattle.specification.specs.Results.{if◌then◌else◌}
 use Rattle.specification.specs.Terms.{Form}
-use Rattle.specification.specs.Text.{Placed, refused_at, placed, ◌>>=◌, is_letter, is_digit, is_triple, next}
-use Rattle.theory.specs.Text.OnTheWay.{Way, join_at, goes_on, most_of, operates, fronted, operand_at, front_at, way_chain, way_number, way_closed, way_name, way_triple, way_bracket}
+use Rattle.specification.specs.Text.{Placed, placed, ◌>>=◌, is_letter, is_digit, is_triple, next}
+use Rattle.theory.specs.Text.OnTheWay.{Way, join_at, goes_on, most_of, operates, fronted, operand_at, front_at, way_chain, way_number, way_name, way_triple, way_bracket}
 use Rattle.theory.specs.Text.OnTheWay.{way_atom, way_level, way_nested}
 use Rattle.theory.specs.Text.Turns.{byte-there}
 use Rattle.formulas.specs.declared.joining.Reading.{Reading}

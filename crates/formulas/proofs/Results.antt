@@ -1,23 +1,23 @@
 -- What working gave on the way, operator by operator. Assumes nothing.
-use mathlib.Core.Path.{◌≡◌, refl, sym, ◌∙◌, ap, subst}
-use mathlib.Core.Bool.{Bool, true, false, ◌&&◌}
+use mathlib.Core.Path.{◌≡◌, refl, sym, ◌∙◌, ap}
+use mathlib.Core.Bool.{Bool, true, false}
 use mathlib.Core.List.{List, map}
-use Prim.Native.Nat.{ℕ, ◌≤◌}
+use Prim.Native.Nat.{ℕ}
 use borrow.Author.Tests.{eq-eqb, ne_eqb, eqb-true, eqb-false}
 use lib.Dec.{eqb}
 use lib.IntN.{ℤ, neg_ℤ}
 use lib.ListN.{length, take}
-use Rattle.specification.specs.Results.{Result, refused, given, if◌then◌else◌}
+use Rattle.specification.specs.Results.{Result}
 use Rattle.specification.specs.Terms.{Form}
 use Rattle.specification.specs.Reduction.{negate_form, sum_forms, times_forms, dot_forms, wedge_forms}
 use Rattle.specification.specs.Text.{Placed, refused_at, placed, ◌>>=◌, at_column}
-use Rattle.theory.specs.Text.OnTheWay.{Way, join_at, triple_at, operates, turned_form, fronted, way_closed}
+use Rattle.theory.specs.Text.OnTheWay.{Way, join_at, operates, turned_form, fronted}
 use Rattle.rows.specs.declared.Worked.{Worked}
-use Rattle.rows.specs.Rows.{Light, form_by, FormRun, RowsGive}
+use Rattle.rows.specs.Rows.{form_by, RowsGive}
 use Rattle.rows.proofs.RowForms.{rows_as}
 use Rattle.sums.proofs.Sums.{form-negated, negated-run}
 use Rattle.formulas.specs.declared.joining.Reading.{Reading}
-use Rattle.formulas.specs.Readings.{placed_of, way_of, Refused, Read, Formed, WayGives, Joined, Fronted, NameRead, TripleRead, ClosedAs}
+use Rattle.formulas.specs.Readings.{placed_of, way_of, Refused, Read, WayGives, Joined, Fronted}
 
 -- ════ the operator of a level
 

@@ -1,5 +1,5 @@
 -- The whole text: too long, not read, something left, or all of it. Assumes nothing.
-use mathlib.Core.Path.{◌≡◌, refl, sym, ◌∙◌, ap, subst}
+use mathlib.Core.Path.{◌≡◌, refl, sym, ◌∙◌, ap}
 use mathlib.Core.Bool.{true}
 use mathlib.Core.List.{List}
 use Prim.Native.Nat.{ℕ, ◌≤◌, ◌<◌}
@@ -8,10 +8,10 @@ use borrow.Author.Tests.{eq-eqb, ne_eqb, le-leb, lt-leb}
 use lib.IntN.{ℤ}
 use lib.ListN.{length}
 use Rattle.specification.specs.Terms.{Form}
-use Rattle.specification.specs.Text.{Placed, refused_at, placed, ◌>>=◌, skip, text_form}
+use Rattle.specification.specs.Text.{Placed, refused_at, ◌>>=◌, skip, text_form}
 use Rattle.theory.specs.Text.OnTheWay.{Way, way_whole, way_level, way_nested, way_text, way_text_lem}
 use Rattle.formulas.specs.declared.joining.Reading.{Reading}
-use Rattle.formulas.specs.Readings.{placed_of, text_of, Refused, Read, WayGives, TextRead}
+use Rattle.formulas.specs.Readings.{placed_of, text_of, Refused, WayGives, TextRead}
 use Rattle.formulas.proofs.Results.{way_read, way-unread}
 
 -- a refusal

@@ -1,5 +1,4 @@
 -- `case_lines::byte_at` meets its contract: a byte is below 256.
-use Rattle.std.proofs.Common.{rules}
 use native.Mathlib.Omega.{arith}
 use Rattle.case_lines.proofs.byte_at.Goals as goal
 

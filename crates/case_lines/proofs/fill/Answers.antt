@@ -1,10 +1,8 @@
 -- `case_lines::fill` meets its contract: the bytes before i are the filling. Assumes nothing.
-use Rattle.std.proofs.Common.{rules}
-use mathlib.Core.Path.{◌≡◌, refl, ◌∙◌}
-use Prim.Native.Nat.{ℕ, ◌-◌, ◌<◌}
+use mathlib.Core.Path.{refl, ◌∙◌}
 use native.Mathlib.Omega.{arith}
 use native.Mathlib.Nat.{not-suc-le-zero}
-use lib.ListN.{length, get_or, length-set}
+use lib.ListN.{length-set}
 use Rattle.case_lines.specs.Filling.{filling}
 use Rattle.case_lines.proofs.Filling.{filled_more}
 use Rattle.case_lines.proofs.fill.Goals as goal

@@ -1,5 +1,4 @@
 -- `case_lines::lend` is safe. Assumes nothing.
-use Rattle.std.proofs.Common.{rules}
 use mathlib.Core.Path.{sym}
 use lib.Seq.{length-take-le}
 use Rattle.case_lines.proofs.lend.Goals as goal

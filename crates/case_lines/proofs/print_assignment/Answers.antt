@@ -1,5 +1,4 @@
 -- `case_lines::print_assignment` is safe and ends. Assumes nothing.
-use Rattle.std.proofs.Common.{rules}
 use mathlib.Core.Path.{sym}
 use native.Mathlib.Omega.{arith}
 use lib.Seq.{length-take-le}

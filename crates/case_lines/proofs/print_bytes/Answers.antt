@@ -1,8 +1,5 @@
 -- `case_lines::print_bytes` is safe and ends: nothing is asked of the bytes before i. Assumes nothing.
-use Rattle.std.proofs.Common.{rules}
 use native.Mathlib.Omega.{arith}
-use Prim.Native.Nat.{◌-◌}
-use lib.ListN.{length}
 use Rattle.case_lines.proofs.print_bytes.Goals as goal
 
 pub loop-i-init : goal.loop-i-init

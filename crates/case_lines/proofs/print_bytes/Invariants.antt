@@ -1,5 +1,4 @@
 -- `case_lines::print_bytes` is safe and ends: nothing is asked of the bytes before i. Assumes nothing.
-use native.Mathlib.Omega.{arith}
 use Prim.Native.Nat.{◌-◌}
 use lib.ListN.{length}
 use Rattle.case_lines.proofs.print_bytes.Given as goal

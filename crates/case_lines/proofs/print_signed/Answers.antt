@@ -1,5 +1,4 @@
 -- `case_lines::print_signed` is safe and ends: only the least number has no size of 63 bits. Assumes nothing.
-use Rattle.std.proofs.Common.{rules}
 use mathlib.Core.Path.{sym, ◌∙◌}
 use Rattle.case_lines.proofs.Sizes.{not_least}
 use Rattle.case_lines.proofs.print_signed.Goals as goal

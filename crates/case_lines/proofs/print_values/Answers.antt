@@ -1,5 +1,4 @@
 -- `case_lines::print_values` is safe and ends.
-use Rattle.std.proofs.Common.{rules}
 use mathlib.Core.Path.{◌≡◌}
 use Prim.Native.Nat.{ℕ}
 use Rattle.specification.specs.Results.{given}

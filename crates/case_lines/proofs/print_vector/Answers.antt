@@ -1,5 +1,4 @@
 -- `case_lines::print_vector` is safe and ends.
-use Rattle.std.proofs.Common.{rules}
 use Prim.Native.Nat.{◌*◌, ◌^◌, ◌≤◌, ◌<◌}
 use native.Mathlib.Omega.{arith}
 use lib.IntN.{ℤ, nat_abs}

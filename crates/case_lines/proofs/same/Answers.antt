@@ -1,8 +1,4 @@
 -- `case_lines::same` is safe and ends: nothing is asked of the bytes before i. Assumes nothing.
-use Rattle.std.proofs.Common.{rules}
-use Prim.Native.Nat.{◌-◌}
-use native.Mathlib.Omega.{arith}
-use lib.ListN.{length}
 use Rattle.case_lines.proofs.same.Goals as goal
 
 pub loop-i-init : goal.loop-i-init

@@ -1,6 +1,5 @@
 -- `case_lines::same` is safe and ends: nothing is asked of the bytes before i. Assumes nothing.
 use Prim.Native.Nat.{◌-◌}
-use native.Mathlib.Omega.{arith}
 use lib.ListN.{length}
 use Rattle.case_lines.proofs.same.Given as goal
 

@@ -1,11 +1,8 @@
 -- `case_lines::stands` meets its contract: the bytes before i are the filling. Assumes nothing.
 use mathlib.Core.Path.{◌≡◌}
 use Prim.Native.Nat.{ℕ, ◌-◌, ◌<◌}
-use native.Mathlib.Omega.{arith}
-use native.Mathlib.Nat.{not-suc-le-zero}
 use lib.ListN.{length, get_or}
 use Rattle.case_lines.specs.Filling.{filling}
-use Rattle.case_lines.proofs.Filling.{stands_more, all_stand, one_found}
 use Rattle.case_lines.proofs.stands.Given as goal
 
 abbrev pub invariant-loop-i : goal.invariant-loop-i

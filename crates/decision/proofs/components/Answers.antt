@@ -1,5 +1,4 @@
 -- `decision::components` meets its contract. Assumes nothing.
-use Rattle.std.proofs.Common.{rules}
 use mathlib.Core.Path.{refl}
 use mathlib.Core.Logic.{inl, inr}
 use Rattle.decision.specs.Settling.{Components}

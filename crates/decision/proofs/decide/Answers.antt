@@ -1,5 +1,4 @@
 -- `decision::decide` meets its contract. Assumes nothing.
-use Rattle.std.proofs.Common.{rules}
 use Rattle.specification.specs.Decision.{Decided}
 use Rattle.terms.specs.Abstraction.{form_of}
 use Rattle.decision.specs.Answers.{decision_of}

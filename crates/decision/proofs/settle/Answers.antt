@@ -1,13 +1,7 @@
 -- `decision::settle` meets its contract: of the components before i, the first numbers under which one differs are kept. Assumes nothing.
-use Rattle.std.proofs.Common.{rules}
-use mathlib.Core.Path.{◌≡◌, refl, ◌∙◌}
-use Prim.Native.Nat.{ℕ, ◌-◌, ◌≤◌}
+use mathlib.Core.Path.{refl, ◌∙◌}
 use native.Mathlib.Omega.{arith}
-use lib.ListN.{length}
 use Rattle.specification.specs.Decision.{DecidedBy}
-use Rattle.terms.specs.Abstraction.{form_of}
-use Rattle.elimination.specs.Differences.{difference}
-use Rattle.firsts.specs.Keeping.{SoFar}
 use Rattle.firsts.proofs.Numbers.{so_far-starts, so_far_more}
 use Rattle.decision.specs.Answers.{decision_of}
 use Rattle.decision.proofs.Settling.{compare-asks, same_value_lem, eliminate-asks, differs, equal, three}

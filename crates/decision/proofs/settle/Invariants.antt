@@ -1,15 +1,10 @@
 -- `decision::settle` meets its contract: of the components before i, the first numbers under which one differs are kept. Assumes nothing.
-use mathlib.Core.Path.{◌≡◌, refl, ◌∙◌}
+use mathlib.Core.Path.{◌≡◌}
 use Prim.Native.Nat.{ℕ, ◌-◌, ◌≤◌}
-use native.Mathlib.Omega.{arith}
 use lib.ListN.{length}
-use Rattle.specification.specs.Decision.{DecidedBy}
 use Rattle.terms.specs.Abstraction.{form_of}
 use Rattle.elimination.specs.Differences.{difference}
 use Rattle.firsts.specs.Keeping.{SoFar}
-use Rattle.firsts.proofs.Numbers.{so_far-starts, so_far_more}
-use Rattle.decision.specs.Answers.{decision_of}
-use Rattle.decision.proofs.Settling.{compare-asks, same_value_lem, eliminate-asks, differs, equal, three}
 use Rattle.decision.proofs.settle.Given as goal
 
 abbrev pub invariant-loop-i : goal.invariant-loop-i

@@ -1,10 +1,8 @@
 -- `firsts::is_before` meets its contract: the numbers before i are alike. Assumes nothing.
-use Rattle.std.proofs.Common.{rules}
 use mathlib.Core.Logic.{inl, inr}
-use Prim.Native.Nat.{◌-◌, ◌≤◌}
 use native.Mathlib.Omega.{arith}
 use native.Mathlib.Nat.{not-suc-le-zero}
-use Rattle.theory.specs.Values.Firsts.{Alike, alike_more}
+use Rattle.theory.specs.Values.Firsts.{alike_more}
 use Rattle.firsts.proofs.Numbers.{says-before, says-not}
 use Rattle.firsts.proofs.is_before.Goals as goal
 

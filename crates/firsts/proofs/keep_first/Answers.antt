@@ -1,5 +1,4 @@
 -- `firsts::keep_first` meets its contract. Assumes nothing.
-use Rattle.std.proofs.Common.{rules}
 use mathlib.Core.Path.{refl}
 use native.Mathlib.Omega.{arith}
 use Rattle.firsts.specs.Keeping.{only, least}

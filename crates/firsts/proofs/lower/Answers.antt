@@ -1,5 +1,4 @@
 -- `firsts::lower` meets its contract. Assumes nothing.
-use Rattle.std.proofs.Common.{rules}
 use Rattle.firsts.proofs.Numbers.{lowered-earlier, lowered-later}
 use Rattle.firsts.proofs.lower.Goals as goal
 

@@ -1,12 +1,9 @@
 -- `firsts::put_numbers` meets its contract: the bytes before i are the numbers. Assumes nothing.
-use Rattle.std.proofs.Common.{rules}
-use mathlib.Core.Path.{◌≡◌, refl, ◌∙◌}
-use Prim.Native.Nat.{◌-◌, ◌≤◌}
+use mathlib.Core.Path.{refl, ◌∙◌}
 use native.Mathlib.Omega.{arith}
 use native.Mathlib.Nat.{not-suc-le-zero}
 use lib.Seq.{drop-set-lt}
-use lib.ListN.{length, drop, length-set}
-use Rattle.theory.specs.Values.Firsts.{Alike}
+use lib.ListN.{length-set}
 use Rattle.elimination.proofs.Choices.{written_more}
 use Rattle.firsts.proofs.put_numbers.Goals as goal
 

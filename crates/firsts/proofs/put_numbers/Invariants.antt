@@ -1,12 +1,8 @@
 -- `firsts::put_numbers` meets its contract: the bytes before i are the numbers. Assumes nothing.
-use mathlib.Core.Path.{◌≡◌, refl, ◌∙◌}
+use mathlib.Core.Path.{◌≡◌}
 use Prim.Native.Nat.{◌-◌, ◌≤◌}
-use native.Mathlib.Omega.{arith}
-use native.Mathlib.Nat.{not-suc-le-zero}
-use lib.Seq.{drop-set-lt}
-use lib.ListN.{length, drop, length-set}
+use lib.ListN.{length, drop}
 use Rattle.theory.specs.Values.Firsts.{Alike}
-use Rattle.elimination.proofs.Choices.{written_more}
 use Rattle.firsts.proofs.put_numbers.Given as goal
 
 abbrev pub invariant-loop-i : goal.invariant-loop-i

@@ -1,5 +1,4 @@
 -- `formula_call::form_of_text` meets its contract: what reading refused, or what working gave, with its column. Assumes nothing.
-use Rattle.std.proofs.Common.{rules}
 use mathlib.Core.Path.{refl}
 use Rattle.formula_call.proofs.Calls.{text-unread, text-worked}
 use Rattle.formula_call.proofs.form_of_text.Goals as goal

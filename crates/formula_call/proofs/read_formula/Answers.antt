@@ -1,7 +1,5 @@
 -- `formula_call::read_formula` meets its contract: the tests in order, a refused text, the record. Assumes nothing.
-use Rattle.std.proofs.Common.{rules}
 use native.Mathlib.Omega.{arith}
-use borrow.Author.Tests.{not-true, not-false}
 use Rattle.formula_call.specs.Answers.{formula_read_of}
 use Rattle.formula_call.proofs.Calls.{names-named, table_refused, names_refused, out_refused, columns_refused, text_refused, text_written}
 use Rattle.formula_call.proofs.read_formula.Goals as goal

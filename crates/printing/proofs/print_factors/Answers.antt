@@ -1,14 +1,14 @@
 -- `printing::print_factors` meets its contract: before each turn the factors from i on are left, and there is room for them. Assumes nothing.
 use Rattle.std.proofs.Common.{rules}
 use mathlib.Core.Path.{◌≡◌}
-use Prim.Native.Nat.{ℕ, ◌+◌, ◌≤◌, ◌<◌, ◌-◌}
+use Prim.Native.Nat.{ℕ, ◌≤◌, ◌<◌}
 use native.Mathlib.Omega.{arith}
 use lib.ListN.{length}
 use Rattle.terms.specs.Abstraction.{term_of}
 use Rattle.terms.proofs.Arrays.{all-at}
 use Rattle.symbols.specs.Text.{print_factors}
-use Rattle.symbols.proofs.Progress.{UnderWay, begins, goes_on_lem, ended}
-use Rattle.printing.proofs.Texts.{factors_from, factor-room, factor_next, factors-end, factor-named}
+use Rattle.symbols.proofs.Progress.{begins, goes_on_lem, ended}
+use Rattle.printing.proofs.Texts.{factor-room, factor_next, factors-end, factor-named}
 use Rattle.printing.proofs.print_factors.Goals.{Start}
 use Rattle.printing.proofs.print_factors.Goals as goal
 

@@ -1,10 +1,10 @@
 -- `printing::print_form` meets its contract: 0, or the first term and then the others. Assumes nothing.
 use Rattle.std.proofs.Common.{rules}
-use mathlib.Core.Path.{◌≡◌, sym, ◌∙◌}
+use mathlib.Core.Path.{◌≡◌, ◌∙◌}
 use mathlib.Core.List.{List}
 use Prim.Native.Nat.{◌≤◌, ◌<◌}
 use native.Mathlib.Omega.{arith}
-use lib.ListN.{length, get_or, length-map}
+use lib.ListN.{length, get_or}
 use Rattle.terms.specs.declared.types.Term.{Term}
 use Rattle.terms.proofs.Arrays.{no_term}
 use Rattle.symbols.specs.Printable.{TermPrintable}

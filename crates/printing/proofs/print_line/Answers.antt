@@ -1,5 +1,4 @@
 -- `printing::print_line` meets its contract: the text and a newline. Assumes nothing.
-use Rattle.std.proofs.Common.{rules}
 use native.Mathlib.Omega.{arith}
 use lib.ListN.{length-set}
 use Rattle.printing.proofs.Texts.{line_written}

@@ -1,5 +1,4 @@
 -- `printing::print_refusal` meets its contract: R, the digits and a newline. Assumes nothing.
-use Rattle.std.proofs.Common.{rules}
 use mathlib.Core.Path.{◌∙◌}
 use native.Mathlib.Omega.{arith}
 use lib.ListN.{length-set}

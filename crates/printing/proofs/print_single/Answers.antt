@@ -1,5 +1,4 @@
 -- `printing::print_single` meets its contract: the sign, then the term. Assumes nothing.
-use Rattle.std.proofs.Common.{rules}
 use mathlib.Core.Path.{sym, ap}
 use native.Mathlib.Omega.{arith}
 use Rattle.specification.specs.Printing.{print_first_sign}

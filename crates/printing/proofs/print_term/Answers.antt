@@ -1,5 +1,4 @@
 -- `printing::print_term` meets its contract: the pieces one after the other. Assumes nothing.
-use Rattle.std.proofs.Common.{rules}
 use mathlib.Core.Path.{◌≡◌, ◌∙◌}
 use native.Mathlib.Omega.{arith}
 use lib.ListN.{length}
@@ -38,7 +37,14 @@ print_star-part-requires c =
     let v = c in
     let s = v in
     let h = pieces_short s.args.names.now (term_of s.args.t) s.requires.0.valid.in_shape in
-    omega (arith, h, s.requires.1, factors-kept (goal.at.print_star-part-requires c).After-print_factors-star, v.print_size-factors.ensures.ends, w.print_factors-star.ensures.ends)
+    omega (
+      arith,
+      h,
+      s.requires.1,
+      factors-kept (goal.at.print_star-part-requires c).After-print_factors-star,
+      v.print_size-factors.ensures.ends,
+      w.print_factors-star.ensures.ends,
+    )
 
 pub print_part-requires : goal.print_part-requires
 unfolding term_of

@@ -1,10 +1,10 @@
 -- `printing::print_terms` meets its contract: before each turn the terms from i on are left, and there are 29 bytes of room for each. Assumes nothing.
 use Rattle.std.proofs.Common.{rules}
-use mathlib.Core.Path.{◌≡◌, sym, ap, ◌∙◌}
+use mathlib.Core.Path.{◌≡◌, sym, ap}
 use mathlib.Core.List.{List}
-use Prim.Native.Nat.{ℕ, ◌+◌, ◌-◌, ◌*◌, ◌≤◌}
+use Prim.Native.Nat.{ℕ, ◌+◌, ◌≤◌}
 use native.Mathlib.Omega.{arith}
-use lib.ListN.{length, get_or, length-map}
+use lib.ListN.{length, get_or}
 use mir.Syntax.{w64}
 use mir.Val.{SFits}
 use Rattle.specification.specs.Printing.{print_sign}
@@ -15,8 +15,8 @@ use Rattle.record_writing.specs.Written.{Written}
 use Rattle.record_writing.proofs.Writes.{written_then}
 use Rattle.symbols.specs.Printable.{TermPrintable}
 use Rattle.symbols.proofs.Pieces.{later_short}
-use Rattle.symbols.proofs.Progress.{UnderWay, written_as_lem, begins, goes_on_lem, ended}
-use Rattle.printing.proofs.Texts.{terms_from, signed_short, term_next, terms-end, term-printable}
+use Rattle.symbols.proofs.Progress.{written_as_lem, begins, goes_on_lem, ended}
+use Rattle.printing.proofs.Texts.{signed_short, term_next, terms-end, term-printable}
 use Rattle.printing.proofs.print_terms.Goals.{After-print_sign-from, After-struct_told-1, Start}
 use Rattle.printing.proofs.print_terms.Goals as goal
 

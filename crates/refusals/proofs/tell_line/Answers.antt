@@ -1,5 +1,4 @@
 -- `refusals::tell_line` meets its contract. Assumes nothing.
-use Rattle.std.proofs.Common.{rules}
 use lib.ListN.{length}
 use mathlib.Core.List.{List}
 use mathlib.Core.Path.{subst, sym}

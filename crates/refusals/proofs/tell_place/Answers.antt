@@ -1,8 +1,6 @@
 -- `refusals::tell_place` meets its contract, piece by piece. Assumes nothing.
-use Rattle.std.proofs.Common.{rules}
 use Rattle.refusals.specs.Places.{place_text}
 use Rattle.specification.specs.Words.{bytes}
-use native.Mathlib.Omega.{arith}
 use Rattle.telling.proofs.Pieces.{tells-then}
 use Rattle.refusals.proofs.tell_place.Goals as goal
 

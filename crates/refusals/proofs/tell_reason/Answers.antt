@@ -1,5 +1,4 @@
 -- `refusals::tell_reason` meets its contract, number by number. Assumes nothing.
-use Rattle.std.proofs.Common.{rules}
 use Rattle.specification.specs.Commands.{reason}
 use Rattle.specification.specs.Words.{bytes}
 use mathlib.Core.Path.{sym, ap}

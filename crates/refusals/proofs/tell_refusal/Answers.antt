@@ -1,10 +1,8 @@
 -- `refusals::tell_refusal` meets its contract, piece by piece. Assumes nothing.
-use Rattle.std.proofs.Common.{rules}
 use Rattle.refusals.specs.Places.{place_text}
 use Rattle.specification.specs.Commands.{refusal_text}
 use Rattle.specification.specs.Words.{bytes}
 use mathlib.Core.Path.{◌∙◌}
-use native.Mathlib.Omega.{arith}
 use Rattle.telling.proofs.Pieces.{tells-then}
 use Rattle.refusals.proofs.tell_refusal.Goals as goal
 

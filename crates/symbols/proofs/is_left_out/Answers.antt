@@ -1,5 +1,4 @@
 -- `symbols::is_left_out` meets its contract: the size is 1, and anything else is written. Assumes nothing.
-use Rattle.std.proofs.Common.{rules}
 use Rattle.symbols.proofs.Pieces.{other-size, size_one}
 use Rattle.symbols.proofs.is_left_out.Goals as goal
 

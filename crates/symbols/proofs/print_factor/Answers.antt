@@ -1,5 +1,4 @@
 -- `symbols::print_factor` meets its contract: a letter, a pair or a triple by the factor's case. Assumes nothing.
-use Rattle.std.proofs.Common.{rules}
 use mathlib.Core.Path.{refl, ap}
 use mathlib.Core.List.{[], ◌∷◌}
 use native.Mathlib.Omega.{arith}

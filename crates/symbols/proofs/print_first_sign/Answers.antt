@@ -1,5 +1,4 @@
 -- `symbols::print_first_sign` meets its contract: by the sign of the number. Assumes nothing.
-use Rattle.std.proofs.Common.{rules}
 use mathlib.Core.Path.{◌≡◌, refl, ap, ◌∙◌}
 use mathlib.Core.List.{[], ◌∷◌}
 use Rattle.integers.specs.Arithmetic.{is_negative}

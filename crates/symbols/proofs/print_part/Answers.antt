@@ -1,5 +1,4 @@
 -- `symbols::print_part` meets its contract: nothing, the byte of a letter, or a pair. Assumes nothing.
-use Rattle.std.proofs.Common.{rules}
 use mathlib.Core.Path.{refl, ap}
 use mathlib.Core.List.{[], ◌∷◌}
 use native.Mathlib.Omega.{arith}

@@ -1,5 +1,4 @@
 -- `symbols::print_size` meets its contract: nothing where the size is left out, else its digits. Assumes nothing.
-use Rattle.std.proofs.Common.{rules}
 use mathlib.Core.Path.{◌≡◌, ap, ◌∙◌}
 use native.Mathlib.Omega.{arith}
 use lib.IntN.{nat_abs}
@@ -29,12 +28,14 @@ pub is_left_out-requires : goal.is_left_out-requires
 is_left_out-requires c = c.requires.0.counted
 
 pub returns-then-is_left_out : goal.returns-then-is_left_out
-returns-then-is_left_out c = written_none _ _ _ (size_left-out _ _ _ _ (sized (goal.at.returns-then-is_left_out c).After-size-n) c.is_left_out.ensures c.if-is_left_out.true)
+returns-then-is_left_out c =
+    written_none _ _ _ (size_left-out _ _ _ _ (sized (goal.at.returns-then-is_left_out c).After-size-n) c.is_left_out.ensures c.if-is_left_out.true)
 
 pub print_decimal-requires : goal.print_decimal-requires
 print_decimal-requires c =
     let sz = sized (goal.at.print_decimal-requires c).After-size-n in
-    let e = size-decimal c.args.t.coef c.size-n.result (other_letters (term_of c.args.t)) c.is_left_out.result sz c.is_left_out.ensures c.if-is_left_out.false in
+    let e = size-decimal c.args.t.coef c.size-n.result (other_letters (term_of c.args.t)) c.is_left_out.result sz
+    c.is_left_out.ensures c.if-is_left_out.false in
     (omega (arith, sz, coef_size_lem c.args.t c.requires.0), omega (arith, ap length e, c.requires.1))
 
 pub returns : goal.returns

@@ -1,5 +1,4 @@
 -- `symbols::print_star` meets its contract: a star between what stands before and a vector part. Assumes nothing.
-use Rattle.std.proofs.Common.{rules}
 use Rattle.terms.proofs.Letters.{nothing_is, letter_is, wedge_is}
 use Rattle.symbols.proofs.Pieces.{star-none_before, star_none_behind, star-stored}
 use Rattle.symbols.proofs.print_star.Goals as goal

@@ -1,10 +1,6 @@
 -- `telling::put` meets its contract. The loop's invariant: so many bytes of the piece stand behind what was told (`Copied`). Assumes nothing.
-use Rattle.std.proofs.Common.{rules}
-use mathlib.Core.Path.{◌∙◌}
-use lib.ListN.{length}
-use Prim.Native.Nat.{◌-◌}
 use native.Mathlib.Omega.{arith}
-use Rattle.telling.proofs.Pieces.{put-beyond, put_short, Copied, copied_none, copied_more, put_all}
+use Rattle.telling.proofs.Pieces.{put-beyond, put_short, copied_none, copied_more, put_all}
 use Rattle.telling.proofs.put.Goals as goal
 
 pub returns-then-at-n : goal.returns-then-at-n

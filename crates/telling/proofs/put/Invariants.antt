@@ -1,9 +1,7 @@
 -- `telling::put` meets its contract. The loop's invariant: so many bytes of the piece stand behind what was told (`Copied`). Assumes nothing.
-use mathlib.Core.Path.{◌∙◌}
 use lib.ListN.{length}
 use Prim.Native.Nat.{◌-◌}
-use native.Mathlib.Omega.{arith}
-use Rattle.telling.proofs.Pieces.{put-beyond, put_short, Copied, copied_none, copied_more, put_all}
+use Rattle.telling.proofs.Pieces.{Copied}
 use Rattle.telling.proofs.put.Given as goal
 
 abbrev pub invariant-loop-i : goal.invariant-loop-i

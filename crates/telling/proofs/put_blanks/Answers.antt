@@ -1,9 +1,7 @@
 -- `telling::put_blanks` meets its contract. The loop's invariant: as many blanks are told as are not left (`BlanksLeft`). Assumes nothing.
-use Rattle.std.proofs.Common.{rules}
-use mathlib.Core.Path.{◌≡◌, refl, ◌∙◌}
-use lib.ListN.{length}
+use mathlib.Core.Path.{refl, ◌∙◌}
 use native.Mathlib.Omega.{arith}
-use Rattle.telling.proofs.Pieces.{BlanksLeft, blanks-begin, blanks_more, blanks_end}
+use Rattle.telling.proofs.Pieces.{blanks-begin, blanks_more, blanks_end}
 use Rattle.telling.proofs.put_blanks.Goals as goal
 
 pub loop-i-init : goal.loop-i-init

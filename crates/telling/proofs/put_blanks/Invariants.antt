@@ -1,8 +1,7 @@
 -- `telling::put_blanks` meets its contract. The loop's invariant: as many blanks are told as are not left (`BlanksLeft`). Assumes nothing.
-use mathlib.Core.Path.{◌≡◌, refl, ◌∙◌}
+use mathlib.Core.Path.{◌≡◌}
 use lib.ListN.{length}
-use native.Mathlib.Omega.{arith}
-use Rattle.telling.proofs.Pieces.{BlanksLeft, blanks-begin, blanks_more, blanks_end}
+use Rattle.telling.proofs.Pieces.{BlanksLeft}
 use Rattle.telling.proofs.put_blanks.Given as goal
 
 abbrev pub invariant-loop-i : goal.invariant-loop-i

@@ -1,5 +1,4 @@
 -- `telling::put_signed` meets its contract. Assumes nothing.
-use Rattle.std.proofs.Common.{rules}
 use mathlib.Core.Path.{ap, sym, ◌∙◌}
 use Rattle.specification.specs.Commands.{signed_numeral}
 use Rattle.integers.proofs.Machine.{fits_back}

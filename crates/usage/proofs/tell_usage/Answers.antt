@@ -1,5 +1,4 @@
 -- `usage::tell_usage` meets its contract, line by line. Assumes nothing.
-use Rattle.std.proofs.Common.{rules}
 use mathlib.Core.Path.{◌∙◌}
 use Rattle.specification.specs.Commands.{usage}
 use Rattle.specification.specs.Words.{bytes}

@@ -1,5 +1,4 @@
 -- `elimination::components::compare` meets its contract. Assumes nothing.
-use Rattle.std.proofs.Common.{rules}
 use mathlib.Core.Path.{◌∙◌}
 use native.Mathlib.Omega.{arith}
 use Rattle.elimination.proofs.Differences.{first_asks, second-asks, counts-few, sort-asks, substitute-asks, compared}

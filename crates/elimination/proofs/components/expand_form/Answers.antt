@@ -1,16 +1,14 @@
 -- `elimination::components::expand_form` meets its contract: the terms before k are expanded. Assumes nothing.
 use Rattle.std.proofs.Common.{rules}
-use mathlib.Core.Path.{◌≡◌, refl, sym, ◌∙◌}
-use Prim.Native.Nat.{◌-◌, ◌≤◌}
+use mathlib.Core.Path.{◌≡◌, refl, ◌∙◌}
+use Prim.Native.Nat.{◌≤◌}
 use native.Mathlib.Omega.{arith}
-use lib.ListN.{length, length-map}
-use mir.Val.{to_z}
-use mir.Syntax.{w64}
+use lib.ListN.{length}
 use Rattle.integers.proofs.Machine.{back, back_is}
 use Rattle.elimination.specs.Differences.{FormExpandable}
 use Rattle.polynomials.specs.Memory.{summands}
 use Rattle.polynomials.proofs.Layers.{words}
-use Rattle.elimination.proofs.Differences.{Filled, fill-starts, fill-asks, sum_fits, fill_on, fill_ends, fill_as, filled_as}
+use Rattle.elimination.proofs.Differences.{fill-starts, fill-asks, sum_fits, fill_on, fill_ends, fill_as, filled_as}
 use Rattle.elimination.proofs.components.expand_form.Goals.{Start}
 use Rattle.elimination.proofs.components.expand_form.Goals as goal
 

@@ -1,13 +1,9 @@
 -- `elimination::components::expand_form` meets its contract: the terms before k are expanded. Assumes nothing.
-use mathlib.Core.Path.{◌≡◌, refl, sym, ◌∙◌}
-use Prim.Native.Nat.{◌-◌, ◌≤◌}
-use native.Mathlib.Omega.{arith}
-use lib.ListN.{length, length-map}
-use Rattle.integers.proofs.Machine.{back, back_is}
-use Rattle.elimination.specs.Differences.{FormExpandable}
+use mathlib.Core.Path.{◌≡◌}
+use Prim.Native.Nat.{◌-◌}
+use lib.ListN.{length}
 use Rattle.polynomials.specs.Memory.{summands}
-use Rattle.polynomials.proofs.Layers.{words}
-use Rattle.elimination.proofs.Differences.{Filled, fill-starts, fill-asks, sum_fits, fill_on, fill_ends, fill_as, filled_as}
+use Rattle.elimination.proofs.Differences.{Filled}
 use Rattle.elimination.proofs.components.expand_form.Given as goal
 
 abbrev pub invariant-loop-k : goal.invariant-loop-k

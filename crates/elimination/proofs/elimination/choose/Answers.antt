@@ -1,11 +1,7 @@
 -- `elimination::elimination::choose` meets its contract: the numbers chosen keep the value, and under all before them it is 0. Assumes nothing.
-use Rattle.std.proofs.Common.{rules}
-use mathlib.Core.Path.{◌≡◌, refl, ◌∙◌}
-use Prim.Native.Nat.{◌≤◌}
+use mathlib.Core.Path.{refl, ◌∙◌}
 use native.Mathlib.Omega.{arith}
-use lib.ListN.{length, take}
-use Rattle.polynomials.specs.Memory.{summands}
-use Rattle.elimination.proofs.Choices.{Choosing, choose-starts, choose_on, choose-ends, choose-falls, fall_of}
+use Rattle.elimination.proofs.Choices.{choose-starts, choose_on, choose-ends, choose-falls}
 use Rattle.elimination.proofs.Choices.{letter-there, most-six, fits, number_small, byte-there}
 use Rattle.elimination.proofs.elimination.choose.Goals as goal
 

@@ -1,11 +1,9 @@
 -- `elimination::elimination::choose` meets its contract: the numbers chosen keep the value, and under all before them it is 0. Assumes nothing.
-use mathlib.Core.Path.{◌≡◌, refl, ◌∙◌}
+use mathlib.Core.Path.{◌≡◌}
 use Prim.Native.Nat.{◌≤◌}
-use native.Mathlib.Omega.{arith}
 use lib.ListN.{length, take}
 use Rattle.polynomials.specs.Memory.{summands}
-use Rattle.elimination.proofs.Choices.{Choosing, choose-starts, choose_on, choose-ends, choose-falls, fall_of}
-use Rattle.elimination.proofs.Choices.{letter-there, most-six, fits, number_small, byte-there}
+use Rattle.elimination.proofs.Choices.{Choosing, fall_of}
 use Rattle.elimination.proofs.elimination.choose.Given as goal
 
 abbrev pub invariant-loop-d : goal.invariant-loop-d

@@ -1,12 +1,10 @@
 -- `elimination::elimination::clear` meets its contract: the bytes before i are 0. Assumes nothing.
-use Rattle.std.proofs.Common.{rules}
-use mathlib.Core.Path.{◌≡◌, refl, ◌∙◌}
+use mathlib.Core.Path.{refl, ◌∙◌}
 use mathlib.Core.List.{[]}
-use Prim.Native.Nat.{ℕ, ◌-◌, ◌≤◌, ◌<◌}
 use native.Mathlib.Omega.{arith}
 use native.Mathlib.Nat.{not-suc-le-zero}
 use lib.Seq.{drop-set-lt}
-use lib.ListN.{length, get_or, drop, length-set}
+use lib.ListN.{length-set}
 use Rattle.elimination.proofs.Choices.{written_more}
 use Rattle.elimination.proofs.elimination.clear.Goals as goal
 

@@ -1,12 +1,7 @@
 -- `elimination::elimination::clear` meets its contract: the bytes before i are 0. Assumes nothing.
-use mathlib.Core.Path.{◌≡◌, refl, ◌∙◌}
-use mathlib.Core.List.{[]}
+use mathlib.Core.Path.{◌≡◌}
 use Prim.Native.Nat.{ℕ, ◌-◌, ◌≤◌, ◌<◌}
-use native.Mathlib.Omega.{arith}
-use native.Mathlib.Nat.{not-suc-le-zero}
-use lib.Seq.{drop-set-lt}
-use lib.ListN.{length, get_or, drop, length-set}
-use Rattle.elimination.proofs.Choices.{written_more}
+use lib.ListN.{length, get_or, drop}
 use Rattle.elimination.proofs.elimination.clear.Given as goal
 
 abbrev pub invariant-loop-i : goal.invariant-loop-i

@@ -1,5 +1,4 @@
 -- `elimination::elimination::eliminate` meets its contract. Assumes nothing.
-use Rattle.std.proofs.Common.{rules}
 use Rattle.elimination.proofs.Choices.{cleared-asks, cleared_first}
 use Rattle.elimination.proofs.elimination.eliminate.Goals as goal
 

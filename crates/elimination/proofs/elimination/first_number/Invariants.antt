@@ -1,13 +1,10 @@
 -- `elimination::elimination::first_number` meets its contract: no number below v leaves a summand. Assumes nothing.
-use mathlib.Core.Path.{◌≡◌, sym, ◌∙◌}
+use mathlib.Core.Path.{◌≡◌}
 use mathlib.Core.Bool.{false}
 use Prim.Native.Nat.{ℕ, ◌-◌, ◌≤◌, ◌<◌}
-use native.Mathlib.Omega.{arith}
-use native.Mathlib.Nat.{not-suc-le-zero}
 use lib.ListN.{take}
 use Rattle.polynomials.specs.Summands.{substituted, is_some}
 use Rattle.polynomials.specs.Memory.{summands}
-use Rattle.elimination.proofs.Choices.{first_asks, first_found, first_on, first_last}
 use Rattle.elimination.proofs.elimination.first_number.Given as goal
 
 abbrev pub invariant-loop-v : goal.invariant-loop-v

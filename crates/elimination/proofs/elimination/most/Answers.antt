@@ -1,5 +1,4 @@
 -- `elimination::elimination::most` meets its contract. Assumes nothing.
-use Rattle.std.proofs.Common.{rules}
 use mathlib.Core.Path.{sym, ◌∙◌}
 use Rattle.elimination.proofs.Choices.{most-vector, most-scalar}
 use Rattle.elimination.proofs.elimination.most.Goals as goal

@@ -1,5 +1,4 @@
 -- `formulas::atoms::closed` meets its contract. Assumes nothing.
-use Rattle.std.proofs.Common.{rules}
 use Rattle.formulas.proofs.Leaves.{closed-unread, closed-torn, closed-inside, closed-passed}
 use Rattle.formulas.proofs.atoms.closed.Goals as goal
 

@@ -1,6 +1,4 @@
 -- `formulas::atoms::name_at` meets its contract. Assumes nothing.
-use Rattle.std.proofs.Common.{rules}
-use native.Mathlib.Omega.{arith}
 use Rattle.formulas.proofs.Leaves.{name-unread, name_read}
 use Rattle.formulas.proofs.atoms.name_at.Goals as goal
 

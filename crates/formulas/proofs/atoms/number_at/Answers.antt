@@ -1,7 +1,5 @@
 -- `formulas::atoms::number_at` meets its contract. Assumes nothing.
-use Rattle.std.proofs.Common.{rules}
 use Rattle.algebra.specs.Integers.{sfits-nat_abs}
-use native.Mathlib.Omega.{arith}
 use Rattle.formulas.proofs.Leaves.{number_fits, number_read}
 use Rattle.formulas.proofs.atoms.number_at.Goals as goal
 

@@ -1,5 +1,4 @@
 -- `formulas::atoms::triple_at` meets its contract: three names, each inside the text, and their triple. Assumes nothing.
-use Rattle.std.proofs.Common.{rules}
 use Prim.Native.Nat.{ℕ, ◌<◌}
 use lib.ListN.{length}
 use Rattle.specification.specs.Text.{next}

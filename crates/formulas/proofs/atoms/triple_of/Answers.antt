@@ -1,5 +1,4 @@
 -- `formulas::atoms::triple_of` meets its contract. Assumes nothing.
-use Rattle.std.proofs.Common.{rules}
 use Rattle.formulas.proofs.Leaves.{triple-worked}
 use Rattle.formulas.proofs.atoms.triple_of.Goals as goal
 

@@ -1,5 +1,4 @@
 -- `formulas::joining::front` meets its contract. Assumes nothing.
-use Rattle.std.proofs.Common.{rules}
 use Rattle.formulas.proofs.Results.{front-level, front-byte, front_refused, front-turned}
 use Rattle.formulas.proofs.joining.front.Goals as goal
 

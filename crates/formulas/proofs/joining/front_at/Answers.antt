@@ -1,6 +1,4 @@
 -- `formulas::joining::front_at` meets its contract. Assumes nothing.
-use Rattle.std.proofs.Common.{rules}
-use borrow.Author.Tests.{not-true, not-false}
 use Rattle.formulas.proofs.Marks.{sign-inside, front-other, front_none, front-sign}
 use Rattle.formulas.proofs.joining.front_at.Goals as goal
 

@@ -1,5 +1,4 @@
 -- `formulas::joining::is_factor` meets its contract. Assumes nothing.
-use Rattle.std.proofs.Common.{rules}
 use Rattle.formulas.proofs.Marks.{factor-star, factor-letter, factor-else}
 use Rattle.formulas.proofs.joining.is_factor.Goals as goal
 

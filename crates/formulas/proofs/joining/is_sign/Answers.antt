@@ -1,5 +1,4 @@
 -- `formulas::joining::is_sign` meets its contract. Assumes nothing.
-use Rattle.std.proofs.Common.{rules}
 use Rattle.formulas.proofs.Marks.{sign-plus, sign-else}
 use Rattle.formulas.proofs.joining.is_sign.Goals as goal
 

@@ -1,5 +1,4 @@
 -- `formulas::joining::join` meets its contract: the first refusal, or the operator. Assumes nothing.
-use Rattle.std.proofs.Common.{rules}
 use Rattle.formulas.proofs.Results.{left_refused, right_refused, both-worked}
 use Rattle.formulas.proofs.joining.join.Goals as goal
 

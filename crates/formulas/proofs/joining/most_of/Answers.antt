@@ -1,5 +1,4 @@
 -- `formulas::joining::most_of` meets its contract. Assumes nothing.
-use Rattle.std.proofs.Common.{rules}
 use Rattle.formulas.proofs.Marks.{most_one, most_all}
 use Rattle.formulas.proofs.joining.most_of.Goals as goal
 

@@ -1,5 +1,4 @@
 -- `formulas::joining::operand_at` meets its contract. Assumes nothing.
-use Rattle.std.proofs.Common.{rules}
 use Rattle.formulas.proofs.Marks.{on_inside, operand-behind, operand-beside, operand-star}
 use Rattle.formulas.proofs.joining.operand_at.Goals as goal
 

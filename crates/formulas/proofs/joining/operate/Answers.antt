@@ -1,5 +1,4 @@
 -- `formulas::joining::operate` meets its contract by the level. Assumes nothing.
-use Rattle.std.proofs.Common.{rules}
 use Rattle.formulas.proofs.Results.{operates-wedge, operates-dot, operates-times, operates-minus, operates-plus}
 use Rattle.formulas.proofs.joining.operate.Goals as goal
 

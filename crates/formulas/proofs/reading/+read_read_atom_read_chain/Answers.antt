@@ -1,12 +1,11 @@
 -- The reader meets its contract: `read` at each level, `read_atom` below them, `read_chain` for the operators of a level. Assumes nothing.
 use mathlib.Core.List.{List}
-use mathlib.Core.Path.{◌≡◌, refl, sym, ◌∙◌}
-use Prim.Native.Nat.{ℕ, ◌-◌, ◌≤◌}
+use mathlib.Core.Path.{◌∙◌}
+use Prim.Native.Nat.{ℕ, ◌-◌}
 use native.Mathlib.Omega.{arith}
 use lib.Dec.{leb}
-use lib.ListN.{length}
-use Rattle.formulas.proofs.Levels.{atom-number, atom-name, atom-torn, atom-deep, bracket-inside, atom-triple, atom-is_triple, atom-group}
-use Rattle.formulas.proofs.Levels.{some_level, first_most, goes-here, chain-stops, chain-ends, chain_refused, chain-joined, ChainAt, level-atom, level-unread, level-alone, level-chain}
+use Rattle.formulas.proofs.Levels.{atom-number, atom-name, atom-torn, atom-deep, atom-triple, atom-group}
+use Rattle.formulas.proofs.Levels.{first_most, chain-stops, chain-ends, chain_refused, chain-joined, level-atom, level-unread, level-alone, level-chain}
 use Rattle.formulas.proofs.Results.{gives_as}
 use Rattle.formulas.proofs.reading.+read_read_atom_read_chain.Goals as goal
 use Rattle.texts.proofs.Standing.{letter-inside}
@@ -21,19 +20,22 @@ read-returns-then-level-eq0 t c =
 
 pub read-returns-then-x-ne0 : goal.read-returns-then-x-ne0
 read-returns-then-x-ne0 t c =
-    level-unread c.args.names.now c.args.table.now c.args.s.now (way_nested c.args.names.now c.args.table.now c.args.s.now c.args.depth) c.args.level c.args.number c.args.at
+    level-unread c.args.names.now c.args.table.now c.args.s.now (way_nested c.args.names.now c.args.table.now c.args.s.now c.args.depth)
+    c.args.level c.args.number c.args.at
     c.if-level-eq0.false _ c.front_at-start.ensures _ _ _ c.read-x.ensures c.if-x-ne0.true
 
 pub read-returns-then-not-goes_on : goal.read-returns-then-not-goes_on
 read-returns-then-not-goes_on t c =
-    level-alone c.args.names.now c.args.table.now c.args.s.now (way_nested c.args.names.now c.args.table.now c.args.s.now c.args.depth) c.args.level c.args.number c.args.at
+    level-alone c.args.names.now c.args.table.now c.args.s.now (way_nested c.args.names.now c.args.table.now c.args.s.now c.args.depth)
+    c.args.level c.args.number c.args.at
     c.if-level-eq0.false _ c.front_at-start.ensures _ _ _ c.read-x.ensures
     c.if-x-ne0.false _ c.byte_at.ensures _ _ c.front-a.ensures _ _
     c.byte_at-2.ensures c.goes_on.ensures c.if-not-goes_on.true
 
 pub read-returns : goal.read-returns
 read-returns t c =
-    level-chain c.args.names.now c.args.table.now c.args.s.now (way_nested c.args.names.now c.args.table.now c.args.s.now c.args.depth) c.args.level c.args.number c.args.at
+    level-chain c.args.names.now c.args.table.now c.args.s.now (way_nested c.args.names.now c.args.table.now c.args.s.now c.args.depth)
+    c.args.level c.args.number c.args.at
     c.if-level-eq0.false _ c.front_at-start.ensures _ _ _ c.read-x.ensures
     c.if-x-ne0.false _ c.byte_at.ensures _ _ c.front-a.ensures _ _ _
     c.read_chain.ensures
@@ -109,12 +111,12 @@ read_chain-returns-then-y-ne0 t c =
 
 pub read_chain-loop-left-preserved : goal.read_chain-loop-left-preserved
 read_chain-loop-left-preserved t c =
-    let i = c.loop-left.invariant in
-    let operand = below c.args.names.now c.args.table.now c.args.s.now c.args.depth c.args.level in (
+    let i = c.loop-left.invariant in (
       record {
         same = i.0.same
-            ∙ chain-joined c.args.s.now c.args.level operand _ _ _ i.0.read _ _ _ _ c.loop-left-test.true c.byte_at-b.ensures
-            c.goes_on.ensures c.if-not-goes_on.false c.operand_at-second.ensures _ _ _ c.read-y.ensures _ _ _ c.if-y-ne0.false c.join-a.ensures;
+            ∙ chain-joined c.args.s.now c.args.level (below c.args.names.now c.args.table.now c.args.s.now c.args.depth c.args.level) _ _ _ i.0.read
+            _ _ _ _ c.loop-left-test.true c.byte_at-b.ensures c.goes_on.ensures c.if-not-goes_on.false c.operand_at-second.ensures
+            _ _ _ c.read-y.ensures _ _ _ c.if-y-ne0.false c.join-a.ensures;
         read = c.join-a.ensures.read;
       },
       c.join-a.auto.rows ∙ i.1,

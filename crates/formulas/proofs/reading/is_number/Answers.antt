@@ -1,6 +1,4 @@
 -- `formulas::reading::is_number` meets its contract. Assumes nothing.
-use Rattle.std.proofs.Common.{rules}
-use borrow.Author.Tests.{not-true, not-false}
 use Rattle.formulas.proofs.Marks.{number-none, number-digit}
 use Rattle.formulas.proofs.reading.is_number.Goals as goal
 

@@ -1,6 +1,4 @@
 -- `formulas::reading::read_text` meets its contract. Assumes nothing.
-use Rattle.std.proofs.Common.{rules}
-use native.Mathlib.Omega.{arith}
 use Rattle.formulas.proofs.Whole.{text-long, text-unread, text-left, text-whole}
 use Rattle.formulas.proofs.reading.read_text.Goals as goal
 

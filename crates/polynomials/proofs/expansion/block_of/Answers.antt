@@ -1,5 +1,4 @@
 -- `polynomials::expansion::block_of` meets its contract: by the factor's case. Assumes nothing.
-use Rattle.std.proofs.Common.{rules}
 use Rattle.polynomials.proofs.Pieces.{block_one, block_two, block-three}
 use Rattle.polynomials.proofs.expansion.block_of.Goals as goal
 

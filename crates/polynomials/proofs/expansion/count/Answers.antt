@@ -1,5 +1,4 @@
 -- `polynomials::expansion::count` meets its contract. Assumes nothing.
-use Rattle.std.proofs.Common.{rules}
 use mathlib.Core.Path.{ap, sym}
 use Rattle.polynomials.specs.Expansion.{count_of}
 use Rattle.polynomials.proofs.expansion.count.Goals as goal

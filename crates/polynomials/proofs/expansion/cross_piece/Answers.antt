@@ -1,5 +1,4 @@
 -- `polynomials::expansion::cross_piece` meets its contract. Assumes nothing.
-use Rattle.std.proofs.Common.{rules}
 use mathlib.Core.Path.{◌∙◌}
 use Rattle.integers.proofs.Machine.{back_is}
 use Rattle.polynomials.proofs.Pieces.{cross_is}

@@ -1,5 +1,4 @@
 -- `polynomials::expansion::expand_term` meets its contract. Assumes nothing.
-use Rattle.std.proofs.Common.{rules}
 use mathlib.Core.Path.{◌∙◌}
 use native.Mathlib.Omega.{arith}
 use Rattle.integers.proofs.Machine.{back_is}

@@ -1,13 +1,7 @@
 -- `polynomials::expansion::multiply` meets its contract: the products from j on are written. Assumes nothing.
-use Rattle.std.proofs.Common.{rules}
-use mathlib.Core.Path.{◌≡◌, refl, ◌∙◌}
-use Prim.Native.Nat.{◌+◌, ◌*◌, ◌≤◌}
+use mathlib.Core.Path.{refl, ◌∙◌}
 use native.Mathlib.Omega.{arith}
 use native.Mathlib.Nat.{le_of_eq}
-use lib.ListN.{length, take, drop}
-use Rattle.integers.specs.Over.{over}
-use Rattle.polynomials.specs.Expansion.{count_of, pieces, times_pieces}
-use Rattle.polynomials.specs.Memory.{summands}
 use Rattle.polynomials.proofs.Layers.{product_fits, sum_fits, spread-asks, multiply_first, multiply_back, multiply_last, count_fits, words}
 use Rattle.polynomials.proofs.expansion.multiply.Goals as goal
 

@@ -1,5 +1,4 @@
 -- `polynomials::expansion::part_block` meets its contract. Assumes nothing.
-use Rattle.std.proofs.Common.{rules}
 use Rattle.polynomials.proofs.Pieces.{part_one, part_zero, part-single, part-cross}
 use Rattle.polynomials.proofs.expansion.part_block.Goals as goal
 

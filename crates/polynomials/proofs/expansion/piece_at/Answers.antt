@@ -1,5 +1,4 @@
 -- `polynomials::expansion::piece_at` meets its contract. Assumes nothing.
-use Rattle.std.proofs.Common.{rules}
 use native.Mathlib.Omega.{arith}
 use Rattle.polynomials.proofs.Pieces.{small-single, small-cross, few-dot, few-triple, few-cross, piece_zero, piece_one, piece-single, piece-dot, piece-triple, piece-cross}
 use Rattle.polynomials.proofs.expansion.piece_at.Goals as goal

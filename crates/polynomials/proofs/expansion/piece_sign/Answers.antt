@@ -1,5 +1,4 @@
 -- `polynomials::expansion::piece_sign` meets its contract. Assumes nothing.
-use Rattle.std.proofs.Common.{rules}
 use Rattle.polynomials.proofs.Pieces.{sign-plus, sign-minus}
 use Rattle.polynomials.proofs.expansion.piece_sign.Goals as goal
 

@@ -1,5 +1,4 @@
 -- `polynomials::expansion::put_product` meets its contract. Assumes nothing.
-use Rattle.std.proofs.Common.{rules}
 use mathlib.Core.Path.{◌∙◌}
 use Rattle.integers.proofs.Machine.{back_is}
 use Rattle.polynomials.specs.Memory.{summands}

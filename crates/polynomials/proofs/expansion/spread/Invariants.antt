@@ -1,14 +1,11 @@
 -- `polynomials::expansion::spread` meets its contract: i summands are written. Assumes nothing.
-use mathlib.Core.Path.{◌≡◌, refl, ◌∙◌}
+use mathlib.Core.Path.{◌≡◌}
 use mathlib.Core.List.{map}
 use Prim.Native.Nat.{◌-◌, ◌≤◌}
-use native.Mathlib.Omega.{arith}
 use lib.ListN.{length, take, drop}
 use Rattle.integers.specs.Over.{over}
 use Rattle.polynomials.specs.Expansion.{times_piece}
 use Rattle.polynomials.specs.Memory.{summands}
-use Rattle.polynomials.proofs.Bytes.{within}
-use Rattle.polynomials.proofs.Layers.{spread-starts, spread-from, spread_to, spread-fits, spread_on, spread-ends}
 use Rattle.polynomials.proofs.expansion.spread.Given as goal
 
 abbrev pub invariant-loop-i : goal.invariant-loop-i

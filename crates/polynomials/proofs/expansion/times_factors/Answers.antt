@@ -1,11 +1,10 @@
 -- `polynomials::expansion::times_factors` meets its contract: the summands after k factors stand from `start` on. Assumes nothing.
 use Rattle.std.proofs.Common.{rules}
 use mathlib.Core.Path.{◌≡◌, refl, ◌∙◌}
-use Prim.Native.Nat.{◌-◌, ◌≤◌}
+use Prim.Native.Nat.{◌≤◌}
 use native.Mathlib.Omega.{arith}
 use lib.ListN.{length}
-use Rattle.polynomials.specs.Memory.{summands}
-use Rattle.polynomials.proofs.Expansions.{Turned, turn-starts, number_small, turn_asks, turn_on, turn-ends}
+use Rattle.polynomials.proofs.Expansions.{turn-starts, number_small, turn_asks, turn_on, turn-ends}
 use Rattle.polynomials.proofs.expansion.times_factors.Goals.{Start}
 use Rattle.polynomials.proofs.expansion.times_factors.Goals as goal
 

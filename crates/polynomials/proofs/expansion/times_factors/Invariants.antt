@@ -1,10 +1,9 @@
 -- `polynomials::expansion::times_factors` meets its contract: the summands after k factors stand from `start` on. Assumes nothing.
-use mathlib.Core.Path.{◌≡◌, refl, ◌∙◌}
-use Prim.Native.Nat.{◌-◌, ◌≤◌}
-use native.Mathlib.Omega.{arith}
+use mathlib.Core.Path.{◌≡◌}
+use Prim.Native.Nat.{◌-◌}
 use lib.ListN.{length}
 use Rattle.polynomials.specs.Memory.{summands}
-use Rattle.polynomials.proofs.Expansions.{Turned, turn-starts, number_small, turn_asks, turn_on, turn-ends}
+use Rattle.polynomials.proofs.Expansions.{Turned}
 use Rattle.polynomials.proofs.expansion.times_factors.Given as goal
 
 abbrev pub invariant-loop-k : goal.invariant-loop-k

@@ -1,5 +1,4 @@
 -- `polynomials::memory::bits_of` meets its contract. Assumes nothing.
-use Rattle.std.proofs.Common.{rules}
 use mathlib.Core.Path.{ap, sym}
 use native.Mathlib.Omega.{arith}
 use lib.IntN.{nat_abs}

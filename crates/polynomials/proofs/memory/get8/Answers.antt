@@ -1,5 +1,4 @@
 -- `polynomials::memory::get8` meets its contract. Assumes nothing.
-use Rattle.std.proofs.Common.{rules}
 use native.Mathlib.Omega.{arith}
 use Rattle.polynomials.specs.Memory.{eight}
 use Rattle.polynomials.proofs.memory.get8.Goals as goal

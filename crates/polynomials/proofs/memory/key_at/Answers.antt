@@ -1,5 +1,4 @@
 -- `polynomials::memory::key_at` meets its contract. Assumes nothing.
-use Rattle.std.proofs.Common.{rules}
 use native.Mathlib.Omega.{arith}
 use Rattle.polynomials.proofs.Bytes.{within, key_read}
 use Rattle.polynomials.proofs.memory.key_at.Goals as goal

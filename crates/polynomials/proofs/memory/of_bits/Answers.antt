@@ -1,5 +1,4 @@
 -- `polynomials::memory::of_bits` meets its contract. Assumes nothing.
-use Rattle.std.proofs.Common.{rules}
 use mir.Syntax.{w64}
 use mir.ValLaws.{to_z-Fits}
 use Rattle.integers.proofs.Machine.{back_is}

@@ -1,5 +1,4 @@
 -- `polynomials::memory::put8` meets its contract. Assumes nothing.
-use Rattle.std.proofs.Common.{rules}
 use native.Mathlib.Omega.{arith}
 use lib.ListN.{length-set}
 use Rattle.polynomials.proofs.Bytes.{stores}

@@ -1,5 +1,4 @@
 -- `polynomials::passes::keep` meets its contract. Assumes nothing.
-use Rattle.std.proofs.Common.{rules}
 use mathlib.Core.Path.{ap, sym, ◌∙◌}
 use native.Mathlib.Omega.{arith}
 use Rattle.specification.specs.Terms.{is_zero}

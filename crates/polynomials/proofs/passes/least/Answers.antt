@@ -1,11 +1,7 @@
 -- `polynomials::passes::least` meets its contract: d is the least digit of the keys passed. Assumes nothing.
-use Rattle.std.proofs.Common.{rules}
-use mathlib.Core.Path.{◌≡◌, refl, ap, ◌∙◌}
-use Prim.Native.Nat.{◌-◌, ◌≤◌}
+use mathlib.Core.Path.{refl, ap, ◌∙◌}
 use native.Mathlib.Omega.{arith}
-use lib.ListN.{take, drop}
-use Rattle.polynomials.specs.Memory.{summands}
-use Rattle.polynomials.specs.Passes.{lesser_of, least_from}
+use Rattle.polynomials.specs.Passes.{lesser_of}
 use Rattle.polynomials.proofs.Turns.{least_more, least-ends}
 use Rattle.polynomials.proofs.passes.least.Goals as goal
 

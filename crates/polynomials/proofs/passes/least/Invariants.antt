@@ -1,11 +1,9 @@
 -- `polynomials::passes::least` meets its contract: d is the least digit of the keys passed. Assumes nothing.
-use mathlib.Core.Path.{◌≡◌, refl, ap, ◌∙◌}
+use mathlib.Core.Path.{◌≡◌}
 use Prim.Native.Nat.{◌-◌, ◌≤◌}
-use native.Mathlib.Omega.{arith}
 use lib.ListN.{take, drop}
 use Rattle.polynomials.specs.Memory.{summands}
-use Rattle.polynomials.specs.Passes.{lesser_of, least_from}
-use Rattle.polynomials.proofs.Turns.{least_more, least-ends}
+use Rattle.polynomials.specs.Passes.{least_from}
 use Rattle.polynomials.proofs.passes.least.Given as goal
 
 abbrev pub invariant-loop-i : goal.invariant-loop-i

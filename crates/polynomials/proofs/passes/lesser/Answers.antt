@@ -1,5 +1,4 @@
 -- `polynomials::passes::lesser` meets its contract. Assumes nothing.
-use Rattle.std.proofs.Common.{rules}
 use Rattle.polynomials.proofs.Turns.{lesser_first, lesser-second, lesser-le, lesser_gt}
 use Rattle.polynomials.proofs.passes.lesser.Goals as goal
 

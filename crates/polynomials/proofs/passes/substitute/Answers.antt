@@ -1,14 +1,8 @@
 -- `polynomials::passes::substitute` meets its contract: what is written stands in front, and what was not read yet is as it was. Assumes nothing.
-use Rattle.std.proofs.Common.{rules}
-use mathlib.Core.Path.{◌≡◌, refl, ◌∙◌}
-use Prim.Native.Nat.{◌-◌}
+use mathlib.Core.Path.{refl, ◌∙◌}
 use native.Mathlib.Omega.{arith}
-use lib.ListN.{length}
-use mir.Val.{to_z}
-use mir.Syntax.{w64}
 use Rattle.integers.proofs.Machine.{back_is}
-use Rattle.polynomials.specs.Memory.{summands}
-use Rattle.polynomials.proofs.Turns.{Writing, write_none, write-starts, first_small, pass-starts, read_there, read_small, write-asks, write-like, place-there, write-apart, write-ends}
+use Rattle.polynomials.proofs.Turns.{write_none, write-starts, first_small, pass-starts, read_there, read_small, write-asks, write-like, place-there, write-apart, write-ends}
 use Rattle.polynomials.proofs.passes.substitute.Goals as goal
 
 pub returns-then-n-eq0 : goal.returns-then-n-eq0

@@ -1,5 +1,4 @@
 -- `polynomials::passes::substituted_at` meets its contract. Assumes nothing.
-use Rattle.std.proofs.Common.{rules}
 use mathlib.Core.Path.{◌∙◌}
 use Rattle.integers.proofs.Machine.{back_is}
 use Rattle.polynomials.proofs.Turns.{reduced-asks, reduced-made, exponent-most}

@@ -1,7 +1,6 @@
 -- `polynomials::variables::cut_off` meets its contract: so much is cut, and the digits `k` are left. Assumes nothing.
-use Rattle.std.proofs.Common.{rules}
 use native.Mathlib.Omega.{arith}
-use Rattle.polynomials.proofs.Digits.{Cutting, cut-starts, cut_none, cut_same, cut-other, cut_last, cut-kept, count_few, product-most, place-most, counted_as}
+use Rattle.polynomials.proofs.Digits.{cut-starts, cut_none, cut_same, cut-other, cut_last, cut-kept, count_few, product-most, place-most, counted_as}
 use Rattle.polynomials.proofs.variables.cut_off.Goals as goal
 use Rattle.polynomials.proofs.variables.cut_off.Goals.{then-a-ne0+else-a-d, else-a-ne0}
 

@@ -1,6 +1,5 @@
 -- `polynomials::variables::cut_off` meets its contract: so much is cut, and the digits `k` are left. Assumes nothing.
-use native.Mathlib.Omega.{arith}
-use Rattle.polynomials.proofs.Digits.{Cutting, cut-starts, cut_none, cut_same, cut-other, cut_last, cut-kept, count_few, product-most, place-most, counted_as}
+use Rattle.polynomials.proofs.Digits.{Cutting}
 use Rattle.polynomials.proofs.variables.cut_off.Given as goal
 
 abbrev pub invariant-loop-k : goal.invariant-loop-k

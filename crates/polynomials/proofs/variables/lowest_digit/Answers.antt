@@ -1,7 +1,5 @@
 -- `polynomials::variables::lowest_digit` meets its contract: the digits passed are 0. Assumes nothing.
-use Rattle.std.proofs.Common.{rules}
-use native.Mathlib.Omega.{arith}
-use Rattle.polynomials.proofs.Digits.{Seeking, seek-starts, seek_found, seek_on, seek-nothing}
+use Rattle.polynomials.proofs.Digits.{seek-starts, seek_found, seek_on, seek-nothing}
 use Rattle.polynomials.proofs.variables.lowest_digit.Goals as goal
 
 pub loop-k-init : goal.loop-k-init

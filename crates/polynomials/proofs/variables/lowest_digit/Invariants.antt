@@ -1,6 +1,5 @@
 -- `polynomials::variables::lowest_digit` meets its contract: the digits passed are 0. Assumes nothing.
-use native.Mathlib.Omega.{arith}
-use Rattle.polynomials.proofs.Digits.{Seeking, seek-starts, seek_found, seek_on, seek-nothing}
+use Rattle.polynomials.proofs.Digits.{Seeking}
 use Rattle.polynomials.proofs.variables.lowest_digit.Given as goal
 
 abbrev pub invariant-loop-k : goal.invariant-loop-k

@@ -1,7 +1,5 @@
 -- `polynomials::variables::power` meets its contract: p is v to the power i. Assumes nothing.
-use Rattle.std.proofs.Common.{rules}
-use mathlib.Core.Path.{◌≡◌, sym}
-use Prim.Native.Nat.{◌-◌, ◌^◌, ◌≤◌}
+use mathlib.Core.Path.{sym}
 use native.Mathlib.Omega.{arith}
 use native.Mathlib.Nat.{pow-zero}
 use Rattle.polynomials.proofs.Digits.{power_small, power_more, suc-most, power-fits, power-is}

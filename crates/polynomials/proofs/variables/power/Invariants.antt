@@ -1,9 +1,6 @@
 -- `polynomials::variables::power` meets its contract: p is v to the power i. Assumes nothing.
-use mathlib.Core.Path.{◌≡◌, sym}
+use mathlib.Core.Path.{◌≡◌}
 use Prim.Native.Nat.{◌-◌, ◌^◌, ◌≤◌}
-use native.Mathlib.Omega.{arith}
-use native.Mathlib.Nat.{pow-zero}
-use Rattle.polynomials.proofs.Digits.{power_small, power_more, suc-most, power-fits, power-is}
 use Rattle.polynomials.proofs.variables.power.Given as goal
 
 abbrev pub invariant-loop-i : goal.invariant-loop-i
