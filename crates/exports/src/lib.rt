@@ -61,13 +61,7 @@ fn returned_of(a: Answered) -> i64
 }
 
 // The value of a form under an assignment, written into the first three of the numbers lent: 0, or minus 1, 2, 11, 5, 6 or 12.
-#[unsafe(no_mangle)]
-pub extern "C" fn kalzunbi_value(
-    table: &[u8],
-    form: &[u8],
-    assignment: &[u8],
-    values: &mut [i64],
-) -> i64
+pub fn kalzunbi_value(table: &[u8], form: &[u8], assignment: &[u8], values: &mut [i64]) -> i64
     ensures { (result, values.new) ≡ value_returned table.now form.now assignment.now values.old }
 {
     let n = check_table(table);
@@ -88,8 +82,7 @@ pub extern "C" fn kalzunbi_value(
 }
 
 // The form of an expression, its record written into the bytes lent: its length, or minus 1, 2, then 3, 4 or 5, then 6, 7, 8, 9 or 10.
-#[unsafe(no_mangle)]
-pub extern "C" fn kalzunbi_reduce(table: &[u8], expression: &[u8], out: &mut [u8]) -> i64
+pub fn kalzunbi_reduce(table: &[u8], expression: &[u8], out: &mut [u8]) -> i64
     ensures { (result, out.new) ≡ reduce_returned table.now expression.now out.old }
 {
     let r = reduce(table, expression, out);
@@ -100,8 +93,7 @@ pub extern "C" fn kalzunbi_reduce(table: &[u8], expression: &[u8], out: &mut [u8
 }
 
 // A form with a vector form for one of its vector letters, the record written into the bytes lent: its length, or minus 1, 2, 11, then 5 or 6, then 7, 8, 9 or 10.
-#[unsafe(no_mangle)]
-pub extern "C" fn kalzunbi_insert(
+pub fn kalzunbi_insert(
     table: &[u8],
     form: &[u8],
     letter: u8,
@@ -118,8 +110,7 @@ pub extern "C" fn kalzunbi_insert(
 }
 
 // The answer for a log: 0 where it is accepted, with where the first form ends, where the last begins and the steps in the first three of the numbers lent; or minus (number · 256 + step).
-#[unsafe(no_mangle)]
-pub extern "C" fn kalzunbi_check(table: &[u8], log: &[u8], places: &mut [u64]) -> i64
+pub fn kalzunbi_check(table: &[u8], log: &[u8], places: &mut [u64]) -> i64
     ensures { (result, places.new) ≡ check_returned table.now log.now places.old }
 {
     let n = check_table(table);
@@ -140,8 +131,7 @@ pub extern "C" fn kalzunbi_check(table: &[u8], log: &[u8], places: &mut [u64]) -
 }
 
 // Whether two forms are equal under every assignment: 0, or 1 with the first assignment under which they differ in the buffer, or minus 1, 2, 11, 5 or 6.
-#[unsafe(no_mangle)]
-pub extern "C" fn kalzunbi_decide(
+pub fn kalzunbi_decide(
     table: &[u8],
     first: &[u8],
     second: &[u8],
@@ -155,13 +145,7 @@ pub extern "C" fn kalzunbi_decide(
 }
 
 // The log of a form's shortening, written into the bytes lent, and the number of its steps into the first of the numbers lent: the log's length, or minus 1, 2, 11, 5 or 6.
-#[unsafe(no_mangle)]
-pub extern "C" fn kalzunbi_shorten(
-    table: &[u8],
-    form: &[u8],
-    out: &mut [u8],
-    steps: &mut [u64],
-) -> i64
+pub fn kalzunbi_shorten(table: &[u8], form: &[u8], out: &mut [u8], steps: &mut [u64]) -> i64
     ensures { ShortenReturned table.now form.now out.old steps.old result out.new steps.new }
 {
     let n = check_table(table);
@@ -183,8 +167,7 @@ pub extern "C" fn kalzunbi_shorten(
 
 // A form shortened, its log given to the checker and the log's ends decided: the log in the bytes lent, its steps in the first of the numbers lent.
 // The log's length, or minus 1, 2, 11, 5 or 6. That the three do not agree never comes: the contract says so.
-#[unsafe(no_mangle)]
-pub extern "C" fn kalzunbi_audit(
+pub fn kalzunbi_audit(
     table: &[u8],
     form: &[u8],
     out: &mut [u8],
@@ -214,8 +197,7 @@ pub extern "C" fn kalzunbi_audit(
 
 // The form of a text with names for the table's letters, its record written into the bytes lent: its length, or minus 1, 2, then 3, 4, 5, then 6 to 10.
 // The column of a refused text is written into the first of the numbers lent.
-#[unsafe(no_mangle)]
-pub extern "C" fn kalzunbi_read_text(
+pub fn kalzunbi_read_text(
     table: &[u8],
     names: &[u8],
     line: &[u8],
@@ -232,8 +214,7 @@ pub extern "C" fn kalzunbi_read_text(
 }
 
 // The text of a form with names for the table's letters, written into the bytes lent: its length, or minus 1, 2, 11, 5 or 6.
-#[unsafe(no_mangle)]
-pub extern "C" fn kalzunbi_print(table: &[u8], names: &[u8], form: &[u8], out: &mut [u8]) -> i64
+pub fn kalzunbi_print(table: &[u8], names: &[u8], form: &[u8], out: &mut [u8]) -> i64
     ensures { (result, out.new) ≡ print_returned table.now names.now form.now out.old }
 {
     let r = print_named(table, names, form, out);
@@ -244,8 +225,7 @@ pub extern "C" fn kalzunbi_print(table: &[u8], names: &[u8], form: &[u8], out: &
 }
 
 // A log opened with a table and a first form, its state written into the bytes lent: the state's length, or minus 1, 2, 11, 5 or 6.
-#[unsafe(no_mangle)]
-pub extern "C" fn kalzunbi_open(table: &[u8], form: &[u8], state: &mut [u8]) -> i64
+pub fn kalzunbi_open(table: &[u8], form: &[u8], state: &mut [u8]) -> i64
     ensures { (result, state.new) ≡ open_returned table.now form.now state.old }
 {
     let r = open(table, form, state);
@@ -253,8 +233,7 @@ pub extern "C" fn kalzunbi_open(table: &[u8], form: &[u8], state: &mut [u8]) -> 
 }
 
 // A step added to an open log, the next state written into the bytes lent: its length, or minus 11 for the state, 2, 14, 11 for the step, 5 or 6, then 6, 8, 9 or 10.
-#[unsafe(no_mangle)]
-pub extern "C" fn kalzunbi_add(state: &[u8], step: &[u8], next: &mut [u8]) -> i64
+pub fn kalzunbi_add(state: &[u8], step: &[u8], next: &mut [u8]) -> i64
     ensures { (result, next.new) ≡ add_returned state.now step.now next.old }
 {
     let r = add(state, step, next);
@@ -262,8 +241,7 @@ pub extern "C" fn kalzunbi_add(state: &[u8], step: &[u8], next: &mut [u8]) -> i6
 }
 
 // The form that an open log has reached, its record written into the bytes lent: its length, or minus 11 or 2.
-#[unsafe(no_mangle)]
-pub extern "C" fn kalzunbi_look(state: &[u8], out: &mut [u8]) -> i64
+pub fn kalzunbi_look(state: &[u8], out: &mut [u8]) -> i64
     ensures { (result, out.new) ≡ look_returned state.now out.old }
 {
     let r = look(state, out);
@@ -272,13 +250,7 @@ pub extern "C" fn kalzunbi_look(state: &[u8], out: &mut [u8]) -> i64
 
 // Whether the form that an open log has reached and another are equal under every assignment: 0, or 1 with the first assignment under which they differ in the
 // buffer, or minus 11 for the state, 2, 11 for the form, 5 or 6.
-#[unsafe(no_mangle)]
-pub extern "C" fn kalzunbi_decide_open(
-    state: &[u8],
-    form: &[u8],
-    buffer: &mut [u8],
-    work: &mut [u8],
-) -> i64
+pub fn kalzunbi_decide_open(state: &[u8], form: &[u8], buffer: &mut [u8], work: &mut [u8]) -> i64
     ensures { DecideOpenReturned state.now form.now buffer.old work.old result buffer.new work.new }
 {
     let d = decide_open(state, form, buffer, work);
@@ -286,8 +258,7 @@ pub extern "C" fn kalzunbi_decide_open(
 }
 
 // An open log closed with a last form: 0 where it is accepted, or minus 11 for the state, 11 for the form, 5, 6 or 13.
-#[unsafe(no_mangle)]
-pub extern "C" fn kalzunbi_close(state: &[u8], form: &[u8]) -> i64
+pub fn kalzunbi_close(state: &[u8], form: &[u8]) -> i64
     ensures { result ≡ close_returned state.now form.now }
 {
     let c = close(state, form);

@@ -6,8 +6,11 @@ ghost use Rattle.kalzunbi.specs.Progress.{InText};
 use derivation_word::answering::{answer_line, start};
 use derivation_word::ending::tell_end;
 use derivation_word::reading::Derivation;
-use libc::STDOUT_FILENO;
 use lines::places::line_end;
+use std::io::Read;
+
+// Standard output, by its number.
+pub const STDOUT: i32 = 1;
 
 // How far an input is answered: what the lines up to a position leave, and the number of the line that begins there.
 #[derive(Clone, Copy)]
@@ -20,13 +23,10 @@ pub struct Progress {
 // Writes a text that was told up to a position; one beyond the end says that there was no room for it.
 fn write_told(out: &[u8], end: usize) {
     if end > out.len() {
-        io::write_all(
-            STDOUT_FILENO,
-            b"refused 2: more output than there is room for\n",
-        );
+        io::write_all(STDOUT, b"refused 2: more output than there is room for\n");
         return;
     }
-    io::write_all(STDOUT_FILENO, &out[..end]);
+    io::write_all(STDOUT, &out[..end]);
 }
 
 // Writes what is told for the line k.
@@ -91,13 +91,13 @@ fn finish(p: Progress, s: &[u8])
 // Writes that an input is too long, or cannot be read.
 pub fn refuse_input() {
     io::write_all(
-        STDOUT_FILENO,
+        STDOUT,
         b"refused 3: more than 65536 bytes, or an input that cannot be read\n",
     );
 }
 
 // Reads into the bytes lent until they are full or the input ends, and answers what was read each time.
-fn derive_into(fd: i32, input: &mut [u8])
+fn derive_into<R: Read>(source: &mut R, input: &mut [u8])
     requires { length input.old ≤ 65537 }
 {
     let d = start();
@@ -108,12 +108,10 @@ fn derive_into(fd: i32, input: &mut [u8])
     };
     let mut n: usize = 0;
     while n < input.len() {
-        let got = libc::read(fd, &mut input[n..]);
-        if got < 0 {
+        let Ok(m) = source.read(&mut input[n..]) else {
             refuse_input();
             return;
-        }
-        let m = io::count(got, &input[n..]);
+        };
         if m == 0 {
             finish(p, &input[..n]);
             return;
@@ -125,7 +123,7 @@ fn derive_into(fd: i32, input: &mut [u8])
 }
 
 // Answers what a file or standard input holds, line by line.
-pub fn derive(fd: i32) {
+pub fn derive<R: Read>(source: &mut R) {
     let mut input = [0u8; 65537];
-    derive_into(fd, &mut input);
+    derive_into(source, &mut input);
 }

@@ -25,14 +25,20 @@ returns-then-bad-ne0 c =
 pub returns-then-out-lt-SHORTENING_BYTES : goal.returns-then-out-lt-SHORTENING_BYTES
 unfolding shortening_of log_length
 returns-then-out-lt-SHORTENING_BYTES c =
-    let w = c in record { answer = out_refused w.args.table.now w.args.form.now w.args.out.now _ c.check_table-bad.ensures c.if-bad-ne0.false
-          c.if-out-lt-SHORTENING_BYTES.true; short = omega arith }
+    let w = c in record {
+      answer = out_refused w.args.table.now w.args.form.now w.args.out.now _ c.check_table-bad.ensures c.if-bad-ne0.false
+          c.if-out-lt-SHORTENING_BYTES.true;
+      short = omega arith;
+    }
 
 pub returns-then-p-ne0 : goal.returns-then-p-ne0
 unfolding shortening_of log_length
 returns-then-p-ne0 c =
-    let w = c in record { answer = form_refused w.args.table.now w.args.form.now w.args.out.now _ c.check_table-bad.ensures
-          c.if-bad-ne0.false c.if-out-lt-SHORTENING_BYTES.false _ c.read_form-a.ensures c.if-p-ne0.true; short = omega arith }
+    let w = c in record {
+      answer = form_refused w.args.table.now w.args.form.now w.args.out.now _ c.check_table-bad.ensures
+          c.if-bad-ne0.false c.if-out-lt-SHORTENING_BYTES.false _ c.read_form-a.ensures c.if-p-ne0.true;
+      short = omega arith;
+    }
 
 pub derive-d-requires : goal.derive-d-requires
 derive-d-requires c = c.read_form-a.ensures.valid c.if-p-ne0.false
@@ -46,14 +52,17 @@ write_log-size-requires c =
 pub returns : goal.returns
 unfolding shortening_of log_length
 returns c =
-    let w = c in record { answer = log_written w.args.table.now w.args.form.now w.args.out.now _ c.check_table-bad.ensures c.if-bad-ne0.false
+    let w = c in record {
+      answer = log_written w.args.table.now w.args.form.now w.args.out.now _ c.check_table-bad.ensures c.if-bad-ne0.false
           c.if-out-lt-SHORTENING_BYTES.false _
           c.read_form-a.ensures c.if-p-ne0.false
           (form-places (goal.at.returns c).After-read_form-a) _ c.derive-d.ensures
           (last_places (goal.at.returns c).After-derive-d)
-          (bytes_all w.args.form.now (λ (k : ℕ). (c.type_inv.form k).fits)) _ _ c.write_log-size.ensures; short = log-fits w.args.table.now w.args.form.now w.args.out.now _ c.check_table-bad.ensures c.if-bad-ne0.false
+          (bytes_all w.args.form.now (λ (k : ℕ). (c.type_inv.form k).fits)) _ _ c.write_log-size.ensures;
+      short = log-fits w.args.table.now w.args.form.now w.args.out.now _ c.check_table-bad.ensures c.if-bad-ne0.false
           c.if-out-lt-SHORTENING_BYTES.false _
           c.read_form-a.ensures c.if-p-ne0.false
           (form-places (goal.at.returns c).After-read_form-a) _ c.derive-d.ensures
           (last_places (goal.at.returns c).After-derive-d)
-          _ _ c.write_log-size.ensures }
+          _ _ c.write_log-size.ensures;
+    }

@@ -29,6 +29,9 @@ step_at-requires c = let w = c in (
 )
 
 pub returns : goal.returns
-returns c = let w = c in record { reached = rows_as _ _ _ _ _ (ap (λ (l : List S.Term). step_at w.args.table.now (record { kind = w.args.kind; terms = l }) (step_of w.args.s))
+returns c = let w = c in record {
+  reached = rows_as _ _ _ _ _ (ap (λ (l : List S.Term). step_at w.args.table.now (record { kind = w.args.kind; terms = l }) (step_of w.args.s))
       (run-copied _ _ _ _ _ c.copy.ensures))
-      c.step_at.ensures.reached; kind = c.step_at.ensures.kind }
+      c.step_at.ensures.reached;
+  kind = c.step_at.ensures.kind;
+}
