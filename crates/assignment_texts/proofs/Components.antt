@@ -7,7 +7,7 @@ use native.Mathlib.Omega.{arith}
 use borrow.Author.Tests.{eq-eqb, ne_eqb, lt-ltb, le-ltb, le-leb, lt-leb}
 use lib.Dec.{ltb, leb, eqb}
 use lib.ListN.{length, get_or}
-use Rattle.specification.specs.Results.{if◌then◌else◌}
+use Rattle.specification.specs.Results.{when◌then◌else◌}
 use Rattle.specification.specs.Text.{Placed, refused_at, placed, is_digit, next}
 use Rattle.specification.specs.AssignmentTexts.{read_component}
 use Rattle.theory.specs.Text.Bounds.{there}
@@ -23,24 +23,24 @@ module _ (line : List ℕ) (at x : ℕ) (hx : x ≡ get_or line at 0) where
   minus-inside e = there line at (omega (arith, hx, e))
 
   -- the digit behind it
-  pub digit-behind : (after : ℕ) → x ≡ 45 → after ≡ next line at → after ≡ (if eqb (get_or line at 0) 45 then next line at else at)
+  pub digit-behind : (after : ℕ) → x ≡ 45 → after ≡ next line at → after ≡ (when eqb (get_or line at 0) 45 then next line at else at)
   digit-behind after e q = rw (eq-eqb (get_or line at 0) 45 (sym hx ∙ e)) q
 
   -- the digit stands here
-  pub digit-here : (x ≡ 45 → ⊥) → at ≡ (if eqb (get_or line at 0) 45 then next line at else at)
+  pub digit-here : (x ≡ 45 → ⊥) → at ≡ (when eqb (get_or line at 0) 45 then next line at else at)
   digit-here n = rw (ne_eqb (get_or line at 0) 45 (λ e. n (hx ∙ e)))
 
 module _ (minus : Bool) (size : ℕ) where
   -- no minus
-  pub byte-plain : minus ≡ false → size ≡ (if minus && leb 1 size then 256 - size else size)
+  pub byte-plain : minus ≡ false → size ≡ (when minus && leb 1 size then 256 - size else size)
   byte-plain e = rw e
 
   -- 0 has no sign
-  pub byte_zero : minus ≡ true → size < 1 → size ≡ (if minus && leb 1 size then 256 - size else size)
+  pub byte_zero : minus ≡ true → size < 1 → size ≡ (when minus && leb 1 size then 256 - size else size)
   byte_zero e h = rw (e, lt-leb 1 size h)
 
   -- below 0
-  pub byte_below : minus ≡ true → 1 ≤ size → size ≤ 6 → 255 - size + 1 ≡ (if minus && leb 1 size then 256 - size else size)
+  pub byte_below : minus ≡ true → 1 ≤ size → size ≤ 6 → 255 - size + 1 ≡ (when minus && leb 1 size then 256 - size else size)
   byte_below e h l = rw (e, le-leb 1 size h) (omega arith)
 
 -- ════ the digit
@@ -48,12 +48,12 @@ module _ (minus : Bool) (size : ℕ) where
 -- what a component is by its sign, its digit's position and its digit
 abbrev component : (line : List ℕ) (sign first b : ℕ) → Placed (ℕ × ℕ)
 component line sign first b =
-    if is_digit b
-    then (if ltb 6 (b - 48) || is_digit (get_or line (first + 1) 0) then refused_at 12 first
-    else placed ((if eqb sign 45 && leb 1 (b - 48) then 256 - (b - 48) else b - 48), next line first))
+    when is_digit b
+    then (when ltb 6 (b - 48) || is_digit (get_or line (first + 1) 0) then refused_at 12 first
+    else placed ((when eqb sign 45 && leb 1 (b - 48) then 256 - (b - 48) else b - 48), next line first))
     else refused_at 4 first
 
-module _ (line : List ℕ) (at sign first b : ℕ) (t : Bool) (hs : sign ≡ get_or line at 0) (hf : first ≡ (if eqb (get_or line at 0) 45 then next line at else at))
+module _ (line : List ℕ) (at sign first b : ℕ) (t : Bool) (hs : sign ≡ get_or line at 0) (hf : first ≡ (when eqb (get_or line at 0) 45 then next line at else at))
     (hb : b ≡ get_or line first 0) (ht : t ≡ is_digit b) where
   component_is : read_component line at ≡ component line sign first b
   unfolding read_component
@@ -97,7 +97,7 @@ module _ (line : List ℕ) (at sign first b : ℕ) (t : Bool) (hs : sign ≡ get
       component-long r f q = refused_with 12 r (λ z. omega (arith, z)) q (rw (sym ht ∙ e, small, further ∙ f))
 
       -- one digit
-      pub component-there : (byte after : ℕ) → u ≡ false → byte ≡ (if eqb sign 45 && leb 1 (b - 48) then 256 - (b - 48) else b - 48) → after ≡ next line first
+      pub component-there : (byte after : ℕ) → u ≡ false → byte ≡ (when eqb sign 45 && leb 1 (b - 48) then 256 - (b - 48) else b - 48) → after ≡ next line first
           → ComponentRead (read_component line at) (record { refusal = 0; column = 0; at = after; byte = byte })
       component-there byte after f p q = record {
         refuses = λ z. absurd (z refl);

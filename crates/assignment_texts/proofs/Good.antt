@@ -6,7 +6,7 @@ use Prim.Native.Nat.{ℕ, zero, suc, ◌*◌}
 use native.Mathlib.Omega.{arith}
 use lib.Dec.{eqb, leb, ltb}
 use lib.ListN.{length, get_or}
-use Rattle.specification.specs.Results.{if◌then◌else◌}
+use Rattle.specification.specs.Results.{when◌then◌else◌}
 use Rattle.specification.specs.Lists.{all, each}
 use Rattle.specification.specs.Letters.{kind_of}
 use Rattle.specification.specs.Evaluation.{six_or_less, rest_is_zero, good_assignment}
@@ -32,7 +32,7 @@ module _ (names table line : List ℕ) (most n : ℕ) (so : List ℕ) where
   -- what comes behind a value
   abbrev behind : List ℕ × ℕ → Placed (List ℕ)
   behind r =
-      if leb (length line) r.1 then (if good_assignment table (put_three n r.0 so) then placed (put_three n r.0 so) else refused_at 12 r.1)
+      when leb (length line) r.1 then (when good_assignment table (put_three n r.0 so) then placed (put_three n r.0 so) else refused_at 12 r.1)
       else (mark 44 line r.1 >>= λ name. read_assigned most names table line name (put_three n r.0 so))
 
   behind_good_lem : (out : List ℕ) → ((name : ℕ) (all : List ℕ) → read_assigned most names table line name all ≡ placed out → good_assignment table out ≡ true)
@@ -43,7 +43,7 @@ module _ (names table line : List ℕ) (most n : ℕ) (so : List ℕ) where
       put = put_three n r.0 so
 
       go : (a b : Bool) → good_assignment table put ≡ b
-          → (if a then (if b then placed put else refused_at 12 r.1)
+          → (when a then (when b then placed put else refused_at 12 r.1)
           else (mark 44 line r.1 >>= λ name. read_assigned most names table line name put)) ≡ placed out
           → good_assignment table out ≡ true
       go true true g e = ap (good_assignment table) (sym (same_placed put out e)) ∙ g
@@ -53,7 +53,7 @@ module _ (names table line : List ℕ) (most n : ℕ) (so : List ℕ) where
 
   name_good : (at : ℕ) (out : List ℕ) → ((name : ℕ) (all : List ℕ) → read_assigned most names table line name all ≡ placed out → good_assignment table out ≡ true)
       → (a b c : Bool)
-      → (if a then (if b then (if c then (mark 61 line (next line at) >>= λ value. read_value (kind_of table n) line value >>= behind)
+      → (when a then (when b then (when c then (mark 61 line (next line at) >>= λ value. read_value (kind_of table n) line value >>= behind)
       else refused_at 12 at) else refused_at 5 at) else refused_at 4 at) ≡ placed out → good_assignment table out ≡ true
   name_good at out again true true true e =
       through (mark 61 line (next line at)) (λ value. read_value (kind_of table n) line value >>= behind) (good_assignment table out ≡ true) out

@@ -1,6 +1,6 @@
 -- Names and their numbers as they are read, one after the other. Assumes nothing.
 use Rattle.std.specs.Prelude.{◌≡◌, List, ℕ, suc, ◌<◌, leb, length}
-use Rattle.specification.specs.Results.{if◌then◌else◌}
+use Rattle.specification.specs.Results.{when◌then◌else◌}
 use Rattle.specification.specs.Letters.{kind_of}
 use Rattle.specification.specs.Evaluation.{good_assignment}
 use Rattle.specification.specs.Text.{Placed, refused_at, placed, ◌>>=◌}
@@ -12,13 +12,13 @@ use Rattle.assignment_texts.specs.declared.Assigned.{Assigned}
 
 -- the end of the line
 unfoldable pub at_end : (table : List ℕ) (at : ℕ) (so : List ℕ) → Placed (List ℕ)
-at_end table at so = if good_assignment table so then placed so else refused_at 12 at
+at_end table at so = when good_assignment table so then placed so else refused_at 12 at
 
 -- what follows behind a value that is put: the end of the line, or a comma and more names
 unfoldable pub behind_value : (most : ℕ) (names table line : List ℕ) (at : ℕ) (so : List ℕ) → Placed (List ℕ)
 behind_value most names table line at so =
     let further : Placed (List ℕ) = mark 44 line at >>= λ name. read_assigned most names table line name so in
-    if leb (length line) at then at_end table at so else further
+    when leb (length line) at then at_end table at so else further
 
 -- what follows behind a name
 unfoldable pub behind_name : (most : ℕ) (names table line : List ℕ) (at letter : ℕ) (so : List ℕ) → Placed (List ℕ)

@@ -1,6 +1,6 @@
 // The numbers of a letter as text: `(1, 0, -2)` of a vector, `3` of a scalar.
 ghost use Rattle.std.specs.Prelude.{◌≡◌, ◌&&◌, ◌-◌, ◌≤◌, leb, eqb, get_or};
-ghost use Rattle.specification.specs.Results.{if◌then◌else◌};
+ghost use Rattle.specification.specs.Results.{when◌then◌else◌};
 ghost use Rattle.specification.specs.Text.{next};
 ghost use Rattle.specification.specs.AssignmentTexts.{read_component, read_value};
 ghost use Rattle.assignment_texts.specs.Numbers.{ComponentRead, LedRead, three_at, NumbersRead};
@@ -10,7 +10,7 @@ use texts::{behind, byte_at, is_digit};
 
 // The position of a component's digit: behind a minus.
 fn digit_at(line: &[u8], at: usize) -> usize
-    ensures { result ≡ (if eqb (get_or line.now at 0) 45 then next line.now at else at) }
+    ensures { result ≡ (when eqb (get_or line.now at 0) 45 then next line.now at else at) }
 {
     if byte_at(line, at) == b'-' {
         return behind(line, at);
@@ -21,7 +21,7 @@ fn digit_at(line: &[u8], at: usize) -> usize
 // The signed byte of a size: 0 behind a minus is 0.
 fn signed_byte(minus: bool, size: u8) -> u8
     requires { size ≤ 6 }
-    ensures { result ≡ (if minus && leb 1 size then 256 - size else size) }
+    ensures { result ≡ (when minus && leb 1 size then 256 - size else size) }
 {
     if !minus {
         return size;

@@ -9,7 +9,7 @@ use native.Mathlib.Omega.{arith}
 use borrow.Author.Tests.{eq-eqb, ne_eqb}
 use lib.Dec.{T, eqb, eqb→eq}
 use lib.ListN.{length, length-append, get_or}
-use Rattle.specification.specs.Results.{if◌then◌else◌}
+use Rattle.specification.specs.Results.{when◌then◌else◌}
 use Rattle.specification.specs.Lists.{joined, all, order}
 use Rattle.specification.specs.Letters.{scalar, vector, test_letters}
 use Rattle.specification.specs.Terms.{term_kind}
@@ -59,7 +59,7 @@ both_all P j [] a b = tt
 both_all P j (x ∷ w) a b = go (eqb (j % 2) 1) (both_all P (j / 2) w) a b
   where
     go : (q : Bool) → (All P (taken (j / 2) w) → All P (left_over (j / 2) w) → All P w)
-        → All P (if q then x ∷ taken (j / 2) w else taken (j / 2) w) → All P (if q then left_over (j / 2) w else x ∷ left_over (j / 2) w) → P x × All P w
+        → All P (when q then x ∷ taken (j / 2) w else taken (j / 2) w) → All P (when q then left_over (j / 2) w else x ∷ left_over (j / 2) w) → P x × All P w
     go true f a b = (a.0, f a.1 b)
     go false f a b = (b.0, f a b.1)
 
@@ -68,7 +68,7 @@ unfolding left_over
 left_all P k [] a = tt
 left_all P k (x ∷ l) a = go (eqb (k % 2) 1) (left_all P (k / 2) l a.1)
   where
-    go : (q : Bool) → All P (left_over (k / 2) l) → All P (if q then left_over (k / 2) l else x ∷ left_over (k / 2) l)
+    go : (q : Bool) → All P (left_over (k / 2) l) → All P (when q then left_over (k / 2) l else x ∷ left_over (k / 2) l)
     go true w = w
     go false w = (a.0, w)
 
@@ -102,11 +102,11 @@ module _ (marks : List ℕ) (t : S.Term) (k : ℕ) (scalars : all is_vectors (le
       ∙ (candidate-opens t k r j can).0 in
       let split = all_split (Known table vector) (taken j l) (left_over j l) (order_all (Known table vector) r rule (taken j l ++ left_over j l) long ls) in
       let in_pool : All (Known table vector) l = both_all (Known table vector) j l split.0 split.1 in
-      let left : All (Known table vector) (joined (left_over k t.factors) ++ (if eqb (rule_kind r) vector then t.part else [])) =
-      reordered_all (Known table vector) (reordered-back (reordered-sorted order (joined (left_over k t.factors) ++ (if eqb (rule_kind r) vector then t.part
+      let left : All (Known table vector) (joined (left_over k t.factors) ++ (when eqb (rule_kind r) vector then t.part else [])) =
+      reordered_all (Known table vector) (reordered-back (reordered-sorted order (joined (left_over k t.factors) ++ (when eqb (rule_kind r) vector then t.part
       else [])))) in_pool in
       absurd (subst T (sym (known_vectors table (left_over k t.factors) (left_all (FactorKnown table) k t.factors known.factors)
-      (all_split (Known table vector) (joined (left_over k t.factors)) (if eqb (rule_kind r) vector then t.part else []) left).0) ∙ scalars) tt)
+      (all_split (Known table vector) (joined (left_over k t.factors)) (when eqb (rule_kind r) vector then t.part else []) left).0) ∙ scalars) tt)
 
 -- ════ a mask that leaves too many letters, or too few
 
@@ -118,7 +118,7 @@ module _ (marks : List ℕ) (t : S.Term) (k : ℕ) where
       ∙ (candidate-opens t k r j can).0))
 
   -- by the count
-  pub left_hopeless : (kind r j n : ℕ) → T (is_rule r) → LeftBy t.factors k n → (n + length (if eqb (rule_kind r) vector then t.part else []) ≡ rule_letters r
+  pub left_hopeless : (kind r j n : ℕ) → T (is_rule r) → LeftBy t.factors k n → (n + length (when eqb (rule_kind r) vector then t.part else []) ≡ rule_letters r
       → ⊥) → Hopeless marks kind t k r j
   unfolding letters_left
   left_hopeless kind r j n rule w h = go (all is_vectors (left_over k t.factors)) refl
@@ -127,8 +127,8 @@ module _ (marks : List ℕ) (t : S.Term) (k : ℕ) where
       go false e = scalars_hopeless marks t k e kind r j rule
       go true e =
           count_hopeless kind r j
-          (λ q. h (ap (λ (m : ℕ). m + length (if eqb (rule_kind r) vector then t.part else [])) (w.is e) ∙ sym
-          (length-append (joined (left_over k t.factors)) (if eqb (rule_kind r) vector then t.part else [])) ∙ q))
+          (λ q. h (ap (λ (m : ℕ). m + length (when eqb (rule_kind r) vector then t.part else [])) (w.is e) ∙ sym
+          (length-append (joined (left_over k t.factors)) (when eqb (rule_kind r) vector then t.part else [])) ∙ q))
 
 -- ════ a rule of vectors at a form of scalars
 
@@ -161,9 +161,9 @@ ruled_hopeless marks kind t k n r rule v (inl w) pick = kinds_hopeless marks t k
 ruled_hopeless marks kind t k n r rule v (inr h) pick = left_hopeless marks t k kind r pick n rule v h
 
 -- a rule takes no more than two letters of a vector part
-pub part_short : (p : Part) (kind : ℕ) → length (if eqb kind vector then part_of p else []) ≤ 2
+pub part_short : (p : Part) (kind : ℕ) → length (when eqb kind vector then part_of p else []) ≤ 2
 part_short p kind = go (eqb kind vector)
   where
-    go : (b : Bool) → length (if b then part_of p else []) ≤ 2
+    go : (b : Bool) → length (when b then part_of p else []) ≤ 2
     go true = part-few p
     go false = omega arith

@@ -15,7 +15,7 @@ use lib.Seq.{length-take-le, get_or-take}
 use Rattle.algebra.specs.Integers.{NonZero, zero_or_not, *ℤ_cancel, nat_abs-neg, nat_abs_zero}
 use Rattle.integers.specs.declared.Quotient.{Quotient}
 use Rattle.integers.specs.Arithmetic.{Divided}
-use Rattle.specification.specs.Results.{if◌then◌else◌}
+use Rattle.specification.specs.Results.{when◌then◌else◌}
 use Rattle.specification.specs.Lists.{ascend, joined}
 use Rattle.specification.specs.Letters.{vector}
 use Rattle.specification.specs.Terms.{with_coef, gather}
@@ -228,7 +228,7 @@ pub block-few : (r : ℕ) → block_size r ≤ 4
 unfolding block_size
 block-few r = go (eqb r 2) (eqb r 3)
   where
-    go : (a b : Bool) → (if a then 4 else if b then 4 else 3) ≤ 4
+    go : (a b : Bool) → (when a then 4 else when b then 4 else 3) ≤ 4
     go true b = omega arith
     go false true = omega arith
     go false false = omega arith
@@ -254,7 +254,7 @@ module _ (t : Term) (rule : ℕ) (o : Opening) (j kind k : ℕ) (opened : Opened
       let same : (i : ℕ) → i < 6 → get_or o.pool i 0 ≡ get_or l i 0 = λ i h. sym (get_or-take (rule_letters rule) o.pool i 0 (omega (arith, five)))
       ∙ ap (λ (l : List ℕ). get_or l i 0) opened.letters in
       let more : get_or (left_over j l) 0 0 < get_or (taken j l) 0 0 =
-      left_first l j (O.asc_sort nat-laws (joined (left_over k (term_of t).factors) ++ (if eqb (rule_kind rule) vector then (term_of t).part else []))) even (omega
+      left_first l j (O.asc_sort nat-laws (joined (left_over k (term_of t).factors) ++ (when eqb (rule_kind rule) vector then (term_of t).part else []))) even (omega
       (arith, less, same 0 (omega arith), same 1 (omega arith))) (omega (arith, three)) in
       let first : T (leb (get_or (taken j l) 0 0) (get_or (left_over j l) 0 0)) = rw (eq-eqb rule 5 e) at w.2 in
       N.lt_irrefl (get_or (left_over j l) 0 0) (omega (arith, more, leb→le (get_or (taken j l) 0 0) (get_or (left_over j l) 0 0) first))

@@ -1,6 +1,6 @@
 -- The candidate of a term, a mask, a rule and a pick, and the next one worth a trial. Assumes nothing.
 use Rattle.std.specs.Prelude.{Bool, true, false, ◌≡◌, ◌⊎◌, List, [], ℕ, ◌+◌, ◌/◌, ◌%◌, ◌^◌, ◌≤◌, ◌<◌, T, eqb, ℤ, neg_ℤ, ◌*ℤ◌, length}
-use Rattle.specification.specs.Results.{given, if◌then◌else◌}
+use Rattle.specification.specs.Results.{given, when◌then◌else◌}
 use Rattle.specification.specs.Letters.{scalar, vector}
 use Rattle.specification.specs.Terms as S
 use Rattle.specification.specs.Rules.{rule_letters, rule_kind, step_at}
@@ -62,7 +62,7 @@ pub record NextPick (marks : List ℕ) (t : Term) (rule : ℕ) (o : Opening) (fr
 -- no candidate of the rule at a form of the kind, where the mask leaves so many letters: the rule is one of vectors and the form is not, or it takes another
 -- number
 unfoldable pub RuledOut : (kind left : ℕ) (part : List ℕ) (rule : ℕ) → Type 0
-RuledOut kind n p r = ((kind ≡ scalar) × (rule_kind r ≡ vector)) ⊎ (n + length (if eqb (rule_kind r) vector then p else []) ≡ rule_letters r → ⊥)
+RuledOut kind n p r = ((kind ≡ scalar) × (rule_kind r ≡ vector)) ⊎ (n + length (when eqb (rule_kind r) vector then p else []) ≡ rule_letters r → ⊥)
 
 -- the rules and the picks of a mask in one row of places, 64 picks for a rule: all from one on, before the next
 pub record NextOfMask (marks : List ℕ) (kind : ℕ) (t : S.Term) (mask from : ℕ) (r : Next) : Type 0 where

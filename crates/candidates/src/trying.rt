@@ -1,6 +1,6 @@
 // Candidates for a step to fewer terms, one after the other: each takes one standing term away exactly.
 ghost use Rattle.std.specs.Prelude.{◌≡◌, false, ◌⊎◌, ◌+◌, ◌%◌, ◌^◌, ◌<◌, ◌≤◌, [], T, eqb, length, get_or};
-ghost use Rattle.specification.specs.Results.{if◌then◌else◌};
+ghost use Rattle.specification.specs.Results.{when◌then◌else◌};
 ghost use Rattle.specification.specs.Letters.{vector};
 ghost use Rattle.specification.specs.Rules.{is_rule, rule_letters, rule_kind};
 ghost use Rattle.terms.specs.Abstraction.{part_of, term_of};
@@ -153,7 +153,7 @@ fn next_pick(marks: &[u8; 512], t: Term, rule: u8, o: Opening, from: usize) -> N
 
 // How many letters of a vector part a rule takes.
 fn rule_part(rule: u8, p: Part) -> usize
-    ensures { result ≡ length (if eqb (rule_kind rule) vector then part_of p else []) }
+    ensures { result ≡ length (when eqb (rule_kind rule) vector then part_of p else []) }
 {
     if rule_kind(rule) == 1 {
         return part_letters(p);

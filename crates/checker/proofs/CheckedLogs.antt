@@ -5,7 +5,7 @@ use mathlib.Core.List.{List}
 use Prim.Native.Nat.{ℕ, ◌+◌}
 use borrow.Author.Tests.{eq-eqb, ne_eqb}
 use lib.ListN.{length}
-use Rattle.specification.specs.Results.{Test, refused, given, if◌then◌else◌}
+use Rattle.specification.specs.Results.{Test, refused, given, when◌then◌else◌}
 use Rattle.specification.specs.Letters.{test_table}
 use Rattle.specification.specs.Records.{test_terms}
 use Rattle.specification.specs.Logs.{Log, refused_at, accepted, at_step, read_log, steps_letters, replay, check_call}
@@ -73,7 +73,7 @@ module _ (table s : List ℕ) (bad : ℕ) (tb : test_of bad ≡ test_table table
             last_letters_lem h = sym (by_last ∙ ap (λ (t : Test). at_step (n + 1) t (λ _. replay log 1 (form_of f) (steps_of q))) (sym tl ∙ test_refused l h))
 
             module _ (zl : l ≡ 0) (p : Replayed) (w : ReplayedAs f q g p) where
-              by-replay : check_call table s ≡ found_of p.number p.step (if p.same then accepted a b (length (steps_of q)) else refused_at 13 (q.count + 1))
+              by-replay : check_call table s ≡ found_of p.number p.step (when p.same then accepted a b (length (steps_of q)) else refused_at 13 (q.count + 1))
               by-replay = by_last ∙ ap (λ (t : Test). at_step (n + 1) t (λ _. replay log 1 (form_of f) (steps_of q))) (sym tl ∙ test-passed l zl) ∙ w.is log refl
 
               pub step_taken : (p.number ≡ 0 → ⊥) → refused_at p.number p.step ≡ check_call table s
@@ -81,9 +81,9 @@ module _ (table s : List ℕ) (bad : ℕ) (tb : test_of bad ≡ test_table table
               step_taken h = sym (by-replay ∙ rw (ne_eqb p.number 0 h))
 
               module _ (zp : p.number ≡ 0) (c : q.count ≡ n) where
-                by-ends : check_call table s ≡ (if p.same then accepted a b (length (steps_of q)) else refused_at 13 (n + 1))
+                by-ends : check_call table s ≡ (when p.same then accepted a b (length (steps_of q)) else refused_at 13 (n + 1))
                 unfolding found_of
-                by-ends = by-replay ∙ rw (eq-eqb p.number 0 zp) (ap (λ (m : ℕ). if p.same then accepted a b (length (steps_of q)) else refused_at 13 (m + 1))
+                by-ends = by-replay ∙ rw (eq-eqb p.number 0 zp) (ap (λ (m : ℕ). when p.same then accepted a b (length (steps_of q)) else refused_at 13 (m + 1))
                     c)
 
                 -- another form was reached

@@ -9,7 +9,7 @@ use borrow.Author.Tests.{le-leb, lt-leb}
 use lib.Dec.{leb}
 use lib.ListN.{length, get_or, take, drop, set, length-append, length-drop}
 use lib.Seq.{take_all, length-take-le}
-use Rattle.specification.specs.Results.{Result, refused, given, if◌then◌else◌}
+use Rattle.specification.specs.Results.{Result, refused, given, when◌then◌else◌}
 use Rattle.specification.specs.Records.{write_into}
 use Rattle.specification.specs.Commands.{Commanded, answer_bytes, tell_into, CommandAnswered}
 use Rattle.theory.specs.Tests.{refused≢given, given_same}
@@ -103,6 +103,6 @@ unfolding printing_of tell_into
 answered-inside word s out out' r n a g =
     go (leb (length a.text) answer_bytes && leb (length a.text) (length out)) ((λ i. (printing_of (sym g i), out')) ∙ a.told)
   where
-    go : (b : Bool) → ◌≡◌ {A = Result ℕ × List ℕ} (given n, out') (if b then (given (length a.text), write_into a.text out) else (refused 2, out)) → n ≤ length out'
+    go : (b : Bool) → ◌≡◌ {A = Result ℕ × List ℕ} (given n, out') (when b then (given (length a.text), write_into a.text out) else (refused 2, out)) → n ≤ length out'
     go true e = written_inside a.text out out' n (given_same (ap (λ (p : Result ℕ × List ℕ). p.0) e)) (ap (λ (p : Result ℕ × List ℕ). p.1) e)
     go false e = absurd (refused≢given (sym (ap (λ (p : Result ℕ × List ℕ). p.0) e)))

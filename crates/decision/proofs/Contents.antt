@@ -14,7 +14,7 @@ use lib.ListN.{length}
 use Rattle.algebra.specs.Integers as R
 use Rattle.algebra.proofs.Normaliser.{var, ◌⊗◌, solve, normalising}
 use Rattle.algebra.specs.Lists.{tabulated}
-use Rattle.specification.specs.Results.{if◌then◌else◌}
+use Rattle.specification.specs.Results.{when◌then◌else◌}
 use Rattle.specification.specs.Lists.{joined}
 use Rattle.specification.specs.Letters.{scalar, vector, kind_of}
 use Rattle.theory.specs.Elements.{All, all_append}
@@ -57,7 +57,7 @@ module _ (table : List ℕ) where
   one_kind zero h = absurd (omega arith)
   one_kind (suc x) h = go (eqb (kind_of table (x / 3)) vector)
     where
-      go : (b : Bool) → (if b then 1 else 0) + (if b then 0 else 1) ≡ 1
+      go : (b : Bool) → (when b then 1 else 0) + (when b then 0 else 1) ≡ 1
       go true = refl
       go false = refl
 
@@ -234,7 +234,7 @@ module _ (table : List ℕ) where
         (vector_digit_lem l ((i + 1 + o) % 3) p (omega arith)) (vector_digit_lem m ((i + 2 + 2 * o) % 3) q (omega arith)) r
 
     -- the products of a factor have its letters
-    pub factor_has_lem : (f : List ℕ) → OneToThree f → FactorKnown table f → All (PieceHas (if eqb (length f) 1 then 0 else length f) (if eqb (length f) 1 then 1 else 0)) (pieces (block_of f))
+    pub factor_has_lem : (f : List ℕ) → OneToThree f → FactorKnown table f → All (PieceHas (when eqb (length f) 1 then 0 else length f) (when eqb (length f) 1 then 1 else 0)) (pieces (block_of f))
     unfolding pieces block_of count_of piece_at
     factor_has_lem [] o k = absurd (omega (arith, o.0))
     factor_has_lem (a ∷ []) o k = (piece-has 0 1 0 0 0 0 (digit_of a 0) 0 0 (pos 1) (scalar_digit_lem a k.0) no_digit_lem no_digit_lem, tt)
@@ -253,7 +253,7 @@ module _ (table : List ℕ) where
     unfolding pieces part_block count_of piece_at
     part_has i [] h o k = go (eqb i 0)
       where
-        go : (b : Bool) → All (PieceHas 0 0) (tabulated (count_of (if b then One else Zero)) (piece_at (if b then One else Zero)))
+        go : (b : Bool) → All (PieceHas 0 0) (tabulated (count_of (when b then One else Zero)) (piece_at (when b then One else Zero)))
         go true = (piece-has 0 0 0 0 0 0 0 0 0 (pos 1) no_digit_lem no_digit_lem no_digit_lem, tt)
         go false = tt
     part_has i (a ∷ []) h o k = (piece-has 1 0 0 0 0 0 (digit_of a i) 0 0 (pos 1) (vector_digit_lem a i k.0 h) no_digit_lem no_digit_lem, tt)

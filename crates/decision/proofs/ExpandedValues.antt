@@ -12,7 +12,7 @@ use lib.IntN as I
 use lib.ListN.{length}
 use Rattle.algebra.specs.Integers as R
 use Rattle.algebra.proofs.Normaliser.{Ex, var, lit, ◌⊕◌, ◌⊖◌, ◌⊗◌, solve, normalising}
-use Rattle.specification.specs.Results.{if◌then◌else◌}
+use Rattle.specification.specs.Results.{when◌then◌else◌}
 use Rattle.specification.specs.Lists.{joined}
 use Rattle.specification.specs.Values.{Vec, scalar_value, dot, triple, ◌•◌, ◌+v◌}
 use Rattle.specification.specs.Terms as S
@@ -213,8 +213,8 @@ module _ (table : List ℕ) (τ : ℕ → Vec) where
         let g : s + 0 ≡ s = omega arith in
         (sym (R.one_*ℤ (total σ ms)), rw (e, g) a)
     factors_all (f ∷ fs) o k v s ms a l =
-        let dv : ℕ = if eqb (length f) 1 then 0 else length f in
-        let ds : ℕ = if eqb (length f) 1 then 1 else 0 in
+        let dv : ℕ = when eqb (length f) 1 then 0 else length f in
+        let ds : ℕ = when eqb (length f) 1 then 1 else 0 in
         let u = pieces_all table σ v s dv ds (omega arith) (pieces (block_of f)) (factor_has_lem table short f o.0 k.0) ms a in
         let w = factors_all fs o.1 k.1 (v + dv) (s + ds) (times_block (block_of f) ms) u.1 (omega arith) in
         let e : v + dv + vector_letters_of fs ≡ v + (dv + vector_letters_of fs) = omega arith in

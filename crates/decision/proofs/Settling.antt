@@ -12,7 +12,7 @@ use lib.IntN.{ℤ, pos, ◌+ℤ◌, ◌-ℤ◌, ◌*ℤ◌}
 use lib.IntN as I
 use lib.ListN.{length, get_or, take}
 use Rattle.algebra.specs.Integers.{sub_zero→eq}
-use Rattle.specification.specs.Results.{if◌then◌else◌}
+use Rattle.specification.specs.Results.{when◌then◌else◌}
 use Rattle.specification.specs.Lists.{each, all}
 use Rattle.specification.specs.Letters.{scalar, vector, kind_of}
 use Rattle.specification.specs.Records.{part_fits}
@@ -49,7 +49,7 @@ limit-six : (table : List ℕ) (x : ℕ) → limit_of table x ≤ 6
 unfolding limit_of
 limit-six table x = go (eqb (kind_of table (x / 3)) vector) (eqb (x % 3) 0)
   where
-    go : (a b : Bool) → (if a then 6 else if b then 2 else 0) ≤ 6
+    go : (a b : Bool) → (when a then 6 else when b then 2 else 0) ≤ 6
     go true b = omega arith
     go false true = omega arith
     go false false = omega arith
@@ -69,7 +69,7 @@ unfolding letter_in_range
 letter_in_range_lem table b n p q r = go (eqb (kind_of table n) scalar) refl
   where
     go : (t : Bool) → eqb (kind_of table n) scalar ≡ t
-        → T (if t
+        → T (when t
         then leb (get_or b (3 * n) 0) 2 && eqb (get_or b (3 * n + 1) 0) 0 && eqb (get_or b (3 * n + 2) 0) 0
         else leb (get_or b (3 * n) 0) 6 && leb (get_or b (3 * n + 1) 0) 6 && leb (get_or b (3 * n + 2) 0) 6)
     go true e =
@@ -122,9 +122,9 @@ no_part τ i t h =
     let e : t.part ≡ [] = go t.part h in
     ap (λ (p : List ℕ). component (suc i) ((t.coef *ℤ factors_value τ t.factors) • part_value τ p)) e ∙ none i (t.coef *ℤ factors_value τ t.factors)
   where
-    go : (p : List ℕ) → T (eqb (if eqb (length p) 0 then scalar else vector) 0) → p ≡ []
+    go : (p : List ℕ) → T (eqb (when eqb (length p) 0 then scalar else vector) 0) → p ≡ []
     go [] z = refl
-    go (a ∷ p) z = absurd (subst (λ (b : Bool). T (eqb (if b then scalar else vector) 0)) (ne_eqb (length (a ∷ p)) 0 (λ e. omega arith)) z)
+    go (a ∷ p) z = absurd (subst (λ (b : Bool). T (eqb (when b then scalar else vector) 0)) (ne_eqb (length (a ∷ p)) 0 (λ e. omega arith)) z)
 
     none : (i : ℕ) (k : ℤ) → component (suc i) (k • part_value τ []) ≡ pos 0
     none zero k = I.*ℤ-zero k
@@ -164,7 +164,7 @@ module _ (table : List ℕ) (f g : Form) (buffer work : List ℕ) (w : Decidable
 
   factors-below : (fs : List (List ℕ)) → All (FactorKnown table) fs → All LettersBelow fs
   factors-below [] k = tt
-  factors-below (x ∷ fs) k = (letters_below_lem (if eqb (length x) 1 then scalar else vector) x k.0, factors-below fs k.1)
+  factors-below (x ∷ fs) k = (letters_below_lem (when eqb (length x) 1 then scalar else vector) x k.0, factors-below fs k.1)
 
   terms-below : (ts : List S.Term) → AllKnown table ts → All TermBelow ts
   terms-below [] k = tt

@@ -9,7 +9,7 @@ use borrow.Author.Tests.{le-leb, lt-leb}
 use lib.Dec.{leb, ltb, ltb→lt, nltb→le, T}
 use lib.ListN.{length, take, drop, drop_of_length-le}
 use lib.Seq.{length-take-le}
-use Rattle.specification.specs.Results.{if◌then◌else◌}
+use Rattle.specification.specs.Results.{when◌then◌else◌}
 use Rattle.specification.specs.Words.{bytes}
 use Rattle.specification.specs.Text.{Placed, refused_at, placed, past_blanks, skip}
 use Rattle.specification.specs.Lines as L
@@ -28,7 +28,7 @@ no_declaration = refl
 
 -- one line more
 one_line : (left : ℕ) (p : L.Place) (n : Named) (t : Bool) → 0 < left → t ≡ is_declaration (line_of p)
-    → read_declared left p n ≡ (if t then in_line p (declared (line_of p) n) >>> (λ m. read_declared (left - 1) (to_line (next_line p)) m) else lined (n, p))
+    → read_declared left p n ≡ (when t then in_line p (declared (line_of p) n) >>> (λ m. read_declared (left - 1) (to_line (next_line p)) m) else lined (n, p))
 unfolding read_declared
 one_line zero p n t h e = absurd (omega arith)
 one_line (suc left) p n t h e = rw (← e, sub-one (suc left))
@@ -72,7 +72,7 @@ some_names_lem s names table p (suc n) r few room i h e =
     record {
       refuses = λ z. absurd (z w.0);
       gives = λ _. e
-          ∙ ap (λ (b : Bool). if b then lined (named_of (suc n) names table, place_of s p) else refused_in 1 p.number 0 (line_of (place_of s p))) (le-leb 1 (length (take (suc n) names)) m)
+          ∙ ap (λ (b : Bool). when b then lined (named_of (suc n) names table, place_of s p) else refused_in 1 p.number 0 (line_of (place_of s p))) (le-leb 1 (length (take (suc n) names)) m)
           ∙ (λ j. lined (named_of (sym w.1 j) names table, place_of s (sym h.place_is j)));
       few = λ _. omega (arith, w.1);
       inside = subst (Inside s) (sym h.place_is) i;
@@ -89,12 +89,12 @@ module _ (s names table : List ℕ) (left : ℕ) (p : Place) (n : ℕ) (room : 2
 
   module _ (k : 0 < left) (t : Bool) (d : t ≡ is_declaration (line_of (place_of s p))) where
     turn : read_declared left (place_of s p) (named_of n names table)
-        ≡ (if t then in_line (place_of s p) (declared (line_of (place_of s p)) (named_of n names table)) >>> (λ m. read_declared (left - 1) (to_line (next_line (place_of s p))) m)
+        ≡ (when t then in_line (place_of s p) (declared (line_of (place_of s p)) (named_of n names table)) >>> (λ m. read_declared (left - 1) (to_line (next_line (place_of s p))) m)
         else lined (named_of n names table, place_of s p))
     turn = go left k
       where
         go : (l : ℕ) → 0 < l → read_declared l (place_of s p) (named_of n names table)
-            ≡ (if t then in_line (place_of s p) (declared (line_of (place_of s p)) (named_of n names table)) >>> (λ m. read_declared (l - 1) (to_line (next_line (place_of s p))) m)
+            ≡ (when t then in_line (place_of s p) (declared (line_of (place_of s p)) (named_of n names table)) >>> (λ m. read_declared (l - 1) (to_line (next_line (place_of s p))) m)
             else lined (named_of n names table, place_of s p))
         go l z = one_line l (place_of s p) (named_of n names table) t z d
 
@@ -103,7 +103,7 @@ module _ (s names table : List ℕ) (left : ℕ) (p : Place) (n : ℕ) (room : 2
     header-stops r z q =
         some_names_lem s names table p n r h.few room h.inside q
         (h.same ∙ ap (λ (x : Lined (Named × L.Place)). x >>> some_names) (turn
-        ∙ ap (λ (b : Bool). if b then in_line (place_of s p) (declared (line_of (place_of s p)) (named_of n names table)) >>> (λ m. read_declared (left - 1) (to_line (next_line (place_of s p))) m)
+        ∙ ap (λ (b : Bool). when b then in_line (place_of s p) (declared (line_of (place_of s p)) (named_of n names table)) >>> (λ m. read_declared (left - 1) (to_line (next_line (place_of s p))) m)
         else lined (named_of n names table, place_of s p)) z))
 
     module _ (z : t ≡ true) (r : Names) (names' table' : List ℕ) (g : NamesRead (declared (line_of (place_of s p)) (named_of n names table)) r names' table') where
@@ -111,7 +111,7 @@ module _ (s names table : List ℕ) (left : ℕ) (p : Place) (n : ℕ) (room : 2
           ≡ ((in_line (place_of s p) (declared (line_of (place_of s p)) (named_of n names table)) >>> (λ m. read_declared (left - 1) (to_line (next_line (place_of s p))) m)) >>> some_names)
       taken =
           h.same ∙ ap (λ (x : Lined (Named × L.Place)). x >>> some_names) (turn
-          ∙ ap (λ (b : Bool). if b then in_line (place_of s p) (declared (line_of (place_of s p)) (named_of n names table)) >>> (λ m. read_declared (left - 1) (to_line (next_line (place_of s p))) m)
+          ∙ ap (λ (b : Bool). when b then in_line (place_of s p) (declared (line_of (place_of s p)) (named_of n names table)) >>> (λ m. read_declared (left - 1) (to_line (next_line (place_of s p))) m)
           else lined (named_of n names table, place_of s p)) z)
 
       -- its names are refused

@@ -9,7 +9,7 @@ use borrow.Author.Tests.{le-leb, lt-leb, lt-ltb, le-ltb}
 use lib.Dec.{ltb, leb, eqb}
 use lib.ListN.{length, get_or, take, set}
 use lib.Seq.{take-suc-set, length-take-le}
-use Rattle.specification.specs.Results.{if◌then◌else◌}
+use Rattle.specification.specs.Results.{when◌then◌else◌}
 use Rattle.specification.specs.Letters.{scalar, vector}
 use Rattle.specification.specs.Words.{bytes}
 use Rattle.specification.specs.Text.{Placed, refused_at, placed, is_letter, place_of, skip, next}
@@ -89,7 +89,7 @@ module _ (line : List ℕ) (at kind : ℕ) (names table : List ℕ) (count : ℕ
             tests = ltb (place_of (take count names) (get_or line at 0)) (length (take count names)) || leb 24 (length (take count names))
 
             turn-name : (most : ℕ) → read_names (suc most) kind line at (named_of count names table)
-                ≡ (if tests then refused_at 1 at else read_names most kind line (next line at) (take count names ++ get_or line at 0 ∷ [], take count table ++ kind ∷ []))
+                ≡ (when tests then refused_at 1 at else read_names most kind line (next line at) (take count names ++ get_or line at 0 ∷ [], take count table ++ kind ∷ []))
             unfolding read_names
             turn-name most = rw (lt-leb (length line) at l, sym hw ∙ ow, sym hv ∙ ov, letter ∙ e, alone ∙ f)
 
@@ -102,7 +102,7 @@ module _ (line : List ℕ) (at kind : ℕ) (names table : List ℕ) (count : ℕ
             turn_many r h q =
                 let m : 24 ≤ length (take count names) = omega (arith, counted) in
                 refuses_with 1 r (λ z. omega (arith, z)) q (λ most. turn-name most
-                ∙ ap (λ (x : Bool). if x then refused_at 1 at else read_names most kind line (next line at) (take count names ++ get_or line at 0 ∷ [], take count table ++ kind ∷ []))
+                ∙ ap (λ (x : Bool). when x then refused_at 1 at else read_names most kind line (next line at) (take count names ++ get_or line at 0 ∷ [], take count table ++ kind ∷ []))
                 (ap (λ (x : Bool). ltb (place_of (take count names) (get_or line at 0)) (length (take count names)) || x) (le-leb 24 (length (take count names)) m)
                 ∙ or-true (ltb (place_of (take count names) (get_or line at 0)) (length (take count names)))))
 
@@ -114,7 +114,7 @@ module _ (line : List ℕ) (at kind : ℕ) (names table : List ℕ) (count : ℕ
               pub turn_twice : (r : NameStep) → place < count → (r.refusal ≡ 1) × (r.column ≡ at) → NameTurn line at kind names table count r names table
               turn_twice r k q =
                   refuses_with 1 r (λ z. omega (arith, z)) q (λ most. turn-name most
-                  ∙ ap (λ (x : Bool). if x then refused_at 1 at else read_names most kind line (next line at) (take count names ++ get_or line at 0 ∷ [], take count table ++ kind ∷ []))
+                  ∙ ap (λ (x : Bool). when x then refused_at 1 at else read_names most kind line (next line at) (take count names ++ get_or line at 0 ∷ [], take count table ++ kind ∷ []))
                   (ap (λ (x : Bool). x || leb 24 (length (take count names))) (lt-ltb (place_of (take count names) (get_or line at 0)) (length (take count names)) (omega (arith, place_is_lem, counted)))))
 
               -- a name more
@@ -130,7 +130,7 @@ module _ (line : List ℕ) (at kind : ℕ) (names table : List ℕ) (count : ℕ
                   record {
                     refuses = λ n. absurd (n refl);
                     goes = λ _ most. turn-name most
-                        ∙ ap (λ (x : Bool). if x then refused_at 1 at else read_names most kind line (next line at) (take count names ++ get_or line at 0 ∷ [], take count table ++ kind ∷ [])) passed
+                        ∙ ap (λ (x : Bool). when x then refused_at 1 at else read_names most kind line (next line at) (take count names ++ get_or line at 0 ∷ [], take count table ++ kind ∷ [])) passed
                         ∙ (λ i. read_names most kind line (sym a i) (take count names ++ sym hb i ∷ [], take count table ++ kind ∷ []))
                         ∙ (λ i. read_names most kind line after (sym (more names b room) i, sym (more table kind beside) i));
                     few = λ _. omega arith;

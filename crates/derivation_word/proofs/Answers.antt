@@ -8,7 +8,7 @@ use borrow.Author.Tests.{ne_eqb, le-leb, lt-leb}
 use lib.Dec.{T, eqb, ltb, leb, ltb→lt}
 use lib.ListN.{length, take, drop, set, length-set, length-map}
 use lib.Seq.{length-take-le, take_at}
-use Rattle.specification.specs.Results.{Result, refused, given, if◌then◌else◌}
+use Rattle.specification.specs.Results.{Result, refused, given, when◌then◌else◌}
 use Rattle.specification.specs.Records.{write_into}
 use Rattle.specification.specs.Rules as R
 use Rattle.specification.specs.Logs as L
@@ -351,7 +351,7 @@ module _ (d : Derivation) (valid : DerivationValid d) (e : d.begun ≡ true) (k 
       unfolding read_one_step state_of kinds_of
       in_shape_lem = go (is_step_line line) (typed.gives z)
         where
-          go : (b : Bool) → (if b then read_step_line (names_of d) (kinds_of d) line else refused_at 4 (skip line 0)) ≡ placed (step_of q.step) → T (R.step_in_shape (step_of q.step))
+          go : (b : Bool) → (when b then read_step_line (names_of d) (kinds_of d) line else refused_at 4 (skip line 0)) ≡ placed (step_of q.step) → T (R.step_in_shape (step_of q.step))
           go false p = absurd (refused≢placed p)
           go true p = step-line-shape (names_of d) (kinds_of d) (leading d valid e).derives.table_good (leading d valid e).names_good line (step_of q.step) p
 

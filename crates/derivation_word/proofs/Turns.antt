@@ -6,7 +6,7 @@ use Prim.Native.Nat.{ℕ, suc, ◌+◌, ◌-◌, ◌≤◌, ◌<◌}
 use native.Mathlib.Omega.{arith}
 use lib.Dec.{leb, eqb}
 use lib.ListN.{length, take, drop, length-drop, drop_of_length-le}
-use Rattle.specification.specs.Results.{if◌then◌else◌}
+use Rattle.specification.specs.Results.{when◌then◌else◌}
 use Rattle.specification.specs.Words.{bytes}
 use Rattle.specification.specs.Lines.{first_line, behind_line, lines_of, next_line, is_empty_line, is_word_at, is_declaration, declared}
 use Rattle.specification.specs.LogTexts.{is_step_line, log_text}
@@ -49,21 +49,21 @@ module _ (d : D.Derivation) (k : ℕ) (line before after : List ℕ) (at : ℕ) 
   pub passed-empty : DerivationValid d → (b : Bool) → b ≡ is_empty_line line → b ≡ true → LineTold (pass_line k line (derivation_of d)) before before at (record { derivation = d; end = at })
   unfolding pass_line
   passed-empty valid b e h =
-      subst (λ t. LineTold (if t then (derivation_of d, []) else answer_line k line (derivation_of d)) before before at (record { derivation = d; end = at })) (sym h ∙ e)
+      subst (λ t. LineTold (when t then (derivation_of d, []) else answer_line k line (derivation_of d)) before before at (record { derivation = d; end = at })) (sym h ∙ e)
       (record { is = refl; tells = tells-nothing before at; valid = valid })
 
   -- a line of an open log
   module _ (valid : DerivationValid d) (o : d.begun ≡ true) (c : Bool) (q : c ≡ (is_step_line line && leb 64 d.state.count)) where
     -- what is told for it, by whether it is one step too many
     told-open : (r : Answered)
-        → LineTold (if c then step_refused (names_of d) (form_of d.first) (state_of d.state) (steps_of d.steps) 14
+        → LineTold (when c then step_refused (names_of d) (form_of d.first) (state_of d.state) (steps_of d.steps) 14
         else line_read k line (underway (names_of d) (form_of d.first) (state_of d.state) (steps_of d.steps)) (read_one_step (names_of d) (kinds_of d) line)
         (λ step. step_answer (names_of d) (form_of d.first) (state_of d.state) (steps_of d.steps) step (add_to (state_of d.state) (write_step step)))) before after at r
         → LineTold (answer_line k line (derivation_of d)) before after at r
     unfolding answer_line state_of kinds_of
     told-open r t =
         subst (λ x. LineTold (answer_line k line x) before after at r) (sym (is_open d valid o))
-        (subst (λ x. LineTold (if x then step_refused (names_of d) (form_of d.first) (state_of d.state) (steps_of d.steps) 14
+        (subst (λ x. LineTold (when x then step_refused (names_of d) (form_of d.first) (state_of d.state) (steps_of d.steps) 14
         else line_read k line (underway (names_of d) (form_of d.first) (state_of d.state) (steps_of d.steps)) (read_one_step (names_of d) (kinds_of d) line)
         (λ step. step_answer (names_of d) (form_of d.first) (state_of d.state) (steps_of d.steps) step (add_to (state_of d.state) (write_step step)))) before after at r) q t)
 
@@ -87,7 +87,7 @@ module _ (d : D.Derivation) (k : ℕ) (line before after : List ℕ) (at : ℕ) 
     -- another one is answered
     pub answered : LineTold (answer_line k line (derivation_of d)) before after at r → LineTold (pass_line k line (derivation_of d)) before after at r
     unfolding pass_line
-    answered t = subst (λ x. LineTold (if x then (derivation_of d, []) else answer_line k line (derivation_of d)) before after at r) (sym h ∙ e) t
+    answered t = subst (λ x. LineTold (when x then (derivation_of d, []) else answer_line k line (derivation_of d)) before after at r) (sym h ∙ e) t
 
     module _ (o : d.begun ≡ false) (c : Bool) (q : c ≡ is_declaration line) where
       not_open : derivation_of d ≡ unopened (names_of d) (kinds_of d)
@@ -100,7 +100,7 @@ module _ (d : D.Derivation) (k : ℕ) (line before after : List ℕ) (at : ℕ) 
       unfolding answer_line
       answered-names w t =
           answered (subst (λ x. LineTold (answer_line k line x) before after at r) (sym not_open)
-          (subst (λ x. LineTold (if x then line_read k line (unopened (names_of d) (kinds_of d)) (declared line (names_of d, kinds_of d)) names_answer
+          (subst (λ x. LineTold (when x then line_read k line (unopened (names_of d) (kinds_of d)) (declared line (names_of d, kinds_of d)) names_answer
           else line_read k line (unopened (names_of d) (kinds_of d)) (read_first (names_of d) (kinds_of d) line) (first_answer (names_of d) (kinds_of d))) before after at r) (sym w ∙ q)
           (subst (λ x. LineTold (line_read k line x (declared line (names_of d, kinds_of d)) names_answer) before after at r) not_open t)))
 
@@ -110,7 +110,7 @@ module _ (d : D.Derivation) (k : ℕ) (line before after : List ℕ) (at : ℕ) 
       unfolding answer_line
       answered_first w t =
           answered (subst (λ x. LineTold (answer_line k line x) before after at r) (sym not_open)
-          (subst (λ x. LineTold (if x then line_read k line (unopened (names_of d) (kinds_of d)) (declared line (names_of d, kinds_of d)) names_answer
+          (subst (λ x. LineTold (when x then line_read k line (unopened (names_of d) (kinds_of d)) (declared line (names_of d, kinds_of d)) names_answer
           else line_read k line (unopened (names_of d) (kinds_of d)) (read_first (names_of d) (kinds_of d) line) (first_answer (names_of d) (kinds_of d))) before after at r) (sym w ∙ q)
           (subst (λ x. LineTold (line_read k line x (read_first (names_of d) (kinds_of d) line) (first_answer (names_of d) (kinds_of d))) before after at r) not_open t)))
 
@@ -130,7 +130,7 @@ module _ (d : D.Derivation) (k : ℕ) (before after : List ℕ) (at end : ℕ) w
   end-missing e r t =
       let is : derivation_of d ≡ unopened (names_of d) (kinds_of d) = rw e in
       subst (λ x. Tells before after at r.end (end_text k x)) (sym is)
-      (subst (λ b. Tells before after at r.end (if b then line_read k [] (unopened (names_of d) (kinds_of d)) (declared [] (names_of d, kinds_of d)) names_answer
+      (subst (λ b. Tells before after at r.end (when b then line_read k [] (unopened (names_of d) (kinds_of d)) (declared [] (names_of d, kinds_of d)) names_answer
       else line_read k [] (unopened (names_of d) (kinds_of d)) (read_first (names_of d) (kinds_of d) []) (first_answer (names_of d) (kinds_of d))).1) (sym no_declaration)
       (subst (λ x. Tells before after at r.end (line_read k [] x (read_first (names_of d) (kinds_of d) []) (first_answer (names_of d) (kinds_of d))).1) is t.tells))
 
@@ -154,7 +154,7 @@ unfolding behind_line
 behind_short [] = omega arith
 behind_short (b ∷ t) = go (eqb b 10) (behind_short t)
   where
-    go : (x : Bool) → length (behind_line t) ≤ length t → length (if x then t else behind_line t) ≤ suc (length t)
+    go : (x : Bool) → length (behind_line t) ≤ length t → length (when x then t else behind_line t) ≤ suc (length t)
     go true h = omega arith
     go false h = omega arith
 
@@ -163,7 +163,7 @@ unfolding behind_line
 behind-less [] h = absurd (omega arith)
 behind-less (b ∷ t) h = go (eqb b 10)
   where
-    go : (x : Bool) → length (if x then t else behind_line t) < suc (length t)
+    go : (x : Bool) → length (when x then t else behind_line t) < suc (length t)
     go true = omega arith
     go false = omega (arith, behind_short t)
 

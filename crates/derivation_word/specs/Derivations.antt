@@ -1,6 +1,6 @@
 -- A derivation as data, and what a line leaves of it. Assumes nothing.
 use Rattle.std.specs.Prelude.{◌≡◌, Bool, true, false, List, ◌∷◌, ◌++◌, [], ℕ, ◌+◌, ◌≤◌, length, take}
-use Rattle.specification.specs.Results.{if◌then◌else◌}
+use Rattle.specification.specs.Results.{when◌then◌else◌}
 use Rattle.specification.specs.Rules as R
 use Rattle.specification.specs.Text.{Placed, refused_at, placed}
 use Rattle.specification.specs.Commands.{unopened, underway}
@@ -31,7 +31,7 @@ kinds_of d = take d.state.letters d.state.table
 -- a derivation: open or not yet
 unfoldable pub derivation_of : Derivation → C.Derivation
 derivation_of d =
-    if d.begun then underway (names_of d) (form_of d.first) (state_of d.state) (steps_of d.steps) else unopened (names_of d) (kinds_of d)
+    when d.begun then underway (names_of d) (form_of d.first) (state_of d.state) (steps_of d.steps) else unopened (names_of d) (kinds_of d)
 
 -- the forms and steps of an open one are in shape
 pub record Whole (d : Derivation) : Type 0 where

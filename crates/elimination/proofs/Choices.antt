@@ -19,7 +19,7 @@ use Rattle.algebra.specs.Integers.{NonZero}
 use Rattle.algebra.specs.Integers as R
 use Rattle.algebra.specs.Conditions.{eq-or-ne, lt_or_le}
 use Rattle.algebra.specs.Numbers.{below_more}
-use Rattle.specification.specs.Results.{if◌then◌else◌}
+use Rattle.specification.specs.Results.{when◌then◌else◌}
 use Rattle.specification.specs.Letters.{vector, kind_of}
 use Rattle.theory.specs.Elements.{All, all_implies, both_all}
 use Rattle.theory.specs.Values.Firsts.{Alike}
@@ -80,7 +80,7 @@ module _ (table : List ℕ) where
       both : (b c : Bool) → eqb (kind_of table (x / 3)) vector ≡ b → eqb (x % 3) 0 ≡ c → (b || c) ≡ true → most_of table x ≡ limit_of table x
       both b c p q h = most-limit table x b c p q h
 
-      go : (a b c : Bool) → ltb x (3 * length table) ≡ a → eqb (kind_of table (x / 3)) vector ≡ b → eqb (x % 3) 0 ≡ c → ◌≡◌ {A = ℕ} (if a && (b || c) then 0 else 1) 0
+      go : (a b c : Bool) → ltb x (3 * length table) ≡ a → eqb (kind_of table (x / 3)) vector ≡ b → eqb (x % 3) 0 ≡ c → ◌≡◌ {A = ℕ} (when a && (b || c) then 0 else 1) 0
           → (x < 3 * length table) × (most_of table x ≡ limit_of table x)
       go false b c p q r h = absurd (omega arith)
       go true true c p q r h = (ltb-true x (3 * length table) p, both true c q r refl)
@@ -189,7 +189,7 @@ unfolding lowest tally
 lowest-tally f zero k z = N.le_of_eq z
 lowest-tally f (suc n) k z = go (eqb (k % 256) 0) refl (lowest-tally f n (k / 256) z)
   where
-    go : (b : Bool) → eqb (k % 256) 0 ≡ b → f (lowest n (k / 256)) ≤ tally f n (k / 256) → f (if b then lowest n (k / 256) else k % 256) ≤ f (k % 256) + tally f n (k / 256)
+    go : (b : Bool) → eqb (k % 256) 0 ≡ b → f (lowest n (k / 256)) ≤ tally f n (k / 256) → f (when b then lowest n (k / 256) else k % 256) ≤ f (k % 256) + tally f n (k / 256)
     go true e ih = omega (arith, ih)
     go false e ih = omega arith
 
@@ -199,7 +199,7 @@ lesser_zero : (a b : ℕ) → lesser_of a b ≡ 0 → (a ≡ 0) × (b ≡ 0)
 unfolding lesser_of
 lesser_zero a b e = go (eqb a 0) (eqb b 0) (leb a b) refl refl e
   where
-    go : (x y z : Bool) → eqb a 0 ≡ x → eqb b 0 ≡ y → (if x then b else if y then a else if z then a else b) ≡ 0 → (a ≡ 0) × (b ≡ 0)
+    go : (x y z : Bool) → eqb a 0 ≡ x → eqb b 0 ≡ y → (when x then b else when y then a else when z then a else b) ≡ 0 → (a ≡ 0) × (b ≡ 0)
     go true y z p q e = (eqb-true a 0 p, e)
     go false true z p q e = absurd (eqb-false a 0 p e)
     go false false true p q e = absurd (eqb-false a 0 p e)
@@ -209,7 +209,7 @@ lesser_one : (P : ℕ → Type 0) (a b : ℕ) → P a → P b → P (lesser_of a
 unfolding lesser_of
 lesser_one P a b u v = go (eqb a 0) (eqb b 0) (leb a b)
   where
-    go : (x y z : Bool) → P (if x then b else if y then a else if z then a else b)
+    go : (x y z : Bool) → P (when x then b else when y then a else when z then a else b)
     go true y z = v
     go false true z = u
     go false false true = u
@@ -220,7 +220,7 @@ unfolding lesser_of
 lesser-most a b = go (eqb a 0) (eqb b 0) (leb a b) refl refl refl
   where
     go : (x y z : Bool) → eqb a 0 ≡ x → eqb b 0 ≡ y → leb a b ≡ z
-        → ((a ≡ 0) ⊎ ((if x then b else if y then a else if z then a else b) ≤ a)) × ((b ≡ 0) ⊎ ((if x then b else if y then a else if z then a else b) ≤ b))
+        → ((a ≡ 0) ⊎ ((when x then b else when y then a else when z then a else b) ≤ a)) × ((b ≡ 0) ⊎ ((when x then b else when y then a else when z then a else b) ≤ b))
     go true y z p q r = (inl (eqb-true a 0 p), inr (N.le_refl b))
     go false true z p q r = (inr (N.le_refl a), inl (eqb-true b 0 q))
     go false false true p q r = (inr (N.le_refl a), inr (leb-true a b r))
@@ -300,7 +300,7 @@ cleared_first table ms b₀ b b' e d w = record { same_length = w.same_length �
 
 -- how many digits are left at most
 unfoldable pub fall_of : (d : ℕ) → ℕ
-fall_of d = if eqb d 0 then 0 else 74 - d
+fall_of d = when eqb d 0 then 0 else 74 - d
 
 falls : (d d' : ℕ) → ¬ (d ≡ 0) → d ≤ 72 → (d' ≡ 0) ⊎ (suc d ≤ d') → fall_of d' < fall_of d
 unfolding fall_of

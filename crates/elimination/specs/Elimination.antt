@@ -2,7 +2,7 @@
 use Rattle.std.specs.Prelude.{◌≡◌, true, false, ◌&&◌, ◌||◌, ◌⊎◌, List, ℕ, zero, suc, ◌*◌, ◌/◌, ◌%◌, ◌^◌, ◌≤◌, ◌<◌, ltb, eqb, ℤ, pos, length, get_or, take, drop}
 use Rattle.specification.specs.Decision.{buffer_bytes, Before}
 use Rattle.algebra.specs.Integers.{NonZero}
-use Rattle.specification.specs.Results.{if◌then◌else◌}
+use Rattle.specification.specs.Results.{when◌then◌else◌}
 use Rattle.specification.specs.Letters.{vector, kind_of}
 use Rattle.theory.specs.Elements.{All}
 use Rattle.polynomials.specs.Keys.{Ordered, tally}
@@ -12,26 +12,26 @@ use Rattle.polynomials.specs.Summands.{Summand, total, size, substituted, is_som
 
 -- the largest number for a variable that a form can have: 6 for a component of a vector, 2 for a scalar
 unfoldable pub most_of : (table : List ℕ) (x : ℕ) → ℕ
-most_of table x = if eqb (kind_of table (x / 3)) vector then 6 else 2
+most_of table x = when eqb (kind_of table (x / 3)) vector then 6 else 2
 
 -- the largest number in an assignment: a scalar letter's other two are 0
 unfoldable pub limit_of : (table : List ℕ) (x : ℕ) → ℕ
-limit_of table x = if eqb (kind_of table (x / 3)) vector then 6 else if eqb (x % 3) 0 then 2 else 0
+limit_of table x = when eqb (kind_of table (x / 3)) vector then 6 else when eqb (x % 3) 0 then 2 else 0
 
 -- 1 for the digit of a component of a vector
 unfoldable pub vector_digit : (table : List ℕ) (digit : ℕ) → ℕ
 vector_digit table zero = 0
-vector_digit table (suc x) = if eqb (kind_of table (x / 3)) vector then 1 else 0
+vector_digit table (suc x) = when eqb (kind_of table (x / 3)) vector then 1 else 0
 
 -- 1 for the digit of a scalar letter
 unfoldable pub scalar_digit : (table : List ℕ) (digit : ℕ) → ℕ
 scalar_digit table zero = 0
-scalar_digit table (suc x) = if eqb (kind_of table (x / 3)) vector then 0 else 1
+scalar_digit table (suc x) = when eqb (kind_of table (x / 3)) vector then 0 else 1
 
 -- 1 for a digit that is no variable of a form
 unfoldable pub strange_digit : (table : List ℕ) (digit : ℕ) → ℕ
 strange_digit table zero = 0
-strange_digit table (suc x) = if ltb x (3 * length table) && (eqb (kind_of table (x / 3)) vector || eqb (x % 3) 0) then 0 else 1
+strange_digit table (suc x) = when ltb x (3 * length table) && (eqb (kind_of table (x / 3)) vector || eqb (x % 3) 0) then 0 else 1
 
 -- a key that forms make: in order, with at most v variables of vectors and s of scalars
 pub record Has (table : List ℕ) (v s : ℕ) (key : ℕ) : Type 0 where

@@ -11,7 +11,7 @@ use lib.IntN.{ℤ, pos, negsuc, neg_ℤ, nat_abs, ◌+ℤ◌, ◌-ℤ◌, ◌*�
 use lib.ListN.{length, get_or}
 use lib.Pow.{pow-add}
 use borrow.Author.Tests.{lt-ltb, le-ltb, leb-true}
-use Rattle.specification.specs.Results.{if◌then◌else◌}
+use Rattle.specification.specs.Results.{when◌then◌else◌}
 use Rattle.specification.specs.Lists.{all}
 use Rattle.specification.specs.Terms.{Term, coef_within, vector_letters_of, scalar_letters_of, term_in_shape}
 use Rattle.specification.specs.Values.{Vec, dot, wedge}
@@ -33,7 +33,7 @@ byte_small : (b : ℕ) → T (six_or_less b) → nat_abs (signed_byte b) ≤ 6
 unfolding six_or_less signed_byte
 byte_small b t = go (leb b 6) refl (leb 250 b) refl t
   where
-    go : (p : Bool) → leb b 6 ≡ p → (q : Bool) → leb 250 b ≡ q → T (p || q) → nat_abs (if ltb b 128 then pos b else negsuc (255 - b)) ≤ 6
+    go : (p : Bool) → leb b 6 ≡ p → (q : Bool) → leb 250 b ≡ q → T (p || q) → nat_abs (when ltb b 128 then pos b else negsuc (255 - b)) ≤ 6
     go true e q f t = let h : b ≤ 6 = leb-true b 6 e in rw (lt-ltb b 128 (omega arith)) h
     go false e true f t = let h : 250 ≤ b = leb-true 250 b f in rw (le-ltb b 128 (omega arith)) (omega arith)
     go false e false f t = absurd t
@@ -98,7 +98,7 @@ letters-most v s h g = N.mul-le-mul (N.pow-le-pow_right (omega arith) h) (N.pow-
 
 module _ (σ : ℕ → Vec) (small : (n : ℕ) → Within 6 (σ n)) where
   -- a factor
-  factor-small : (f : List ℕ) → OneToThree f → nat_abs (factor_value σ f) ≤ 11 ^ (if eqb (length f) 1 then 0 else length f) * 6 ^ (if eqb (length f) 1 then 1 else 0)
+  factor-small : (f : List ℕ) → OneToThree f → nat_abs (factor_value σ f) ≤ 11 ^ (when eqb (length f) 1 then 0 else length f) * 6 ^ (when eqb (length f) 1 then 1 else 0)
   unfolding factor_value
   factor-small [] o = absurd (omega (arith, o.0))
   factor-small (a ∷ []) o = omega (arith, (small a).x)
@@ -111,7 +111,7 @@ module _ (σ : ℕ → Vec) (small : (n : ℕ) → Within 6 (σ n)) where
   unfolding factors_value vector_letters_of scalar_letters_of
   factors-small [] o = N.le_refl 1
   factors-small (f ∷ fs) o =
-      rw (← letters-joined (if eqb (length f) 1 then 0 else length f) (if eqb (length f) 1 then 1 else 0) (vector_letters_of fs) (scalar_letters_of fs))
+      rw (← letters-joined (when eqb (length f) 1 then 0 else length f) (when eqb (length f) 1 then 1 else 0) (vector_letters_of fs) (scalar_letters_of fs))
       (product_small (factor_value σ f) (factors_value σ fs) _ _ (factor-small f o.0) (factors-small fs o.1))
 
   -- a vector part

@@ -7,7 +7,7 @@ use native.Mathlib.Omega.{arith}
 use borrow.Author.Tests.{lt-ltb, le-ltb, le-leb, lt-leb, eq-eqb, ne_eqb}
 use lib.Dec.{ltb, leb, eqb, leb→le}
 use lib.ListN.{length, get_or}
-use Rattle.specification.specs.Results.{Result, Test, refused, given, ◌>>◌, require, if◌then◌else◌}
+use Rattle.specification.specs.Results.{Result, Test, refused, given, ◌>>◌, require, when◌then◌else◌}
 use Rattle.specification.specs.Letters.{kind_of}
 use Rattle.specification.specs.Records.{four_bytes_at}
 use Rattle.specification.specs.Expressions.{Expr, Letter, Constant, Sum, Difference, Negation, Times, Dot, Wedge, Triple, Token, leaf, one, two, three, token_bytes, test_bytes, read_letter, read_token}
@@ -25,15 +25,15 @@ more n = suc (suc (suc (suc (suc (suc (suc (suc (suc (suc n)))))))))
 -- the tests of a token's number in their order, over what a letter and a constant give
 unfoldable pub chain : (token : ℕ) → Result Token → Expr → Result Token
 chain token letter constant =
-    if eqb token 1 then letter else
-    if eqb token 2 then given (leaf constant) else
-    if eqb token 3 then given (two Sum) else
-    if eqb token 4 then given (two Difference) else
-    if eqb token 5 then given (one Negation) else
-    if eqb token 6 then given (two Times) else
-    if eqb token 7 then given (two Dot) else
-    if eqb token 8 then given (two Wedge) else
-    if eqb token 9 then given (three Triple) else
+    when eqb token 1 then letter else
+    when eqb token 2 then given (leaf constant) else
+    when eqb token 3 then given (two Sum) else
+    when eqb token 4 then given (two Difference) else
+    when eqb token 5 then given (one Negation) else
+    when eqb token 6 then given (two Times) else
+    when eqb token 7 then given (two Dot) else
+    when eqb token 8 then given (two Wedge) else
+    when eqb token 9 then given (three Triple) else
     refused 4
 
 -- as the specification reads a token
@@ -223,7 +223,7 @@ one_byte : (token : ℕ) → 1 ≤ token_bytes token
 unfolding token_bytes
 one_byte token = go (eqb token 1) (eqb token 2)
   where
-    go : (a b : Bool) → 1 ≤ (if a then 2 else if b then 5 else 1)
+    go : (a b : Bool) → 1 ≤ (when a then 2 else when b then 5 else 1)
     go true b = omega arith
     go false true = omega arith
     go false false = omega arith

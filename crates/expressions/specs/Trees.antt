@@ -1,6 +1,6 @@
 -- Tokens by their operands, the tests at a tree, and what a tree gives when it is read and worked at once. Assumes nothing.
 use Rattle.std.specs.Prelude.{◌≡◌, ◌&&◌, List, ℕ, ◌+◌, ◌≤◌, leb, eqb, ℤ, length, get_or}
-use Rattle.specification.specs.Results.{Result, Test, refused, given, ◌>>=◌, ◌>>◌, require, if◌then◌else◌}
+use Rattle.specification.specs.Results.{Result, Test, refused, given, ◌>>=◌, ◌>>◌, require, when◌then◌else◌}
 use Rattle.specification.specs.Terms.{Form}
 use Rattle.specification.specs.Expressions.{Expr, token_bytes, test_bytes, read_token, read_operands, read_tree}
 use Rattle.specification.specs.Reduction.{negate_form, sum_forms, times_forms, dot_forms, wedge_forms, triple_forms, work}
@@ -13,7 +13,7 @@ use Rattle.expressions.specs.declared.trees.Tree.{Tree}
 -- how many operands a token has: none for a leaf and for an unknown token
 unfoldable pub operand_count : (token : ℕ) → ℕ
 operand_count token =
-    if eqb token 5 then 1 else if leb 3 token && leb token 8 then 2 else if eqb token 9 then 3 else 0
+    when eqb token 5 then 1 else when leb 3 token && leb token 8 then 2 else when eqb token 9 then 3 else 0
 
 -- "unknown token (4), letter (5)"
 unfoldable pub test_token : (table s : List ℕ) (at : ℕ) → Test
@@ -30,7 +30,7 @@ test_head depth table s at = do
 
 -- a form in rows, or the refusal where its number is not 0
 unfoldable pub worked_of : Worked → (rows : List (List ℕ)) (coefs : List ℤ) → Result Form
-worked_of w rows coefs = if eqb w.refusal 0 then given (form_by w.kind w.count rows coefs) else refused w.refusal
+worked_of w rows coefs = when eqb w.refusal 0 then given (form_by w.kind w.count rows coefs) else refused w.refusal
 
 -- a result whose form is in shape, if it is one
 unfoldable pub Sound : Worked → (rows : List (List ℕ)) (coefs : List ℤ) → Type 0
@@ -39,11 +39,11 @@ Sound w rows coefs = w.refusal ≡ 0 → FormRun w.kind w.count rows coefs
 -- the operator of a token with two operands
 unfoldable pub binary : (token : ℕ) (f g : Form) → Result Form
 binary token f g =
-    if eqb token 3 then sum_forms f g else
-    if eqb token 4 then sum_forms f (negate_form g) else
-    if eqb token 6 then times_forms f g else
-    if eqb token 7 then dot_forms f g else
-    if eqb token 8 then wedge_forms f g else
+    when eqb token 3 then sum_forms f g else
+    when eqb token 4 then sum_forms f (negate_form g) else
+    when eqb token 6 then times_forms f g else
+    when eqb token 7 then dot_forms f g else
+    when eqb token 8 then wedge_forms f g else
     refused 4
 
 -- the negation of a result

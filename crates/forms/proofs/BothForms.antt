@@ -5,7 +5,7 @@ use mathlib.Core.Bool.{Bool, true, false}
 use Prim.Native.Nat.{ℕ}
 use lib.Dec.{eqb}
 use borrow.Author.Tests.{eqb-true, eq-eqb, ne_eqb}
-use Rattle.specification.specs.Results.{Result, Test, refused, given, ◌>>=◌, ◌>>◌, if◌then◌else◌}
+use Rattle.specification.specs.Results.{Result, Test, refused, given, ◌>>=◌, ◌>>◌, when◌then◌else◌}
 use Rattle.specification.specs.Terms as S
 use Rattle.specification.specs.Records.{read_form, test_terms, take_both}
 use Rattle.theory.specs.Tests.{tested, refused≢given}
@@ -19,11 +19,11 @@ use Rattle.forms.specs.declared.Both.{Both}
 use Rattle.forms.specs.Reading.{WholeRead, both_of, BothRead}
 
 -- what is given where a number is 0 is a test, then that
-tested_first_lem : {P : Type 0} (n : ℕ) (a : P) → ◌≡◌ {A = Result P} (if eqb n 0 then given a else refused n) (test_of n >> given a)
+tested_first_lem : {P : Type 0} (n : ℕ) (a : P) → ◌≡◌ {A = Result P} (when eqb n 0 then given a else refused n) (test_of n >> given a)
 unfolding test_of
 tested_first_lem {P} n a = go (eqb n 0)
   where
-    go : (b : Bool) → ◌≡◌ {A = Result P} (if b then given a else refused n) (if◌then◌else◌ {A = Test} b (given tt) (refused n) >> given a)
+    go : (b : Bool) → ◌≡◌ {A = Result P} (when b then given a else refused n) (when◌then◌else◌ {A = Test} b (given tt) (refused n) >> given a)
     go true = refl
     go false = refl
 
@@ -53,7 +53,7 @@ passed_zero : (n : ℕ) → test_of n ≡ given tt → n ≡ 0
 unfolding test_of
 passed_zero n = go (eqb n 0) refl
   where
-    go : (b : Bool) → eqb n 0 ≡ b → ◌≡◌ {A = Test} (if b then given tt else refused n) (given tt) → n ≡ 0
+    go : (b : Bool) → eqb n 0 ≡ b → ◌≡◌ {A = Test} (when b then given tt else refused n) (given tt) → n ≡ 0
     go true e h = eqb-true n 0 e
     go false e h = absurd (refused≢given h)
 

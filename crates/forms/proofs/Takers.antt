@@ -8,7 +8,7 @@ use lib.Dec.{leb, eqb}
 use lib.ListN.{length, get_or, take, set}
 use borrow.Author.Tests.{le-leb, lt-leb, eq-eqb, ne_eqb, eqb-true, eqb-false}
 use Rattle.specification.specs.Lists.{is_less, follows}
-use Rattle.specification.specs.Results.{Result, Test, refused, given, ◌>>=◌, ◌>>◌, require, if◌then◌else◌}
+use Rattle.specification.specs.Results.{Result, Test, refused, given, ◌>>=◌, ◌>>◌, require, when◌then◌else◌}
 use Rattle.specification.specs.Terms.{term_kind, term_before, compare_terms}
 use Rattle.specification.specs.Terms as S
 use Rattle.specification.specs.Records.{read_term_at, part_fits, read_terms, read_form_at, read_form, test_terms, take_form}
@@ -239,7 +239,7 @@ module _ (t s : List ℕ) (w : Outcome) (e : WholeRead (read_form s) w) where
       let z : read_form s ≡ given (form_of w.form) = sym e.is ∙ rw (eq-eqb w.refusal 0 h) in
       record { is = rw z (answer (eqb c 0) refl); valid = λ g. e.valid h }
     where
-      answer : (b : Bool) → eqb c 0 ≡ b → (if eqb c 0 then given (form_of w.form) else refused c) ≡ (test_terms t (form_of w.form).terms >> given (form_of w.form))
+      answer : (b : Bool) → eqb c 0 ≡ b → (when eqb c 0 then given (form_of w.form) else refused c) ≡ (test_terms t (form_of w.form).terms >> given (form_of w.form))
       answer true u = rw u (ap (λ (z : Test). z >> given (form_of w.form)) (sym (tests u)))
         where
           tests : eqb c 0 ≡ true → test_terms t (terms_of w.form) ≡ given tt

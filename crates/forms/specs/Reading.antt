@@ -1,6 +1,6 @@
 -- What the readers of forms say. Assumes nothing.
 use Rattle.std.specs.Prelude.{Bool, true, ◌&&◌, ◌≡◌, List, ℕ, eqb}
-use Rattle.specification.specs.Results.{Result, refused, given, ◌>>=◌, ◌>>◌, require, if◌then◌else◌}
+use Rattle.specification.specs.Results.{Result, refused, given, ◌>>=◌, ◌>>◌, require, when◌then◌else◌}
 use Rattle.specification.specs.Terms.{term_before}
 use Rattle.specification.specs.Terms as S
 use Rattle.specification.specs.Records.{read_term_at, part_fits}
@@ -15,11 +15,11 @@ use Rattle.terms.specs.declared.types.Outcome.{Outcome}
 
 -- the terms read so far
 unfoldable pub terms_read_of : FormReading → Result (List S.Term × ℕ)
-terms_read_of r = if r.ok then given (terms_of r.form, r.next) else refused 11
+terms_read_of r = when r.ok then given (terms_of r.form, r.next) else refused 11
 
 -- a term comes behind the last of so many
 unfoldable pub behind_last : ℕ → S.Term → S.Term → Bool
-behind_last n last t = if eqb n 0 then true else term_before last t
+behind_last n last t = when eqb n 0 then true else term_before last t
 
 -- the term at a position, of a form's kind and behind the last of so many
 unfoldable pub read_behind : (kind n : ℕ) (last : S.Term) (s : List ℕ) (at : ℕ) → Result (S.Term × ℕ)
@@ -36,7 +36,7 @@ pub record TermsTaken (read : Result (List S.Term × ℕ)) (k n : ℕ) (q : Form
 
 -- what was read of a form, and the position behind it
 unfoldable pub form_read_of : FormReading → Result (S.Form × ℕ)
-form_read_of r = if r.ok then given (form_of r.form, r.next) else refused 11
+form_read_of r = when r.ok then given (form_of r.form, r.next) else refused 11
 
 -- a form read
 pub record FormRead (read : Result (S.Form × ℕ)) (q : FormReading) : Type 0 where
@@ -51,7 +51,7 @@ pub record WholeRead (read : Result S.Form) (r : Outcome) : Type 0 where
 
 -- both forms, or the refusal where its number is not 0
 unfoldable pub both_of : Both → Result (S.Form × S.Form)
-both_of r = if eqb r.refusal 0 then given (form_of r.first, form_of r.second) else refused r.refusal
+both_of r = when eqb r.refusal 0 then given (form_of r.first, form_of r.second) else refused r.refusal
 
 -- two forms taken together; where they are, valid ones
 pub record BothRead (read : Result (S.Form × S.Form)) (r : Both) : Type 0 where

@@ -9,7 +9,7 @@ use lib.Dec.{leb, eqb}
 use lib.IntN.{ℤ}
 use lib.ListN.{length, set}
 use lib.Seq.{set_split}
-use Rattle.specification.specs.Results.{Result, Test, refused, given, if◌then◌else◌}
+use Rattle.specification.specs.Results.{Result, Test, refused, given, when◌then◌else◌}
 use Rattle.specification.specs.Letters.{test_table}
 use Rattle.specification.specs.Terms as S
 use Rattle.specification.specs.Records.{form_bytes, write_form}
@@ -43,8 +43,8 @@ placed-again : (w : Worked) (column : ℕ) (rows : List (List ℕ)) (coefs : Lis
 unfolding placed_of unplaced at_column
 placed-again w column rows coefs = go (eqb w.refusal 0)
   where
-    go : (b : Bool) → (if b then placed (form_by w.kind w.count rows coefs) else refused_at w.refusal column)
-        ≡ at_column column (unplaced (if b then placed (form_by w.kind w.count rows coefs) else refused_at w.refusal column))
+    go : (b : Bool) → (when b then placed (form_by w.kind w.count rows coefs) else refused_at w.refusal column)
+        ≡ at_column column (unplaced (when b then placed (form_by w.kind w.count rows coefs) else refused_at w.refusal column))
     go true = refl
     go false = refl
 
@@ -59,8 +59,8 @@ module _ (column : ℕ) (o : Outcome) (r : TextForm) (hr : r.refusal ≡ o.refus
   unfolding text_form_of outcome_of at_column
   columned = (λ i. text_form_of (record { refusal = hr i; column = hc i; form = hf i })) ∙ go (eqb o.refusal 0)
     where
-      go : (b : Bool) → (if b then placed (form_of o.form) else refused_at o.refusal column)
-          ≡ at_column column (if b then given (form_of o.form) else refused o.refusal)
+      go : (b : Bool) → (when b then placed (form_of o.form) else refused_at o.refusal column)
+          ≡ at_column column (when b then given (form_of o.form) else refused o.refusal)
       go true = refl
       go false = refl
 

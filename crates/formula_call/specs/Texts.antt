@@ -1,6 +1,6 @@
 -- The form of a text by value, or its refusal at its column. Assumes nothing.
 use Rattle.std.specs.Prelude.{◌≡◌, eqb}
-use Rattle.specification.specs.Results.{if◌then◌else◌}
+use Rattle.specification.specs.Results.{when◌then◌else◌}
 use Rattle.specification.specs.Terms as S
 use Rattle.specification.specs.Text.{Placed, refused_at, placed}
 use Rattle.terms.specs.Abstraction.{form_of}
@@ -9,7 +9,7 @@ use Rattle.formula_call.specs.declared.TextForm.{TextForm}
 
 -- a form, or the refusal at its column where its number is not 0
 unfoldable pub text_form_of : TextForm → Placed S.Form
-text_form_of r = if eqb r.refusal 0 then placed (form_of r.form) else refused_at r.refusal r.column
+text_form_of r = when eqb r.refusal 0 then placed (form_of r.form) else refused_at r.refusal r.column
 
 -- the form of a text or its refusal; where it is one, a valid one
 pub record TextGives (x : Placed S.Form) (r : TextForm) : Type 0 where

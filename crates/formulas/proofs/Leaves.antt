@@ -11,7 +11,7 @@ use lib.ListN.{length, get_or}
 use mir.Syntax.{w64}
 use mir.Val.{to_z}
 use mir.ValLaws.{to_z_pos}
-use Rattle.specification.specs.Results.{given, if◌then◌else◌}
+use Rattle.specification.specs.Results.{given, when◌then◌else◌}
 use Rattle.specification.specs.Letters.{kind_of}
 use Rattle.specification.specs.Terms.{Form}
 use Rattle.specification.specs.Reduction.{letter_form, constant_form, triple_forms}
@@ -71,7 +71,7 @@ module _ (s : List ℕ) (at : ℕ) (d : Number) (h : NumberRead s at d) where
       number : ℕ
       number = (read_digits (length s) 0 s at).0
 
-      go : (b : Bool) → (b ≡ true → number ≤ 2147483647) → d.value ≡ (if b then number else 2147483648) → nat_abs (pos d.value) < 2 ^ 63
+      go : (b : Bool) → (b ≡ true → number ≤ 2147483647) → d.value ≡ (when b then number else 2147483648) → nat_abs (pos d.value) < 2 ^ 63
       go true f e = omega (arith, f refl, e)
       go false f e = omega (arith, e)
 
@@ -83,7 +83,7 @@ module _ (s : List ℕ) (at : ℕ) (d : Number) (h : NumberRead s at d) where
       number : ℕ
       number = (read_digits (length s) 0 s at).0
 
-      go : (b : Bool) → leb number 2147483647 ≡ b → d.value ≡ (if b then number else 2147483648) → constant_form (pos d.value) ≡ constant_form (pos number)
+      go : (b : Bool) → leb number 2147483647 ≡ b → d.value ≡ (when b then number else 2147483648) → constant_form (pos d.value) ≡ constant_form (pos number)
       go true f e = ap (λ (k : ℕ). constant_form (pos k)) e
       go false f e =
           ap (λ (k : ℕ). constant_form (pos k)) e ∙ beyond_refused 2147483648 (omega arith) ∙ sym (beyond_refused number (leb-false number 2147483647 f))
@@ -148,7 +148,7 @@ unfolding way_name
 name-behind names table s at r rows coefs h e = go (ltb (place_of names (get_or s at 0)) (length names)) (h.is ∙ way_read r rows coefs e)
   where
     go : (b : Bool)
-        → ◌≡◌ {A = Way} (if b then placed (placed (letter_form (place_of names (get_or s at 0)) (kind_of table (place_of names (get_or s at 0)))), next s at) else refused_at 5 at)
+        → ◌≡◌ {A = Way} (when b then placed (placed (letter_form (place_of names (get_or s at 0)) (kind_of table (place_of names (get_or s at 0)))), next s at) else refused_at 5 at)
         (placed (placed_of r.work r.column rows coefs, r.next)) → r.next ≡ next s at
     go true q = let z : ◌≡◌ {A = Placed Form × ℕ} (placed (letter_form (place_of names (get_or s at 0)) (kind_of table (place_of names (get_or s at 0)))), next s at)
         (placed_of r.work r.column rows coefs, r.next) = cc in sym (ap (λ (w : Placed Form × ℕ). w.1) z)

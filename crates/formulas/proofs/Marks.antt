@@ -6,7 +6,7 @@ use Prim.Native.Nat.{ℕ, zero, suc, ◌≤◌, ◌<◌}
 use borrow.Author.Tests.{eq-eqb, ne_eqb, le-leb, lt-leb}
 use lib.Dec.{eqb}
 use lib.ListN.{length, get_or}
-use Rattle.specification.specs.Results.{if◌then◌else◌}
+use Rattle.specification.specs.Results.{when◌then◌else◌}
 use Rattle.specification.specs.Text.{is_letter, is_digit, is_factor, is_sign, next, factor_at}
 use Rattle.theory.specs.Text.OnTheWay.{goes_on, most_of, isFront, operand_at, front_at}
 use Rattle.theory.specs.Text.Turns.{byte-there}
@@ -88,7 +88,7 @@ nothing-goes : (level : ℕ) → goes_on level 0 ≡ false
 unfolding goes_on is_factor is_sign is_letter
 nothing-goes level = go (eqb level 1) (eqb level 2) (eqb level 3)
   where
-    go : (a b c : Bool) → (if a then false else if b then false else if c then false else false) ≡ false
+    go : (a b c : Bool) → (when a then false else when b then false else when c then false else false) ≡ false
     go true b c = refl
     go false true c = refl
     go false false true = refl

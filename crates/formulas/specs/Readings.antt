@@ -1,6 +1,6 @@
 -- What was read, as an answer on the way: reading's refusal with its column, or what working gave in lent rows and the position behind. Assumes nothing.
 use Rattle.std.specs.Prelude.{◌≡◌, List, ℕ, ◌≤◌, eqb, ℤ, length}
-use Rattle.specification.specs.Results.{if◌then◌else◌}
+use Rattle.specification.specs.Results.{when◌then◌else◌}
 use Rattle.specification.specs.Terms.{Form}
 use Rattle.specification.specs.Text.{Placed, refused_at, placed, ◌>>=◌, next}
 use Rattle.theory.specs.Text.OnTheWay.{Way, join_at, triple_at, operates, fronted, way_closed}
@@ -15,11 +15,11 @@ pub record Named (names table : List ℕ) : Type 0 where
 
 -- what working gave: a form in rows, or its refusal at a column
 unfoldable pub placed_of : (w : Worked) (column : ℕ) (rows : List (List ℕ)) (coefs : List ℤ) → Placed Form
-placed_of w column rows coefs = if eqb w.refusal 0 then placed (form_by w.kind w.count rows coefs) else refused_at w.refusal column
+placed_of w column rows coefs = when eqb w.refusal 0 then placed (form_by w.kind w.count rows coefs) else refused_at w.refusal column
 
 -- the answer
 unfoldable pub way_of : (r : Reading) (rows : List (List ℕ)) (coefs : List ℤ) → Way
-way_of r rows coefs = if eqb r.unread 0 then placed (placed_of r.work r.column rows coefs, r.next) else refused_at r.unread r.column
+way_of r rows coefs = when eqb r.unread 0 then placed (placed_of r.work r.column rows coefs, r.next) else refused_at r.unread r.column
 
 -- reading refused
 pub record Refused (n column : ℕ) (r : Reading) : Type 0 where
@@ -75,7 +75,7 @@ pub record ClosedAs (s : List ℕ) (r q : Reading) : Type 0 where
 
 -- the whole text: what reading or working refused with its column, or the form in rows
 unfoldable pub text_of : (r : Reading) (rows : List (List ℕ)) (coefs : List ℤ) → Placed Form
-text_of r rows coefs = if eqb r.unread 0 then placed_of r.work r.column rows coefs else refused_at r.unread r.column
+text_of r rows coefs = when eqb r.unread 0 then placed_of r.work r.column rows coefs else refused_at r.unread r.column
 
 -- it is this answer; a form is in shape
 pub record TextRead (x : Placed Form) (r : Reading) (rows : List (List ℕ)) (coefs : List ℤ) : Type 0 where

@@ -14,7 +14,7 @@ use borrow.Author.Tests.{lt-ltb, le-ltb, ltb-true, ltb-false}
 use mir.Syntax.{w64}
 use mir.Val.{SFits, to_z}
 use mir.ValLaws.{to_z_pos}
-use Rattle.specification.specs.Results.{if◌then◌else◌}
+use Rattle.specification.specs.Results.{when◌then◌else◌}
 use Rattle.specification.specs.Records.{to_bits32, from_bits32, four_bytes}
 use Rattle.algebra.specs.Integers.{sfits-sum}
 use Rattle.integers.specs.Over.{over}
@@ -49,7 +49,7 @@ pub from_bits-bound : {u : ℕ} → u < 4294967296 → nat_abs (from_bits32 u) �
 unfolding from_bits32
 from_bits-bound {u} h = go (ltb u 2147483648) refl
   where
-    go : (t : Bool) → ltb u 2147483648 ≡ t → nat_abs (if t then pos u else negsuc (4294967295 - u)) ≤ 2147483648
+    go : (t : Bool) → ltb u 2147483648 ≡ t → nat_abs (when t then pos u else negsuc (4294967295 - u)) ≤ 2147483648
     go true e = omega (arith, ltb-true u 2147483648 e)
     go false e = omega (arith, ltb-false u 2147483648 e)
 

@@ -9,7 +9,7 @@ use lib.ListN.{length, get_or, take, drop, drop_of_length-le}
 use lib.Seq.{drop-cons}
 use borrow.Author.Tests.{lt-ltb, le-ltb, le-leb, lt-leb, eq-eqb, ne_eqb}
 use Rattle.specification.specs.Lists.{all}
-use Rattle.specification.specs.Results.{Test, refused, given, ◌>>◌, if◌then◌else◌}
+use Rattle.specification.specs.Results.{Test, refused, given, ◌>>◌, when◌then◌else◌}
 use Rattle.specification.specs.Letters.{scalar, vector, kind_of, is_kind, good_table, test_table, test_letter, test_letters}
 use Rattle.specification.specs.Records.{test_factors, test_term, test_terms}
 use Rattle.terms.specs.declared.factors.Factor.{Factor}
@@ -114,7 +114,7 @@ module _ (t : List ℕ) (kind x : ℕ) where
 
 module _ (t : List ℕ) (k : ℕ) (f : Factor) (e : factor_of f ≡ letters_of k) (r : ℕ) where
   abbrev FactorTest : Test
-  FactorTest = test_letters t (if eqb (length (letters_of k)) 1 then scalar else vector) (letters_of k)
+  FactorTest = test_letters t (when eqb (length (letters_of k)) 1 then scalar else vector) (letters_of k)
 
   pub factor_one : (x : ℕ) → f ≡ Scalar x → test_of r ≡ test_letter t scalar x → test_of r ≡ FactorTest
   factor_one x h w = rw (scalar_is k f e x h) (letters_one t scalar x r w)
@@ -145,7 +145,7 @@ module _ (t f : List ℕ) (n i r : ℕ) (rest : Test) (fl : n ≤ length f) wher
   abbrev From : ℕ → Test
   From j = test_factors t (map letters_of (drop j (take n f))) >> rest
 
-  module _ (h : i < n) (e : test_of r ≡ test_letters t (if eqb (length (letters_of (get_or f i 0))) 1 then scalar else vector) (letters_of (get_or f i 0))) where
+  module _ (h : i < n) (e : test_of r ≡ test_letters t (when eqb (length (letters_of (get_or f i 0))) 1 then scalar else vector) (letters_of (get_or f i 0))) where
     pub factor-stops : (r ≡ 0 → ⊥) → test_of r ≡ From i
     unfolding test_factors
     factor-stops g = rw (rest_at f n i 0 fl h) (stops r _ rest (stops r _ (test_factors t (map letters_of (drop (i + 1) (take n f)))) e g) g)

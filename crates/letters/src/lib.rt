@@ -2,7 +2,7 @@
 #![tactic(auto)]
 
 ghost use Rattle.std.specs.Prelude.{◌≡◌, [], ◌∷◌, ◌<◌, eqb, length};
-ghost use Rattle.specification.specs.Results.{if◌then◌else◌};
+ghost use Rattle.specification.specs.Results.{when◌then◌else◌};
 ghost use Rattle.specification.specs.Letters.{scalar, vector, kind_of, test_table, test_letter, test_letters};
 ghost use Rattle.specification.specs.Records.{test_term, test_terms};
 ghost use Rattle.terms.specs.Numbers.{letters_of};
@@ -91,7 +91,7 @@ fn test_three(table: &[u8], x: u8, y: u8, z: u8) -> u8
 // The letters of a factor: one is scalar, those of dots and triples are vectors.
 fn test_factor(table: &[u8], k: u32) -> u8
     requires { k < 16843008 }
-    ensures { test_of result ≡ test_letters table.now (if eqb (length (letters_of k)) 1 then scalar else vector) (letters_of k) }
+    ensures { test_of result ≡ test_letters table.now (when eqb (length (letters_of k)) 1 then scalar else vector) (letters_of k) }
 {
     let f = letters_of(k);
     match f {

@@ -10,7 +10,7 @@ use lib.Dec.{T, eqb, ltb, ltb→lt, nltb→le}
 use lib.ListN.{length, get_or, take, drop, length-drop, drop_of_length-le}
 use lib.Seq.{drop-cons, drop-length, take-suc, get_or-drop}
 use Rattle.specification.specs.Lists.{all}
-use Rattle.specification.specs.Results.{if◌then◌else◌}
+use Rattle.specification.specs.Results.{when◌then◌else◌}
 use Rattle.specification.specs.Lines as L
 use Rattle.specification.specs.Lines.{first_line, behind_line, line_of, next_line, is_empty_line, at_end, past_empty, to_line}
 use Rattle.lines.specs.declared.places.Place.{Place}
@@ -141,7 +141,7 @@ end-stops zero n = refl
 end-stops (suc k) n = refl
 
 -- one line, where there is one
-one_turn : (k : ℕ) (p : L.Place) → 0 < k → (p.1 ≡ [] → ⊥) → past_empty k p ≡ (if is_empty_line (line_of p) then past_empty (k - 1) (next_line p) else p)
+one_turn : (k : ℕ) (p : L.Place) → 0 < k → (p.1 ≡ [] → ⊥) → past_empty k p ≡ (when is_empty_line (line_of p) then past_empty (k - 1) (next_line p) else p)
 unfolding past_empty at_end
 one_turn zero p h n = absurd (omega arith)
 one_turn (suc k) p h n =
@@ -185,16 +185,16 @@ module _ (s : List ℕ) (first : L.Place) (q : Place) (left : ℕ) (h : PassingF
     -- another line stands
     pub passing-stands : t ≡ false → Reached s (to_line first) q
     passing-stands z =
-        record { is = sym (ap (λ (b : Bool). if b then past_empty (left - 1) (next_line (place_of s q)) else place_of s q) (sym e ∙ z)) ∙ sym (turn left k) ∙ h.same; inside = h.inside }
+        record { is = sym (ap (λ (b : Bool). when b then past_empty (left - 1) (next_line (place_of s q)) else place_of s q) (sym e ∙ z)) ∙ sym (turn left k) ∙ h.same; inside = h.inside }
       where
-        turn : (n : ℕ) → 0 < n → past_empty n (place_of s q) ≡ (if is_empty_line (line_of (place_of s q)) then past_empty (n - 1) (next_line (place_of s q)) else place_of s q)
+        turn : (n : ℕ) → 0 < n → past_empty n (place_of s q) ≡ (when is_empty_line (line_of (place_of s q)) then past_empty (n - 1) (next_line (place_of s q)) else place_of s q)
         turn n z = one_turn n (place_of s q) z (λ w. omega (arith, length-drop q.at s, ap length w))
 
     -- an empty one is passed
     pub passing_on : (r : Place) → t ≡ true → Reached s (next_line (place_of s q)) r → PassingFrom s first r (left - 1)
     passing_on r z n = record {
       same = ap (past_empty (left - 1)) n.is
-          ∙ ap (λ (b : Bool). if b then past_empty (left - 1) (next_line (place_of s q)) else place_of s q) (sym z ∙ e)
+          ∙ ap (λ (b : Bool). when b then past_empty (left - 1) (next_line (place_of s q)) else place_of s q) (sym z ∙ e)
           ∙ sym (one_turn left (place_of s q) k (λ w. omega (arith, length-drop q.at s, ap length w)))
           ∙ h.same;
       inside = n.inside;

@@ -9,7 +9,7 @@ use borrow.Author.Tests.{eq-eqb, ne_eqb}
 use lib.Dec.{eqb}
 use lib.ListN.{length, get_or, take, drop, drop_of_length-le}
 use lib.Seq.{drop-cons, take_at, length-take-le}
-use Rattle.specification.specs.Results.{if◌then◌else◌}
+use Rattle.specification.specs.Results.{when◌then◌else◌}
 use Rattle.specification.specs.Letters.{scalar}
 use Rattle.specification.specs.Words.{bytes}
 use Rattle.specification.specs.Records.{write_into}
@@ -47,7 +47,7 @@ pub kinds_word_lem : (kind : ℕ) → kind_word kind ++ 115 ∷ [] ≡ kinds_wor
 unfolding kind_word kinds_word bytes
 kinds_word_lem kind = go (eqb kind scalar)
   where
-    go : (b : Bool) → (if b then bytes "scalar" else bytes "vector") ++ 115 ∷ [] ≡ (if b then bytes "scalars" else bytes "vectors")
+    go : (b : Bool) → (when b then bytes "scalar" else bytes "vector") ++ 115 ∷ [] ≡ (when b then bytes "scalars" else bytes "vectors")
     go true = refl
     go false = refl
 

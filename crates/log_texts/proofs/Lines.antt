@@ -8,7 +8,7 @@ use native.Mathlib.Numerals.{sub-one}
 use borrow.Author.Tests.{eq-eqb, ne_eqb}
 use lib.Dec.{T, ltb, ltb→lt, nltb→le}
 use lib.ListN.{length, take, drop, set, length-set, length-drop, drop_of_length-le}
-use Rattle.specification.specs.Results.{if◌then◌else◌}
+use Rattle.specification.specs.Results.{when◌then◌else◌}
 use Rattle.specification.specs.Words.{bytes}
 use Rattle.specification.specs.Text.{Placed, refused_at, placed, past_blanks, skip}
 use Rattle.specification.specs.Lines as L
@@ -88,7 +88,7 @@ steps-begin s names table p steps h e l = record {
 -- one line more
 one_line : (names table : List ℕ) (left : ℕ) (p : L.Place) (before : List R.Step) (t : Bool) → 0 < left → t ≡ is_step_line (line_of p)
     → read_step_lines left names table p before
-    ≡ (if t then in_line p (read_step_line names table (line_of p)) >>>
+    ≡ (when t then in_line p (read_step_line names table (line_of p)) >>>
     (λ s. read_step_lines (left - 1) names table (to_line (next_line p)) (before ++ s ∷ [])) else lined (before, p))
 unfolding read_step_lines
 one_line names table zero p before t h e = absurd (omega arith)
@@ -96,7 +96,7 @@ one_line names table (suc left) p before t h e = rw (← e, sub-one (suc left))
 
 -- no more lines
 last_line : (names table : List ℕ) (left : ℕ) (p : L.Place) (before : List R.Step) (t : Bool) → left ≡ 0 → t ≡ is_step_line (line_of p)
-    → read_step_lines left names table p before ≡ (if t then refused_in 3 p.0 0 (line_of p) else lined (before, p))
+    → read_step_lines left names table p before ≡ (when t then refused_in 3 p.0 0 (line_of p) else lined (before, p))
 unfolding read_step_lines
 last_line names table left p before t h e = rw (h, ← e)
 
@@ -109,19 +109,19 @@ module _ (s names table : List ℕ) (x : Lined (List R.Step × L.Place)) (q : Pl
   read_so-far e = record { refuses = λ z. absurd (z refl); gives = λ _. e; valid = λ _. stands; inside = h.inside }
 
   module _ (k : i < 64) where
-    turn : x ≡ (if t then in_line (place_of s q) (read_step_line names table (line_of (place_of s q)))
+    turn : x ≡ (when t then in_line (place_of s q) (read_step_line names table (line_of (place_of s q)))
         >>> (λ r. read_step_lines (64 - i - 1) names table (to_line (next_line (place_of s q))) (steps_of steps ++ r ∷ [])) else lined (steps_of steps, place_of s q))
     turn = h.same ∙ go (64 - i) (omega arith)
       where
         go : (left : ℕ) → 0 < left → read_step_lines left names table (place_of s q) (steps_of steps)
-            ≡ (if t then in_line (place_of s q) (read_step_line names table (line_of (place_of s q)))
+            ≡ (when t then in_line (place_of s q) (read_step_line names table (line_of (place_of s q)))
             >>> (λ r. read_step_lines (left - 1) names table (to_line (next_line (place_of s q))) (steps_of steps ++ r ∷ [])) else lined (steps_of steps, place_of s q))
         go left z = one_line names table left (place_of s q) (steps_of steps) t z d
 
     -- another line
     pub steps-stop : t ≡ false → StepLinesRead s x (record { refusal = 0; column = 0; place = q; steps = steps })
     steps-stop z =
-        read_so-far (turn ∙ ap (λ (b : Bool). if b then in_line (place_of s q) (read_step_line names table (line_of (place_of s q)))
+        read_so-far (turn ∙ ap (λ (b : Bool). when b then in_line (place_of s q) (read_step_line names table (line_of (place_of s q)))
         >>> (λ r. read_step_lines (64 - i - 1) names table (to_line (next_line (place_of s q))) (steps_of steps ++ r ∷ [])) else lined
         (steps_of steps, place_of s q)) z)
 
@@ -131,7 +131,7 @@ module _ (s names table : List ℕ) (x : Lined (List R.Step × L.Place)) (q : Pl
       by-line y = in_line (place_of s q) y >>> (λ r. read_step_lines (64 - i - 1) names table (to_line (next_line (place_of s q))) (steps_of steps ++ r ∷ []))
 
       taken : x ≡ by-line (read_step_line names table (line_of (place_of s q)))
-      taken = turn ∙ ap (λ (b : Bool). if b then by-line (read_step_line names table (line_of (place_of s q))) else lined (steps_of steps, place_of s q)) z
+      taken = turn ∙ ap (λ (b : Bool). when b then by-line (read_step_line names table (line_of (place_of s q))) else lined (steps_of steps, place_of s q)) z
 
       -- the step is refused
       pub steps_refused : (r.refusal ≡ 0 → ⊥) → StepLinesRead s x (record { refusal = r.refusal; column = r.column; place = q; steps = steps })
@@ -163,13 +163,13 @@ module _ (s names table : List ℕ) (x : Lined (List R.Step × L.Place)) (q : Pl
           less i k = omega arith
 
   module _ (k : 64 ≤ i) where
-    end : x ≡ (if t then refused_in 3 q.number 0 (line_of (place_of s q)) else lined (steps_of steps, place_of s q))
+    end : x ≡ (when t then refused_in 3 q.number 0 (line_of (place_of s q)) else lined (steps_of steps, place_of s q))
     end = h.same ∙ last_line names table (64 - i) (place_of s q) (steps_of steps) t (omega arith) d
 
     -- one more than 64
     pub steps-many : t ≡ true → StepLinesRead s x (record { refusal = 3; column = 0; place = q; steps = steps })
     steps-many z = record {
-      refuses = λ _. end ∙ ap (λ (b : Bool). if b then refused_in 3 q.number 0 (line_of (place_of s q)) else lined (steps_of steps, place_of s q)) z;
+      refuses = λ _. end ∙ ap (λ (b : Bool). when b then refused_in 3 q.number 0 (line_of (place_of s q)) else lined (steps_of steps, place_of s q)) z;
       gives = λ e. absurd (omega (arith, e));
       valid = λ e. absurd (omega (arith, e));
       inside = h.inside;
@@ -177,7 +177,7 @@ module _ (s names table : List ℕ) (x : Lined (List R.Step × L.Place)) (q : Pl
 
     -- no more
     pub steps-done : t ≡ false → StepLinesRead s x (record { refusal = 0; column = 0; place = q; steps = steps })
-    steps-done z = read_so-far (end ∙ ap (λ (b : Bool). if b then refused_in 3 q.number 0 (line_of (place_of s q)) else lined (steps_of steps, place_of s q)) z)
+    steps-done z = read_so-far (end ∙ ap (λ (b : Bool). when b then refused_in 3 q.number 0 (line_of (place_of s q)) else lined (steps_of steps, place_of s q)) z)
 
 -- ════ the forms and the steps between them
 

@@ -7,7 +7,7 @@ use Prim.Native.Nat.{ℕ, zero, suc, ◌+◌, ◌-◌, ◌≤◌, ◌<◌}
 use native.Mathlib.Omega.{arith}
 use lib.Dec.{T, ltb, leb, eqb, ltb→lt, leb→le, le→leb}
 use lib.ListN.{length, get_or, drop, length-append}
-use Rattle.specification.specs.Results.{given, if◌then◌else◌}
+use Rattle.specification.specs.Results.{given, when◌then◌else◌}
 use Rattle.specification.specs.Lists.{all, ascend}
 use Rattle.specification.specs.Letters.{good_table}
 use Rattle.specification.specs.Words.{bytes}
@@ -42,15 +42,15 @@ module _ {A : Type 0} (P : A → Type 0) where
   HoldsIn (refused_in n k c t) = Unit {0}
   HoldsIn (lined a) = P a
 
-  either : (b : Bool) (x : Placed A) (n c : ℕ) → (T b → Holds x) → Holds (if b then x else refused_at n c)
+  either : (b : Bool) (x : Placed A) (n c : ℕ) → (T b → Holds x) → Holds (when b then x else refused_at n c)
   either true x n c h = h tt
   either false x n c h = tt
 
-  choice : (b : Bool) (x y : Placed A) → Holds x → Holds y → Holds (if b then x else y)
+  choice : (b : Bool) (x y : Placed A) → Holds x → Holds y → Holds (when b then x else y)
   choice true x y h k = h
   choice false x y h k = k
 
-  choice_in : (b : Bool) (x y : Lined A) → HoldsIn x → HoldsIn y → HoldsIn (if b then x else y)
+  choice_in : (b : Bool) (x y : Lined A) → HoldsIn x → HoldsIn y → HoldsIn (when b then x else y)
   choice_in true x y h k = h
   choice_in false x y h k = k
 
@@ -112,7 +112,7 @@ module _ (names table : List ℕ) (good : T (good_table table)) (fit : length na
   unfolding of_kind
   kind_good kind at f k h =
       choice (FormGood table) (eqb (length f.terms) 0) (placed (record { kind = kind; terms = [] }))
-      (if eqb f.kind kind then placed f else refused_at 6 at)
+      (when eqb f.kind kind then placed f else refused_at 6 at)
       (empty_good kind k) (either (FormGood table) (eqb f.kind kind) (placed f) 6 at (λ _. h))
 
   formula_good : (line : List ℕ) (kind at : ℕ) → kind ≤ 1 → Holds (FormGood table) (kind_at names table line kind at)
@@ -125,7 +125,7 @@ module _ (names table : List ℕ) (good : T (good_table table)) (fit : length na
   unfolding read_form_line
   form_line_good line =
       choice (FormGood table) (is_word_at (bytes "vector") line (skip line 0)) (kind_at names table line 1 (skip line (skip line 0 + 6)))
-      (if is_word_at (bytes "scalar") line (skip line 0) then kind_at names table line 0 (skip line (skip line 0 + 6)) else refused_at 4 (skip line 0))
+      (when is_word_at (bytes "scalar") line (skip line 0) then kind_at names table line 0 (skip line (skip line 0 + 6)) else refused_at 4 (skip line 0))
       (formula_good line 1 (skip line (skip line 0 + 6)) (omega arith))
       (either (FormGood table) (is_word_at (bytes "scalar") line (skip line 0)) (kind_at names table line 0 (skip line (skip line 0 + 6))) 4 (skip line 0)
       (λ _. formula_good line 0 (skip line (skip line 0 + 6)) (omega arith)))

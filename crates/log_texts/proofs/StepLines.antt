@@ -7,7 +7,7 @@ use native.Mathlib.Omega.{arith}
 use borrow.Author.Tests.{le-leb, lt-leb}
 use lib.Dec.{leb, le→leb}
 use lib.ListN.{length, get_or, take}
-use Rattle.specification.specs.Results.{if◌then◌else◌}
+use Rattle.specification.specs.Results.{when◌then◌else◌}
 use Rattle.specification.specs.Terms as S
 use Rattle.specification.specs.Text.{Placed, refused_at, placed, ◌>>=◌, skip, next}
 use Rattle.specification.specs.Rules.{is_rule, rule_letters}
@@ -31,7 +31,7 @@ use Rattle.theory.specs.Text.Bounds.{there}
 
 -- the line of a step by the byte of its rule
 abbrev pub ruled : (names table line : List ℕ) (at b : ℕ) → Placed R.Step
-ruled names table line at b = if leb 49 b && leb b 53 then mark 58 line (next line at) >>= behind_colon names table line (b - 48) else refused_at 4 at
+ruled names table line at b = when leb 49 b && leb b 53 then mark 58 line (next line at) >>= behind_colon names table line (b - 48) else refused_at 4 at
 
 -- it is that
 pub by-rule : (names table line : List ℕ) → read_step_line names table line ≡ ruled names table line (skip line (skip line 0 + 4)) (get_or line (skip line

@@ -7,7 +7,7 @@ use native.Mathlib.Omega.{arith}
 use borrow.Author.Tests.{eq-eqb, ne_eqb}
 use lib.Dec.{T}
 use lib.ListN.{length, get_or, take, drop, length-drop}
-use Rattle.specification.specs.Results.{if◌then◌else◌}
+use Rattle.specification.specs.Results.{when◌then◌else◌}
 use Rattle.specification.specs.Lists.{all, ascend}
 use Rattle.specification.specs.Words.{bytes}
 use Rattle.specification.specs.Terms as S
@@ -38,7 +38,7 @@ unfolding text_form_of
 gives_refused x t n c z hn hc e =
     let y : t.refusal ≡ 0 → ⊥ = λ w. z (sym hn ∙ w) in
     record {
-      is = ap (λ (b : Bool). if b then placed (form_of t.form) else refused_at t.refusal t.column) (ne_eqb t.refusal 0 y)
+      is = ap (λ (b : Bool). when b then placed (form_of t.form) else refused_at t.refusal t.column) (ne_eqb t.refusal 0 y)
           ∙ (λ i. refused_at (hn i) (hc i)) ∙ sym e;
       valid = λ w. absurd (y w);
     }
@@ -183,8 +183,8 @@ module _ (names table line : List ℕ) (at : ℕ) (ha : at ≡ skip line 0) (w :
   -- the line by its words
   abbrev by-words : ℕ → Placed S.Form
   by-words at =
-      if is_word_at (bytes "vector") line at then kind_at names table line 1 (skip line (at + 6)) else
-      if is_word_at (bytes "scalar") line at then kind_at names table line 0 (skip line (at + 6)) else
+      when is_word_at (bytes "vector") line at then kind_at names table line 1 (skip line (at + 6)) else
+      when is_word_at (bytes "scalar") line at then kind_at names table line 0 (skip line (at + 6)) else
       refused_at 4 at
 
   here : read_form_line names table line ≡ by-words at

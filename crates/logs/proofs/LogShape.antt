@@ -5,7 +5,7 @@ use mathlib.Core.List.{List, []}
 use Prim.Native.Nat.{ℕ, ◌+◌, ◌<◌, ◌≤◌}
 use borrow.Author.Tests.{lt-ltb, le-ltb, le-leb, lt-leb, eq-eqb, ne_eqb}
 use lib.ListN.{length, get_or}
-use Rattle.specification.specs.Results.{Result, refused, given, if◌then◌else◌}
+use Rattle.specification.specs.Results.{Result, refused, given, when◌then◌else◌}
 use Rattle.specification.specs.Terms as S
 use Rattle.specification.specs.Records.{read_form_at}
 use Rattle.specification.specs.Rules as R
@@ -26,12 +26,12 @@ use Rattle.logs.specs.Reading.{steps_read_of, StepsRead, parts_of, log_read_of, 
 -- a form that was read
 pub form_given : (x : Result (S.Form × ℕ)) (q : FormReading) → FormRead x q → q.ok ≡ true → x ≡ given (form_of q.form, q.next)
 unfolding form_read_of
-form_given x q w z = sym w.is ∙ ap (λ (b : Bool). if b then given (form_of q.form, q.next) else refused 11) z
+form_given x q w z = sym w.is ∙ ap (λ (b : Bool). when b then given (form_of q.form, q.next) else refused 11) z
 
 -- or refused
 form_refused : (x : Result (S.Form × ℕ)) (q : FormReading) → FormRead x q → q.ok ≡ false → x ≡ refused 11
 unfolding form_read_of
-form_refused x q w z = sym w.is ∙ ap (λ (b : Bool). if b then given (form_of q.form, q.next) else refused 11) z
+form_refused x q w z = sym w.is ∙ ap (λ (b : Bool). when b then given (form_of q.form, q.next) else refused 11) z
 
 -- it is in shape
 pub form-valid : (s : List ℕ) (at : ℕ) (q : FormReading) → Bytes s → FormRead (read_form_at s at) q → q.ok ≡ true → FormValid q.form
@@ -41,11 +41,11 @@ form-valid s at q bs w z =
 -- steps that were read
 steps_given : (x : Result (List R.Step × ℕ)) (n : ℕ) (q : StepsReading) → StepsRead x n q → q.ok ≡ true → x ≡ given (steps_of q.steps, q.next)
 unfolding steps_read_of
-steps_given x n q w z = sym w.is ∙ ap (λ (b : Bool). if b then given (steps_of q.steps, q.next) else refused 11) z
+steps_given x n q w z = sym w.is ∙ ap (λ (b : Bool). when b then given (steps_of q.steps, q.next) else refused 11) z
 
 steps_refused : (x : Result (List R.Step × ℕ)) (n : ℕ) (q : StepsReading) → StepsRead x n q → q.ok ≡ false → x ≡ refused 11
 unfolding steps_read_of
-steps_refused x n q w z = sym w.is ∙ ap (λ (b : Bool). if b then given (steps_of q.steps, q.next) else refused 11) z
+steps_refused x n q w z = sym w.is ∙ ap (λ (b : Bool). when b then given (steps_of q.steps, q.next) else refused 11) z
 
 -- ════ the shape
 
@@ -122,9 +122,9 @@ refused_as_lem x q w e = record { is = w.is ∙ sym e; first = w.first; steps = 
 -- a log that was read
 pub log-parts : (x : Result Log) (q : LogReading) → LogRead x q → q.ok ≡ true → x ≡ given (parts_of q)
 unfolding log_read_of
-log-parts x q w z = sym w.is ∙ ap (λ (b : Bool). if b then given (parts_of q) else refused 11) z
+log-parts x q w z = sym w.is ∙ ap (λ (b : Bool). when b then given (parts_of q) else refused 11) z
 
 -- or refused
 pub log_refused : (x : Result Log) (q : LogReading) → LogRead x q → q.ok ≡ false → x ≡ refused 11
 unfolding log_read_of
-log_refused x q w z = sym w.is ∙ ap (λ (b : Bool). if b then given (parts_of q) else refused 11) z
+log_refused x q w z = sym w.is ∙ ap (λ (b : Bool). when b then given (parts_of q) else refused 11) z

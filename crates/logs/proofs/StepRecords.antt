@@ -8,7 +8,7 @@ use borrow.Author.Tests.{lt-ltb, le-ltb}
 use lib.Dec.{T, leb}
 use lib.ListN.{length, get_or, take, drop, set, length-drop, length-map}
 use lib.Seq.{get_or-drop, length-take-le}
-use Rattle.specification.specs.Results.{Result, refused, given, ◌>>=◌, ◌>>◌, if◌then◌else◌}
+use Rattle.specification.specs.Results.{Result, refused, given, ◌>>=◌, ◌>>◌, when◌then◌else◌}
 use Rattle.specification.specs.Terms as S
 use Rattle.specification.specs.Records.{read_letters, read_term_at}
 use Rattle.specification.specs.Rules.{is_rule, rule_letters}
@@ -53,7 +53,7 @@ given_read t z = rw z
 
 -- reading on behind it
 read_on : (o : Bool) (t : S.Term) (next : ℕ) (f : S.Term → R.Step)
-    → ◌>>=◌ {A = S.Term × ℕ} {B = R.Step × ℕ} (if o then given (t, next) else refused 11) (λ p. given (f p.0, p.1)) ≡ (if o then given (
+    → ◌>>=◌ {A = S.Term × ℕ} {B = R.Step × ℕ} (when o then given (t, next) else refused 11) (λ p. given (f p.0, p.1)) ≡ (when o then given (
       f t,
       next,
     ) else refused 11)
@@ -94,7 +94,7 @@ module _ (s : List ℕ) (at : ℕ) where
         unfolding read_of step_read_of step_of
         step_of-term bs t ls w e =
             record {
-              is = (λ i. if t.ok then given (record { rule = get_or s at 0; letters = letters i; m = term_of t.term }, t.next) else refused 11)
+              is = (λ i. when t.ok then given (record { rule = get_or s at 0; letters = letters i; m = term_of t.term }, t.next) else refused 11)
                   ∙ sym (by-term ∙ ap (λ (x : Result (S.Term × ℕ)). x >>= λ p. given (whole p.0, p.1)) (sym w.is) ∙ read_on t.ok
                   (term_of t.term) t.next whole);
               valid = λ z. record {
@@ -156,7 +156,7 @@ step_refused_lem x q w z = sym w.is ∙ rw z
 pub steps_refused : (x : Result (List R.Step × ℕ)) (n : ℕ) (r : StepsReading) → r.ok ≡ false → StepsValid r.steps → x ≡ refused 11 → StepsRead x n r
 unfolding steps_read_of
 steps_refused x n r z v e = record {
-  is = ap (λ (b : Bool). if b then given (steps_of r.steps, r.next) else refused 11) z ∙ sym e;
+  is = ap (λ (b : Bool). when b then given (steps_of r.steps, r.next) else refused 11) z ∙ sym e;
   count = λ t. absurd (true≢false (sym t ∙ z));
   valid = v;
 }
@@ -165,7 +165,7 @@ pub steps_given : (x : Result (List R.Step × ℕ)) (n : ℕ) (r : StepsReading)
     → x ≡ given (steps_of r.steps, r.next) → StepsRead x n r
 unfolding steps_read_of
 steps_given x n r z c v e = record {
-  is = ap (λ (b : Bool). if b then given (steps_of r.steps, r.next) else refused 11) z ∙ sym e;
+  is = ap (λ (b : Bool). when b then given (steps_of r.steps, r.next) else refused 11) z ∙ sym e;
   count = λ t. c;
   valid =
       v;

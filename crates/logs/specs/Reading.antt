@@ -1,6 +1,6 @@
 -- What was read of a step, of steps and of a log. Assumes nothing.
 use Rattle.std.specs.Prelude.{◌≡◌, true, List, ℕ}
-use Rattle.specification.specs.Results.{Result, refused, given, if◌then◌else◌}
+use Rattle.specification.specs.Results.{Result, refused, given, when◌then◌else◌}
 use Rattle.specification.specs.Rules as R
 use Rattle.specification.specs.Logs.{Log}
 use Rattle.terms.specs.Abstraction.{form_of}
@@ -13,7 +13,7 @@ use Rattle.logs.specs.Steps.{steps_of, StepsValid}
 
 -- what was read of a step, and the position behind it
 unfoldable pub step_read_of : StepReading → Result (R.Step × ℕ)
-step_read_of q = if q.ok then given (step_of q.step, q.next) else refused 11
+step_read_of q = when q.ok then given (step_of q.step, q.next) else refused 11
 
 -- a step read
 pub record StepRead (read : Result (R.Step × ℕ)) (q : StepReading) : Type 0 where
@@ -22,7 +22,7 @@ pub record StepRead (read : Result (R.Step × ℕ)) (q : StepReading) : Type 0 w
 
 -- what was read of the steps, and the position behind them
 unfoldable pub steps_read_of : StepsReading → Result (List R.Step × ℕ)
-steps_read_of q = if q.ok then given (steps_of q.steps, q.next) else refused 11
+steps_read_of q = when q.ok then given (steps_of q.steps, q.next) else refused 11
 
 -- so many steps read
 pub record StepsRead (read : Result (List R.Step × ℕ)) (n : ℕ) (q : StepsReading) : Type 0 where
@@ -36,7 +36,7 @@ parts_of q = record { first = form_of q.first; first_end = q.first_end; steps = 
 
 -- what was read of a log
 unfoldable pub log_read_of : LogReading → Result Log
-log_read_of q = if q.ok then given (parts_of q) else refused 11
+log_read_of q = when q.ok then given (parts_of q) else refused 11
 
 -- a log read
 pub record LogRead (read : Result Log) (q : LogReading) : Type 0 where

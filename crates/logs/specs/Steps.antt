@@ -1,6 +1,6 @@
 -- Steps as data, and the refusals of their letters. Assumes nothing.
 use Rattle.std.specs.Prelude.{◌≡◌, List, map, ℕ, ◌≤◌, eqb, length, take}
-use Rattle.specification.specs.Results.{if◌then◌else◌}
+use Rattle.specification.specs.Results.{when◌then◌else◌}
 use Rattle.specification.specs.Rules as R
 use Rattle.specification.specs.Logs.{Checked, refused_at, steps_letters}
 use Rattle.theory.specs.Elements.{All}
@@ -20,7 +20,7 @@ pub record StepsValid (q : Steps) : Type 0 where
 
 -- a refusal and its step, or what follows where the number is 0
 unfoldable pub found_of : (number step : ℕ) (rest : Checked) → Checked
-found_of n k rest = if eqb n 0 then rest else refused_at n k
+found_of n k rest = when eqb n 0 then rest else refused_at n k
 
 -- the first refusal among the steps' letters
 pub record StepsTested (table : List ℕ) (q : Steps) (r : Refusal) : Type 0 where

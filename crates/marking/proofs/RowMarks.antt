@@ -11,7 +11,7 @@ use lib.Dec.{T, eqb, leb, leb→le, eqb→eq}
 use lib.IntN.{ℤ, pos, negsuc, nat_abs, ◌*ℤ◌}
 use lib.ListN.{get_or}
 use Rattle.algebra.specs.Integers.{NonZero, pos-nonzero, negsuc-nonzero, product-nonzero, factors-nonzero, unit-nonzero, one_*ℤ, *ℤ_assoc}
-use Rattle.specification.specs.Results.{if◌then◌else◌}
+use Rattle.specification.specs.Results.{when◌then◌else◌}
 use Rattle.specification.specs.Lists.{all}
 use Rattle.specification.specs.Terms.{pair_sign, sign_before, exchange_sign, factor_sign, factors_sign, with_coef, times_term, tidy, term_in_shape}
 use Rattle.specification.specs.Terms as S
@@ -29,11 +29,11 @@ use Rattle.marking.proofs.MarkedTerms.{factors-joined, mark-product}
 
 -- a factor has a first and a second letter, and no place is beyond the sixth
 unfoldable pub good_places : ℕ → Bool
-good_places c = if eqb c 0 then true else leb 1 (c / 64) && leb (c / 64) 6 && leb 1 (c / 8 % 8) && leb (c / 8 % 8) 6 && leb (c % 8) 6
+good_places c = when eqb c 0 then true else leb 1 (c / 64) && leb (c / 64) 6 && leb 1 (c / 8 % 8) && leb (c / 8 % 8) 6 && leb (c % 8) 6
 
 -- a vector part has a first letter where it has a second
 unfoldable pub good_part : ℕ → Bool
-good_part c = if eqb (c / 8) 0 then eqb (c % 8) 0 else leb (c / 8) 6 && leb (c % 8) 6
+good_part c = when eqb (c / 8) 0 then eqb (c % 8) 0 else leb (c / 8) 6 && leb (c % 8) 6
 
 good_row : ℕ → Bool
 good_row n = good_places (n / 16777216 % 512) && good_places (n / 32768 % 512) && good_places (n / 64 % 512) && good_part (n % 64)
@@ -76,7 +76,7 @@ pub sign_one : (n : ℕ) → nat_abs (row_sign n) ≡ 1
 unfolding row_sign
 sign_one n = go (eqb (n / 8589934592) 1)
   where
-    go : (b : Bool) → nat_abs (if b then pos 1 else negsuc 0) ≡ 1
+    go : (b : Bool) → nat_abs (when b then pos 1 else negsuc 0) ≡ 1
     go true = refl
     go false = refl
 
@@ -116,7 +116,7 @@ module _ (ls l : List ℕ) (w : LettersMarked ls l) where
   unfolding letter_at letters_mark
   last_mark p h = go (eqb p 0) refl
     where
-      go : (b : Bool) → eqb p 0 ≡ b → get_or l p 0 ≡ letters_mark (if b then [] else letter ls p ∷ [])
+      go : (b : Bool) → eqb p 0 ≡ b → get_or l p 0 ≡ letters_mark (when b then [] else letter ls p ∷ [])
       go true e = ap (λ (n : ℕ). get_or l n 0) (eqb-true p 0 e) ∙ w.none
       go false e = w.at p (omega (arith, eqb-false p 0 e)) h ∙ sym (N.mul-one (letter_mark (letter ls p)))
 
@@ -124,8 +124,8 @@ module _ (ls l : List ℕ) (w : LettersMarked ls l) where
   unfolding good_places places_mark factor_letters factor_at factors_mark letters_mark
   factor-mark c = go (eqb c 0)
     where
-      go : (b : Bool) → T (if b then true else leb 1 (c / 64) && leb (c / 64) 6 && leb 1 (c / 8 % 8) && leb (c / 8 % 8) 6 && leb (c % 8) 6)
-          → (if b then 0 else get_or l (c / 64) 0 * get_or l (c / 8 % 8) 0 * get_or l (c % 8) 0) ≡ factors_mark (if b then [] else (letter ls (c / 64) ∷ letter ls (c / 8 % 8) ∷ letter_at ls (c % 8)) ∷ [])
+      go : (b : Bool) → T (when b then true else leb 1 (c / 64) && leb (c / 64) 6 && leb 1 (c / 8 % 8) && leb (c / 8 % 8) 6 && leb (c % 8) 6)
+          → (when b then 0 else get_or l (c / 64) 0 * get_or l (c / 8 % 8) 0 * get_or l (c % 8) 0) ≡ factors_mark (when b then [] else (letter ls (c / 64) ∷ letter ls (c / 8 % 8) ∷ letter_at ls (c % 8)) ∷ [])
       go true h = refl
       go false h =
           let v = five (leb 1 (c / 64)) (leb (c / 64) 6) (leb 1 (c / 8 % 8)) (leb (c / 8 % 8) 6) (leb (c % 8) 6) h in
@@ -140,8 +140,8 @@ module _ (ls l : List ℕ) (w : LettersMarked ls l) where
   unfolding good_part part_at letters_mark
   part-mark c = go (eqb (c / 8) 0) refl
     where
-      go : (b : Bool) → eqb (c / 8) 0 ≡ b → T (if b then eqb (c % 8) 0 else leb (c / 8) 6 && leb (c % 8) 6)
-          → get_or l (c / 8) 0 * get_or l (c % 8) 0 ≡ letters_mark (if b then [] else letter ls (c / 8) ∷ letter_at ls (c % 8))
+      go : (b : Bool) → eqb (c / 8) 0 ≡ b → T (when b then eqb (c % 8) 0 else leb (c / 8) 6 && leb (c % 8) 6)
+          → get_or l (c / 8) 0 * get_or l (c % 8) 0 ≡ letters_mark (when b then [] else letter ls (c / 8) ∷ letter_at ls (c % 8))
       go true e h = λ i. (ap (λ (n : ℕ). get_or l n 0) (eqb-true (c / 8) 0 e) ∙ w.none) i * (ap (λ (n : ℕ). get_or l n 0) (eqb→eq (c % 8) 0 h) ∙ w.none) i
       go false e h =
           let v = and_split (leb (c / 8) 6) (leb (c % 8) 6) h in
@@ -155,8 +155,8 @@ module _ (ls l : List ℕ) (w : LettersMarked ls l) where
   unfolding good_places factor_letters factor_at factors_sign factor_sign letter_at
   factor-stands c g d = go (eqb c 0) g
     where
-      go : (b : Bool) → T (if b then true else leb 1 (c / 64) && leb (c / 64) 6 && leb 1 (c / 8 % 8) && leb (c / 8 % 8) 6 && leb (c % 8) 6)
-          → NonZero (factors_sign (if b then [] else (letter ls (c / 64) ∷ letter ls (c / 8 % 8) ∷ letter_at ls (c % 8)) ∷ []))
+      go : (b : Bool) → T (when b then true else leb 1 (c / 64) && leb (c / 64) 6 && leb 1 (c / 8 % 8) && leb (c / 8 % 8) 6 && leb (c % 8) 6)
+          → NonZero (factors_sign (when b then [] else (letter ls (c / 64) ∷ letter ls (c / 8 % 8) ∷ letter_at ls (c % 8)) ∷ []))
       go true h = pos-nonzero 0
       go false h = last (eqb (c % 8) 0) refl
         where
@@ -178,7 +178,7 @@ module _ (ls l : List ℕ) (w : LettersMarked ls l) where
           c6 : c % 8 ≤ 6
           c6 = leb→le (c % 8) 6 v.4
 
-          last : (b : Bool) → eqb (c % 8) 0 ≡ b → NonZero (factors_sign ((letter ls (c / 64) ∷ letter ls (c / 8 % 8) ∷ (if b then [] else letter ls (c % 8) ∷ [])) ∷ []))
+          last : (b : Bool) → eqb (c % 8) 0 ≡ b → NonZero (factors_sign ((letter ls (c / 64) ∷ letter ls (c / 8 % 8) ∷ (when b then [] else letter ls (c % 8) ∷ [])) ∷ []))
           last true e = pos-nonzero 0
           last false e =
               let z : (c % 8 ≡ 0 → ⊥) = eqb-false (c % 8) 0 e in
@@ -192,15 +192,15 @@ module _ (ls l : List ℕ) (w : LettersMarked ls l) where
   unfolding good_part part_at letter_at exchange_sign sign_before
   part-stands c g d = go (eqb (c / 8) 0) refl g
     where
-      go : (b : Bool) → eqb (c / 8) 0 ≡ b → T (if b then eqb (c % 8) 0 else leb (c / 8) 6 && leb (c % 8) 6)
-          → NonZero (exchange_sign (if b then [] else letter ls (c / 8) ∷ letter_at ls (c % 8)))
+      go : (b : Bool) → eqb (c / 8) 0 ≡ b → T (when b then eqb (c % 8) 0 else leb (c / 8) 6 && leb (c % 8) 6)
+          → NonZero (exchange_sign (when b then [] else letter ls (c / 8) ∷ letter_at ls (c % 8)))
       go true e h = pos-nonzero 0
       go false e h = last (eqb (c % 8) 0) refl
         where
           v : T (leb (c / 8) 6) × T (leb (c % 8) 6)
           v = and_split (leb (c / 8) 6) (leb (c % 8) 6) h
 
-          last : (b : Bool) → eqb (c % 8) 0 ≡ b → NonZero (exchange_sign (letter ls (c / 8) ∷ (if b then [] else letter ls (c % 8) ∷ [])))
+          last : (b : Bool) → eqb (c % 8) 0 ≡ b → NonZero (exchange_sign (letter ls (c / 8) ∷ (when b then [] else letter ls (c % 8) ∷ [])))
           last true q = pos-nonzero 0
           last false q =
               let z : (c % 8 ≡ 0 → ⊥) = eqb-false (c % 8) 0 q in

@@ -1,7 +1,7 @@
 -- Marks of terms, what the field calls hashes: numbers that depend on no order of letters and factors. A term whose mark no other has is like none of them.
 -- Assumes nothing.
 use Rattle.std.specs.Prelude.{◌≡◌, ◌⊎◌, List, [], ◌∷◌, ℕ, ◌+◌, ◌*◌, ◌/◌, ◌%◌, ◌≤◌, eqb, ℤ, nat_abs, length, get_or}
-use Rattle.specification.specs.Results.{if◌then◌else◌}
+use Rattle.specification.specs.Results.{when◌then◌else◌}
 use Rattle.specification.specs.Terms as S
 use Rattle.theory.specs.Elements.{All}
 use Rattle.rule_table.specs.Table.{letter}
@@ -56,7 +56,7 @@ pub record LettersMarked (letters marks : List ℕ) : Type 0 where
 
 -- the mark of the factor of three places, 0 where there is none
 unfoldable pub places_mark : (marks : List ℕ) (places : ℕ) → ℕ
-places_mark l c = if eqb c 0 then 0 else get_or l (c / 64) 0 * get_or l (c / 8 % 8) 0 * get_or l (c % 8) 0
+places_mark l c = when eqb c 0 then 0 else get_or l (c / 64) 0 * get_or l (c / 8 % 8) 0 * get_or l (c % 8) 0
 
 -- the mark of a row's factors
 unfoldable pub row_mark : (marks : List ℕ) (row : ℕ) → ℕ

@@ -11,7 +11,7 @@ use native.Mathlib.Omega.{arith}
 use lib.IntN.{ℤ, pos, negsuc, nat_abs, ◌+ℤ◌, ◌*ℤ◌}
 use lib.ListN.{length, get_or, length-append}
 use Rattle.algebra.specs.Integers.{NonZero, nat_abs-neg, nat_abs_*ℤ, nat_abs_zero, neg_unique}
-use Rattle.specification.specs.Results.{if◌then◌else◌}
+use Rattle.specification.specs.Results.{when◌then◌else◌}
 use Rattle.specification.specs.Lists.{by_order}
 use Rattle.specification.specs.Terms.{compare_terms, factors_sign, exchange_sign, with_coef, is_zero, keep, insert, gather_into, tidy}
 use Rattle.specification.specs.Terms as S
@@ -27,7 +27,7 @@ keep-long : (t : S.Term) (l : List S.Term) → length l ≤ length (keep t l)
 unfolding keep
 keep-long t l = go (is_zero t.coef)
   where
-    go : (b : Bool) → length l ≤ length (if b then l else t ∷ l)
+    go : (b : Bool) → length l ≤ length (when b then l else t ∷ l)
     go true = omega arith
     go false = omega arith
 
@@ -35,7 +35,7 @@ keep_more : (t : S.Term) (l : List S.Term) → NonZero t.coef → keep t l ≡ t
 unfolding keep is_zero
 keep_more t l h = go t.coef h
   where
-    go : (c : ℤ) → NonZero c → (if is_zero c then l else t ∷ l) ≡ t ∷ l
+    go : (c : ℤ) → NonZero c → (when is_zero c then l else t ∷ l) ≡ t ∷ l
     go (pos zero) n = absurd (n refl)
     go (pos (suc k)) n = refl
     go (negsuc k) n = refl
@@ -100,7 +100,7 @@ module _ (P : S.Term → Type 0) (t : S.Term) (here : (u : S.Term) → mark_of u
   unfolding keep
   keep_all u l e a = go (is_zero u.coef)
     where
-      go : (b : Bool) → All P (if b then l else u ∷ l)
+      go : (b : Bool) → All P (when b then l else u ∷ l)
       go true = a
       go false = (here u e, a)
 

@@ -1,6 +1,6 @@
 -- The state of an open log as data, and what was read of it. Assumes nothing.
 use Rattle.std.specs.Prelude.{◌≡◌, true, List, ℕ, ◌≤◌, length, take}
-use Rattle.specification.specs.Results.{Result, refused, given, if◌then◌else◌}
+use Rattle.specification.specs.Results.{Result, refused, given, when◌then◌else◌}
 use Rattle.specification.specs.Records.{write_into}
 use Rattle.specification.specs.OpenLogs.{write_state}
 use Rattle.specification.specs.OpenLogs as O
@@ -20,7 +20,7 @@ pub record StateValid (s : State) : Type 0 where
 
 -- what was read of a state; the only refusal here is 11
 unfoldable pub state_read_of : StateReading → Result O.State
-state_read_of q = if q.ok then given (state_of q.state) else refused 11
+state_read_of q = when q.ok then given (state_of q.state) else refused 11
 
 -- a state read
 pub record StateReadAs (read : Result O.State) (q : StateReading) : Type 0 where

@@ -2,7 +2,7 @@
 use Rattle.std.specs.Prelude.{◌≡◌, ◌⊎◌, ℕ, ◌*◌, ◌≤◌, ℤ, nat_abs, T, ltb, leb, length}
 use mathlib.Core.List.{List, [], ◌∷◌, map, flat_map}
 use Rattle.specification.specs.Lists.{all}
-use Rattle.specification.specs.Results.{Test, ◌>>◌, require, if◌then◌else◌}
+use Rattle.specification.specs.Results.{Test, ◌>>◌, require, when◌then◌else◌}
 use Rattle.specification.specs.Letters.{scalar, vector}
 use Rattle.specification.specs.Terms.{Term, term_within, vector_letters, scalar_letters, letters_fit, term_in_shape}
 use Rattle.specification.specs.Reduction.{pair_staying, product_terms}
@@ -69,7 +69,7 @@ pub record FitOf (ts : List Term) (r : Fit) : Type 0 where
 
 -- the larger of two numbers
 unfoldable pub larger : ℕ → ℕ → ℕ
-larger a b = if ltb a b then b else a
+larger a b = when ltb a b then b else a
 
 -- the size of a coefficient
 unfoldable pub coef_size : Term → ℕ

@@ -9,7 +9,7 @@ use borrow.Author.Tests.{eq-eqb, ne_eqb}
 use lib.Dec.{eqb}
 use lib.IntN.{ℤ, pos, negsuc, ◌*ℤ◌}
 use Rattle.algebra.specs.Integers.{one_*ℤ, *ℤ-1}
-use Rattle.specification.specs.Results.{if◌then◌else◌}
+use Rattle.specification.specs.Results.{when◌then◌else◌}
 use Rattle.specification.specs.Lists.{select}
 use Rattle.specification.specs.Terms.{pair_sign, sign_before, exchange_sign, factor_sign, factors_sign, is_zero, vanishes, staying, plus, minus}
 use Rattle.specification.specs.Terms as S
@@ -191,25 +191,25 @@ equal-sign a b = go (O.tri nat-laws a b)
     go (inr l) = differ (λ e. omega (arith, e, l))
 
 -- a term, unless it goes
-stays-unless : (t : S.Term) (gone : Bool) (ts : List S.Term) → vanishes t ≡ gone → (if gone then staying ts else t ∷ staying ts) ≡ staying (t ∷ ts)
+stays-unless : (t : S.Term) (gone : Bool) (ts : List S.Term) → vanishes t ≡ gone → (when gone then staying ts else t ∷ staying ts) ≡ staying (t ∷ ts)
 stays-unless t true ts e = sym (vanishing_goes t ts e)
 stays-unless t false ts e = sym (other-stays t ts e)
 
 -- one term that was made, unless it goes
-one_made-unless : (r : Few) (gone : Bool) (t : Term) (u : S.Term) → term_of t ≡ u → vanishes u ≡ gone → FewMade (if gone then [] else term_of t ∷ []) r → FewMade (staying (u ∷ [])) r
+one_made-unless : (r : Few) (gone : Bool) (t : Term) (u : S.Term) → term_of t ≡ u → vanishes u ≡ gone → FewMade (when gone then [] else term_of t ∷ []) r → FewMade (staying (u ∷ [])) r
 unfolding staying select
 one_made-unless r gone t u m e =
-    few_as r (if gone then [] else term_of t ∷ []) (staying (u ∷ [])) (ap (λ (x : S.Term). if gone then [] else x ∷ []) m ∙ stays-unless u gone [] e)
+    few_as r (when gone then [] else term_of t ∷ []) (staying (u ∷ [])) (ap (λ (x : S.Term). when gone then [] else x ∷ []) m ∙ stays-unless u gone [] e)
 
 -- a triple alone
 pub triple-made : (a b c : ℕ) (gone : Bool) (k : ℕ) (t : Term) (r : Few) → gone ≡ is_zero (exchange_sign (a ∷ b ∷ c ∷ [])) → FactorNumber (a ∷ b ∷ c ∷ []) k
-    → Made (factor_term (pos 1) (letters_of k) []) t → FewMade (if gone then [] else term_of t ∷ []) r → FewMade (staying (factor_term (pos 1) (a ∷ b ∷ c ∷ []) [] ∷ [])) r
+    → Made (factor_term (pos 1) (letters_of k) []) t → FewMade (when gone then [] else term_of t ∷ []) r → FewMade (staying (factor_term (pos 1) (a ∷ b ∷ c ∷ []) [] ∷ [])) r
 triple-made a b c gone k t r e n m =
     one_made-unless r gone t (factor_term (pos 1) (a ∷ b ∷ c ∷ []) []) (m.is ∙ ap (λ (g : List ℕ). factor_term (pos 1) g []) n.letters)
     (unfold exchange_sign in triple-judged (pos 1) a b c [] refl ∙ sym e)
 
 -- a wedge of two letters
-pub wedge-made : (a b : ℕ) (t : Term) (r : Few) → Made (plus [] (a ∷ b ∷ [])) t → FewMade (if eqb a b then [] else term_of t ∷ []) r
+pub wedge-made : (a b : ℕ) (t : Term) (r : Few) → Made (plus [] (a ∷ b ∷ [])) t → FewMade (when eqb a b then [] else term_of t ∷ []) r
     → FewMade (staying (plus [] (a ∷ b ∷ []) ∷ [])) r
 wedge-made a b t r m = one_made-unless r (eqb a b) t (plus [] (a ∷ b ∷ [])) m.is (wedge-judged a b ∙ equal-sign a b)
 
@@ -236,18 +236,18 @@ module _ (a b c d : ℕ) (first second : Bool) (e : first ≡ is_zero (exchange_
     y_is = my.is ∙ ap (λ (f : List ℕ). factor_term (negsuc 0) f (d ∷ [])) o.letters
 
     -- the first goes
-    pub second-made : first ≡ true → FewMade (if second then [] else term_of y ∷ []) r → FewMade (staying (wedge_parts (a ∷ b ∷ []) (c ∷ d ∷ []))) r
+    pub second-made : first ≡ true → FewMade (when second then [] else term_of y ∷ []) r → FewMade (staying (wedge_parts (a ∷ b ∷ []) (c ∷ d ∷ []))) r
     unfolding wedge_parts one_term_lem other-term
     second-made p h =
         few_as r (staying (other-term ∷ [])) (staying (one_term_lem ∷ other-term ∷ [])) (sym (vanishing_goes one_term_lem (other-term ∷ []) (one_judged ∙ p)))
         (one_made-unless r second y other-term y_is other-judged h)
 
     -- the first stays
-    pub first_made : first ≡ false → FewMade (term_of x ∷ (if second then [] else term_of y ∷ [])) r → FewMade (staying (wedge_parts (a ∷ b ∷ []) (c ∷ d ∷ []))) r
+    pub first_made : first ≡ false → FewMade (term_of x ∷ (when second then [] else term_of y ∷ [])) r → FewMade (staying (wedge_parts (a ∷ b ∷ []) (c ∷ d ∷ []))) r
     unfolding wedge_parts one_term_lem other-term staying select
     first_made p =
-        few_as r (term_of x ∷ (if second then [] else term_of y ∷ [])) (staying (one_term_lem ∷ other-term ∷ []))
-        ((λ i. (mx.is ∙ ap (λ (f : List ℕ). factor_term (pos 1) f (c ∷ [])) n.letters) i ∷ (if second then [] else y_is i ∷ []))
+        few_as r (term_of x ∷ (when second then [] else term_of y ∷ [])) (staying (one_term_lem ∷ other-term ∷ []))
+        ((λ i. (mx.is ∙ ap (λ (f : List ℕ). factor_term (pos 1) f (c ∷ [])) n.letters) i ∷ (when second then [] else y_is i ∷ []))
         ∙ ap (λ (ts : List S.Term). one_term_lem ∷ ts) (stays-unless other-term second [] other-judged) ∙ sym (other-stays one_term_lem (other-term ∷ []) (one_judged ∙ p)))
 
 -- ════ whether one stays

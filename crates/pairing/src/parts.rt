@@ -1,6 +1,6 @@
 // What two vector parts make in a product, as document 01's identities have it, but for terms that vanish: no term, one, or two.
 ghost use Rattle.std.specs.Prelude.{◌≡◌, ◌⊎◌, [], ◌∷◌, ◌++◌, ◌≤◌, ◌<◌, nat_abs, pos};
-ghost use Rattle.specification.specs.Results.{if◌then◌else◌};
+ghost use Rattle.specification.specs.Results.{when◌then◌else◌};
 ghost use Rattle.specification.specs.Terms.{exchange_sign, is_zero, staying, plus, minus, dot_of, triple_of};
 ghost use Rattle.specification.specs.Reduction.{times_parts, dot_parts, wedge_parts};
 ghost use Rattle.terms.specs.Numbers.{letters_of};
@@ -112,7 +112,7 @@ fn two(t: Term, u: Term) -> Few
 // One term, unless it vanishes. Only the count tells, so that no array is made twice.
 fn one_unless(gone: bool, t: Term) -> Few
     requires { Small t }
-    ensures { FewMade (if gone then [] else term_of t ∷ []) result }
+    ensures { FewMade (when gone then [] else term_of t ∷ []) result }
 {
     let n: usize = if gone { 0 } else { 1 };
     Few {
@@ -125,7 +125,7 @@ fn one_unless(gone: bool, t: Term) -> Few
 // Two terms, or the first alone where the second vanishes.
 fn two_unless(gone: bool, t: Term, u: Term) -> Few
     requires { Small t × Small u }
-    ensures { FewMade (term_of t ∷ (if gone then [] else term_of u ∷ [])) result }
+    ensures { FewMade (term_of t ∷ (when gone then [] else term_of u ∷ [])) result }
 {
     let n: usize = if gone { 1 } else { 2 };
     Few {

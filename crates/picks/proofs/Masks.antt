@@ -11,7 +11,7 @@ use lib.Dec.{eqb}
 use lib.ListN.{length, get_or, take, drop, set, length-set}
 use lib.Pow.{pow_mono}
 use lib.Seq.{length-take-le, append_snoc}
-use Rattle.specification.specs.Results.{if◌then◌else◌}
+use Rattle.specification.specs.Results.{when◌then◌else◌}
 use Rattle.theory.specs.Elements.{All, all_implies}
 use Rattle.theory.specs.Order.{nat-laws}
 use Rattle.theory.specs.Sorting as O
@@ -25,7 +25,7 @@ module _ {A : Type 0} where
   taken_map f k [] = refl
   taken_map {B} f k (x ∷ l) = go (eqb (k % 2) 1) (taken_map f (k / 2) l)
     where
-      go : (b : Bool) → {r : List B} → r ≡ map f (taken (k / 2) l) → (if b then f x ∷ r else r) ≡ map f (if b then x ∷ taken (k / 2) l else taken (k / 2) l)
+      go : (b : Bool) → {r : List B} → r ≡ map f (taken (k / 2) l) → (when b then f x ∷ r else r) ≡ map f (when b then x ∷ taken (k / 2) l else taken (k / 2) l)
       go true e = ap (λ (r : List B). f x ∷ r) e
       go false e = e
 
@@ -51,7 +51,7 @@ module _ {A : Type 0} where
   taken_left-long k (x ∷ l) = go (eqb (k % 2) 1) (taken_left-long (k / 2) l)
     where
       go : (b : Bool) → length (taken (k / 2) l) + length (left_over (k / 2) l) ≡ length l
-          → length (if b then x ∷ taken (k / 2) l else taken (k / 2) l) + length (if b then left_over (k / 2) l else x ∷ left_over (k / 2) l) ≡ suc (length l)
+          → length (when b then x ∷ taken (k / 2) l else taken (k / 2) l) + length (when b then left_over (k / 2) l else x ∷ left_over (k / 2) l) ≡ suc (length l)
       go true e = omega arith
       go false e = omega arith
 
@@ -60,7 +60,7 @@ module _ {A : Type 0} where
   taken_all P k [] a = tt
   taken_all P k (x ∷ l) a = go (eqb (k % 2) 1) (taken_all P (k / 2) l a.1)
     where
-      go : (b : Bool) → All P (taken (k / 2) l) → All P (if b then x ∷ taken (k / 2) l else taken (k / 2) l)
+      go : (b : Bool) → All P (taken (k / 2) l) → All P (when b then x ∷ taken (k / 2) l else taken (k / 2) l)
       go true w = (a.0, w)
       go false w = w
 
@@ -81,7 +81,7 @@ unfolding taken ones
 taken_count k [] h = let z : 0 ≡ k = omega arith in ap ones z
 taken_count {A} k (x ∷ l) h = go (k % 2) refl (taken_count (k / 2) l (omega (arith, N.two-pow-succ (length l)))) ∙ sym (ones_step k)
   where
-    go : (b : ℕ) → k % 2 ≡ b → length (taken (k / 2) l) ≡ ones (k / 2) → length (if eqb b 1 then x ∷ taken (k / 2) l else taken (k / 2) l) ≡ b + ones (k / 2)
+    go : (b : ℕ) → k % 2 ≡ b → length (taken (k / 2) l) ≡ ones (k / 2) → length (when eqb b 1 then x ∷ taken (k / 2) l else taken (k / 2) l) ≡ b + ones (k / 2)
     go zero e ih = ih ∙ sym (N.zero-add (ones (k / 2)))
     go (suc zero) e ih = omega (arith, ih)
     go (suc (suc b)) e ih = absurd (omega arith)

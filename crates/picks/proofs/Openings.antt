@@ -11,7 +11,7 @@ use lib.IntN.{ℤ, pos}
 use lib.ListN.{length, take, length-map}
 use lib.Seq.{length-take-le}
 use Rattle.algebra.specs.Integers.{NonZero, pos-nonzero}
-use Rattle.specification.specs.Results.{Test, given, require, if◌then◌else◌}
+use Rattle.specification.specs.Results.{Test, given, require, when◌then◌else◌}
 use Rattle.specification.specs.Lists.{joined, ascend, order}
 use Rattle.specification.specs.Letters.{vector}
 use Rattle.specification.specs.Terms.{term_kind, with_coef, coef_within, vector_letters, within, term_in_shape}
@@ -71,7 +71,7 @@ factors_left_lem t k left counted seven h e f n w =
 -- M with the coefficient 1
 pub unit-multiplier_is : (t : Term) (k rule : ℕ) → Counted t → length t.factors ≡ 7 → (f : List ℕ) (n : ℕ) (p : Part)
     → MaskTaken (take t.factor_count t.factors) k f n
-    → part_of p ≡ (if eqb (rule_kind rule) vector then [] else part_of t.part) → MultiplierOf t k rule (record {
+    → part_of p ≡ (when eqb (rule_kind rule) vector then [] else part_of t.part) → MultiplierOf t k rule (record {
       coef = pos 1;
       factors = f;
       factor_count =
@@ -85,28 +85,28 @@ unit-multiplier_is t k rule counted seven f n p w e = record {
 }
 
 -- the vector part of M, where the rule has one
-pub part-gone : (p : Part) (kind : ℕ) → kind ≡ 1 → [] ≡ (if eqb kind vector then [] else part_of p)
+pub part-gone : (p : Part) (kind : ℕ) → kind ≡ 1 → [] ≡ (when eqb kind vector then [] else part_of p)
 part-gone p kind e = rw (eq-eqb kind 1 e)
 
-pub part_stays : (p : Part) (kind : ℕ) → (kind ≡ 1 → ⊥) → part_of p ≡ (if eqb kind vector then [] else part_of p)
+pub part_stays : (p : Part) (kind : ℕ) → (kind ≡ 1 → ⊥) → part_of p ≡ (when eqb kind vector then [] else part_of p)
 part_stays p kind e = rw (ne_eqb kind 1 e)
 
 -- ════ the pool
 
 -- the letters of the vector part, where the rule has them
-pub part_left : (p : Part) (kind : ℕ) → kind ≡ 1 → (if eqb kind vector then part_of p else []) ≡ part_of p
+pub part_left : (p : Part) (kind : ℕ) → kind ≡ 1 → (when eqb kind vector then part_of p else []) ≡ part_of p
 part_left p kind e = rw (eq-eqb kind 1 e)
 
-pub part-kept : (p : Part) (kind : ℕ) → (kind ≡ 1 → ⊥) → (if eqb kind vector then part_of p else []) ≡ []
+pub part-kept : (p : Part) (kind : ℕ) → (kind ≡ 1 → ⊥) → (when eqb kind vector then part_of p else []) ≡ []
 part-kept p kind e = rw (ne_eqb kind 1 e)
 
 -- with the letters of the factors
 pub pool-filled : (t : Term) (k rule : ℕ) (xs : List (List ℕ)) {p q : List ℕ} {n r : ℕ} → xs ≡ left_over k (term_of t).factors
-    → Pooled (if eqb (rule_kind rule) vector then part_of t.part else []) p n
+    → Pooled (when eqb (rule_kind rule) vector then part_of t.part else []) p n
     → Adds (joined xs) p n q r → Pooled (letters_left (term_of t) k rule) q r
 unfolding letters_left term_of
 pool-filled t k rule xs {p} {q} {n} {r} e w a =
-    subst (λ (l : List (List ℕ)). Pooled (joined l ++ (if eqb (rule_kind rule) vector then part_of t.part else [])) q r) e (a.adds (if eqb (rule_kind rule)
+    subst (λ (l : List (List ℕ)). Pooled (joined l ++ (when eqb (rule_kind rule) vector then part_of t.part else [])) q r) e (a.adds (when eqb (rule_kind rule)
     vector then part_of t.part else []) w)
 
 -- ════ the tests of M

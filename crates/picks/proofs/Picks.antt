@@ -8,7 +8,7 @@ use borrow.Author.Tests.{eqb-true, ltb-true, ltb-false, lt-ltb, le-ltb, le-leb, 
 use lib.Dec.{T, eqb, leb, ltb}
 use lib.ListN.{length, get_or, take, drop, length-append}
 use lib.Seq.{length-take-le, get_or-take}
-use Rattle.specification.specs.Results.{if◌then◌else◌}
+use Rattle.specification.specs.Results.{when◌then◌else◌}
 use Rattle.specification.specs.Lists.{ascend}
 use Rattle.specification.specs.Rules.{rule_letters, is_rule}
 use Rattle.theory.specs.Elements.{All}
@@ -65,13 +65,13 @@ low n h = omega arith
 -- the letters that the code stores
 abbrev pub stored : (rule : ℕ) (x y : List ℕ) → List ℕ
 stored r x y =
-    get_or x 0 0 % 256 ∷ get_or x 1 0 % 256 ∷ get_or x 2 0 % 256 ∷ (if eqb r 2 then get_or x 3 0 else get_or y 0 0) % 256 ∷ (if eqb r 3 then get_or x 3 0 else get_or y 1 0)
+    get_or x 0 0 % 256 ∷ get_or x 1 0 % 256 ∷ get_or x 2 0 % 256 ∷ (when eqb r 2 then get_or x 3 0 else get_or y 0 0) % 256 ∷ (when eqb r 3 then get_or x 3 0 else get_or y 1 0)
     % 256 ∷ get_or y 2 0 % 256 ∷ []
 
-pub chosen : (a b r k : ℕ) → r ≡ k → a ≡ (if eqb r k then a else b)
+pub chosen : (a b r k : ℕ) → r ≡ k → a ≡ (when eqb r k then a else b)
 chosen a b r k e = rw (eq-eqb r k e)
 
-pub not_chosen : (a b r k : ℕ) → (r ≡ k → ⊥) → b ≡ (if eqb r k then a else b)
+pub not_chosen : (a b r k : ℕ) → (r ≡ k → ⊥) → b ≡ (when eqb r k then a else b)
 not_chosen a b r k e = rw (ne_eqb r k e)
 
 abbrev InOrder : (rule : ℕ) (x y : List ℕ) → Type 0
@@ -147,11 +147,11 @@ module _ (w : List ℕ) (rule j : ℕ) where
           others-long : length (left_over j w) ≡ c
           others-long = ap length (sym others-are) ∙ length-take-le c y (omega (arith, ty.few, ty.places))
 
-          first-is : block_is_first rule (taken j w) (left_over j w) ≡ (if eqb rule 5 then leb (get_or x 0 0) (get_or y 0 0) else true)
+          first-is : block_is_first rule (taken j w) (left_over j w) ≡ (when eqb rule 5 then leb (get_or x 0 0) (get_or y 0 0) else true)
           unfolding block_is_first
           first-is = go (eqb rule 5) refl
             where
-              go : (q : Bool) → eqb rule 5 ≡ q → (if q then leb (get_or (taken j w) 0 0) (get_or (left_over j w) 0 0) else true) ≡ (if q then leb (get_or x 0 0)
+              go : (q : Bool) → eqb rule 5 ≡ q → (when q then leb (get_or (taken j w) 0 0) (get_or (left_over j w) 0 0) else true) ≡ (when q then leb (get_or x 0 0)
                   (get_or y 0 0) else true)
               go false e = refl
               go true e =
@@ -176,7 +176,7 @@ module _ (w : List ℕ) (rule j : ℕ) where
                   )) in
                   λ i. leb (block i) (others i)
 
-          picks-are : picks rule w j ≡ (if eqb rule 5 then leb (get_or x 0 0) (get_or y 0 0) else true)
+          picks-are : picks rule w j ≡ (when eqb rule 5 then leb (get_or x 0 0) (get_or y 0 0) else true)
           unfolding picks
           picks-are = rw (right-size, block-rises, others-rise) first-is
 
@@ -195,6 +195,6 @@ module _ (w : List ℕ) (rule j : ℕ) where
                 (ap (λ (n : ℕ). take n x) block-long ∙ tx.is) (ap (λ (n : ℕ). take n y) others-long ∙ others-are);
           }
             where
-              go : (q : Bool) → eqb rule 5 ≡ q → (if q then leb (get_or x 0 0) (get_or y 0 0) else true) ≡ true
+              go : (q : Bool) → eqb rule 5 ≡ q → (when q then leb (get_or x 0 0) (get_or y 0 0) else true) ≡ true
               go true e = le-leb (get_or x 0 0) (get_or y 0 0) (first (eqb-true rule 5 e))
               go false e = refl

@@ -1,7 +1,7 @@
 -- Numbers taken by a mask, the letters that M leaves to a rule, and the letters of a rule by a mask over them. Assumes nothing.
 use Rattle.std.specs.Prelude.{Bool, true, false, not, ◌&&◌, ◌≡◌, List, [], ◌∷◌, ◌++◌, ℕ, zero, suc, ◌+◌, ◌≤◌, ◌<◌, T, eqb, ltb, ℤ, pos, length, take}
 use Rattle.std.specs.Int.Count.{ones}
-use Rattle.specification.specs.Results.{given, if◌then◌else◌}
+use Rattle.specification.specs.Results.{given, when◌then◌else◌}
 use Rattle.specification.specs.Lists.{joined, all, ascend, order, sorted}
 use Rattle.specification.specs.Letters.{vector}
 use Rattle.specification.specs.Terms.{with_coef, term_in_shape}
@@ -57,7 +57,7 @@ pub record Adds (xs p : List ℕ) (n : ℕ) (p' : List ℕ) (n' : ℕ) : Type 0 
 
 -- the letters that M leaves to the rule, in any order
 unfoldable pub letters_left : (t : S.Term) (mask rule : ℕ) → List ℕ
-letters_left t k r = joined (left_over k t.factors) ++ (if eqb (rule_kind r) vector then t.part else [])
+letters_left t k r = joined (left_over k t.factors) ++ (when eqb (rule_kind r) vector then t.part else [])
 
 -- ════ what M and the rule get
 

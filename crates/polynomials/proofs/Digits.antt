@@ -13,7 +13,7 @@ use Rattle.integers.proofs.Machine.{back_is}
 use lib.Dec.{leb, eqb}
 use borrow.Author.Tests.{eq-eqb, ne_eqb, le-leb, lt-leb}
 use Rattle.algebra.specs.Numbers.{shift_small, digit-small}
-use Rattle.specification.specs.Results.{if◌then◌else◌}
+use Rattle.specification.specs.Results.{when◌then◌else◌}
 use Rattle.polynomials.specs.Keys.{placed, times_digit, rest, exponent, lowest}
 use Rattle.polynomials.proofs.Keys.{rest_none, rest_same, rest-other, exponent_none, exponent_same, exponent-other, rest_zero, exponent_zero}
 
@@ -25,7 +25,7 @@ unfolding placed
 placed_some zero d k = N.le_refl d
 placed_some (suc n) d k = go (leb d (k % 256)) (placed_some n d (k / 256))
   where
-    go : (b : Bool) → d ≤ placed n d (k / 256) → d ≤ (if b then 256 * k + d else k % 256 + 256 * placed n d (k / 256))
+    go : (b : Bool) → d ≤ placed n d (k / 256) → d ≤ (when b then 256 * k + d else k % 256 + 256 * placed n d (k / 256))
     go true ih = omega arith
     go false ih = omega arith
 
@@ -35,7 +35,7 @@ unfolding placed
 placed-small zero d k h l = h
 placed-small (suc n) d k h l = go (leb d (k % 256)) (placed-small n d (k / 256) h (shift_small n k l))
   where
-    go : (b : Bool) → placed n d (k / 256) < 256 ^ suc n → (if b then 256 * k + d else k % 256 + 256 * placed n d (k / 256)) < 256 ^ suc (suc n)
+    go : (b : Bool) → placed n d (k / 256) < 256 ^ suc n → (when b then 256 * k + d else k % 256 + 256 * placed n d (k / 256)) < 256 ^ suc (suc n)
     go true ih = let z = digit-small (suc n) d k h l in omega arith
     go false ih = digit-small (suc n) (k % 256) (placed n d (k / 256)) (omega arith) ih
 
@@ -148,7 +148,7 @@ exponent-few zero d k = N.le_refl 0
 exponent-few (suc n) d k = go (eqb (k % 256) 0) (eqb (k % 256) d) (exponent-few n d (k / 256))
   where
     go : (b c : Bool) → exponent n d (k / 256) ≤ n
-        → (if b then exponent n d (k / 256) else if c then suc (exponent n d (k / 256)) else 0) ≤ suc n
+        → (when b then exponent n d (k / 256) else when c then suc (exponent n d (k / 256)) else 0) ≤ suc n
     go true c ih = omega arith
     go false true ih = omega arith
     go false false ih = omega arith

@@ -13,7 +13,7 @@ use lib.Seq.{take-suc, take_at, drop_at, length-take-le, take-take, take-set-le,
 use Rattle.algebra.specs.Integers.{nat_abs_*ℤ}
 use Rattle.algebra.specs.Lists.{length-tabulated, window}
 use Rattle.specification.specs.Lists.{joined}
-use Rattle.specification.specs.Results.{if◌then◌else◌}
+use Rattle.specification.specs.Results.{when◌then◌else◌}
 use Rattle.specification.specs.Terms.{vector_letters_of, term_in_shape}
 use Rattle.specification.specs.Terms as S
 use Rattle.theory.specs.Elements.{All, all_append, all_map, all_tabulated}
@@ -38,7 +38,7 @@ use Rattle.polynomials.proofs.Layers.{piece-small}
 
 -- the vector letters of a factor
 abbrev vectors : List ℕ → ℕ
-vectors f = if eqb (length f) 1 then 0 else length f
+vectors f = when eqb (length f) 1 then 0 else length f
 
 -- a dot makes three summands of one, and takes two letters
 dot-step : (v : ℕ) → v ≤ 4 → 3 * top v ≤ top (2 + v)
@@ -73,7 +73,7 @@ part_step_lem : (i : ℕ) (p : List ℕ) → length p ≤ 2 → count_of (part_b
 unfolding top count_of part_block
 part_step_lem i [] h = go (eqb i 0)
   where
-    go : (b : Bool) → count_of (if b then One else Zero) ≤ 1
+    go : (b : Bool) → count_of (when b then One else Zero) ≤ 1
     go true = omega arith
     go false = omega arith
 part_step_lem i (a ∷ []) h = omega arith
@@ -132,7 +132,7 @@ pub part_small : (i : ℕ) (p : List ℕ) → i < 3 → LettersBelow p → Small
 unfolding part_block
 part_small i [] h b = go (eqb i 0)
   where
-    go : (t : Bool) → SmallBlock (if t then One else Zero)
+    go : (t : Bool) → SmallBlock (when t then One else Zero)
     go true = tt
     go false = tt
 part_small i (l ∷ []) h b = (b.0, h)

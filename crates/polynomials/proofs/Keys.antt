@@ -10,7 +10,7 @@ use lib.Dec.{leb, eqb}
 use borrow.Author.Tests.{eq-eqb, ne_eqb, eqb-true, eqb-false, lt-leb, leb-true, leb-false}
 use lib.IntN.{ℤ, pos, ◌*ℤ◌}
 use Rattle.algebra.specs.Integers as R
-use Rattle.specification.specs.Results.{if◌then◌else◌}
+use Rattle.specification.specs.Results.{when◌then◌else◌}
 use Rattle.polynomials.specs.Keys.{digit_value, key_value, placed, times_digit, goes, rest, exponent, From, Ordered, tally}
 
 -- ════ digits
@@ -107,7 +107,7 @@ module _ (σ : ℕ → ℤ) where
   placed_value (suc n) d k h = go (leb d (k % 256)) (placed_value n d (k / 256) h)
     where
       go : (b : Bool) → key_value σ (suc n) (placed n d (k / 256)) ≡ digit_value σ d *ℤ key_value σ n (k / 256)
-          → key_value σ (suc (suc n)) (if b then 256 * k + d else k % 256 + 256 * placed n d (k / 256)) ≡ digit_value σ d *ℤ key_value σ (suc n) k
+          → key_value σ (suc (suc n)) (when b then 256 * k + d else k % 256 + 256 * placed n d (k / 256)) ≡ digit_value σ d *ℤ key_value σ (suc n) k
       go true ih = ap (key_value σ (suc (suc n))) (N.add_comm (256 * k) d) ∙ key_value-digit (suc n) d k h
       go false ih =
           key_value-digit (suc n) (k % 256) (placed n d (k / 256)) (omega arith)
@@ -122,7 +122,7 @@ module _ (σ : ℕ → ℤ) where
       low : key_value σ 8 k ≡ key_value σ 7 (k / 256)
       low = rw e (R.one_*ℤ (key_value σ 7 (k / 256)))
 
-      go : (b : Bool) → eqb d 0 ≡ b → key_value σ 8 (if b then k else placed 7 d (k / 256)) ≡ digit_value σ d *ℤ key_value σ 8 k
+      go : (b : Bool) → eqb d 0 ≡ b → key_value σ 8 (when b then k else placed 7 d (k / 256)) ≡ digit_value σ d *ℤ key_value σ 8 k
       go true p = sym (ap (λ (z : ℕ). digit_value σ z *ℤ key_value σ 8 k) (eqb-true d 0 p) ∙ R.one_*ℤ (key_value σ 8 k))
       go false p = placed_value 7 d (k / 256) h ∙ ap (λ (z : ℤ). digit_value σ d *ℤ z) (sym low)
 
@@ -146,7 +146,7 @@ placed-from low zero d k h l f =
 placed-from low (suc n) d k h l f = go (leb d (k % 256)) refl (placed-from (k % 256) n d (k / 256) h)
   where
     go : (b : Bool) → leb d (k % 256) ≡ b → (k % 256 ≤ d → From (k % 256) n (k / 256) → From (k % 256) (suc n) (placed n d (k / 256)))
-        → From low (suc (suc n)) (if b then 256 * k + d else k % 256 + 256 * placed n d (k / 256))
+        → From low (suc (suc n)) (when b then 256 * k + d else k % 256 + 256 * placed n d (k / 256))
     go true p ih =
         subst (From low (suc (suc n))) (N.add_comm d (256 * k))
         (from_digit low (suc n) d k h l (leb-true d (k % 256) p, f.1))
@@ -176,7 +176,7 @@ pub times-ordered : (d k : ℕ) → d < 256 → k % 256 ≡ 0 → Ordered 1 8 k 
 unfolding times_digit
 times-ordered d k h e o = go (eqb d 0) refl o
   where
-    go : (b : Bool) → eqb d 0 ≡ b → Ordered 1 8 k → Ordered 1 8 (if b then k else placed 7 d (k / 256))
+    go : (b : Bool) → eqb d 0 ≡ b → Ordered 1 8 k → Ordered 1 8 (when b then k else placed 7 d (k / 256))
     go true p o = o
     go false p (inl r) = placed-ordered 1 7 d (k / 256) h (N.le_refl 1) (omega (arith, eqb-false d 0 p)) r.1
     go false p (inr r) = absurd (omega (arith, r.0))
@@ -199,7 +199,7 @@ module _ (f : ℕ → ℕ) where
   placed-tally (suc n) d k h = go (leb d (k % 256)) (placed-tally n d (k / 256) h)
     where
       go : (b : Bool) → tally f (suc n) (placed n d (k / 256)) ≡ f d + tally f n (k / 256)
-          → tally f (suc (suc n)) (if b then 256 * k + d else k % 256 + 256 * placed n d (k / 256)) ≡ f d + tally f (suc n) k
+          → tally f (suc (suc n)) (when b then 256 * k + d else k % 256 + 256 * placed n d (k / 256)) ≡ f d + tally f (suc n) k
       go true ih = ap (tally f (suc (suc n))) (N.add_comm (256 * k) d) ∙ tally-digit (suc n) d k h
       go false ih = tally-digit (suc n) (k % 256) (placed n d (k / 256)) (omega arith) ∙ omega (arith, ih)
 
@@ -211,7 +211,7 @@ module _ (f : ℕ → ℕ) where
       low : tally f 8 k ≡ tally f 7 (k / 256)
       low = ap (λ (x : ℕ). f x + tally f 7 (k / 256)) e ∙ omega (arith, z)
 
-      go : (b : Bool) → eqb d 0 ≡ b → tally f 8 (if b then k else placed 7 d (k / 256)) ≡ f d + tally f 8 k
+      go : (b : Bool) → eqb d 0 ≡ b → tally f 8 (when b then k else placed 7 d (k / 256)) ≡ f d + tally f 8 k
       go true p = omega (arith, ap f (eqb-true d 0 p), z)
       go false p = placed-tally 7 d (k / 256) h ∙ omega (arith, low)
 

@@ -14,7 +14,7 @@ use lib.IntN as I
 use Rattle.algebra.specs.Integers.{NonZero, pos-nonzero, negsuc-nonzero, nat_abs_+ℤ, nat_abs_*ℤ}
 use Rattle.algebra.specs.Integers as R
 use Rattle.algebra.specs.Conditions.{eq-or-ne}
-use Rattle.specification.specs.Results.{if◌then◌else◌}
+use Rattle.specification.specs.Results.{when◌then◌else◌}
 use Rattle.specification.specs.Terms.{is_zero}
 use Rattle.theory.specs.Elements.{All, all_map}
 use Rattle.polynomials.specs.Keys.{digit_value, key_value, rest, exponent, Ordered}
@@ -52,7 +52,7 @@ module _ (m r : Summand) (rs : List Summand) where
   onto-like e = go (eqb m.key r.key) (λ h. eqb-false m.key r.key h e)
     where
       go : (b : Bool) → (b ≡ false → ⊥)
-          → (if b then onto (record { key = m.key; coef = m.coef +ℤ r.coef }) rs else kept m (onto r rs)) ≡ onto (record { key = m.key; coef = m.coef +ℤ r.coef }) rs
+          → (when b then onto (record { key = m.key; coef = m.coef +ℤ r.coef }) rs else kept m (onto r rs)) ≡ onto (record { key = m.key; coef = m.coef +ℤ r.coef }) rs
       go true h = refl
       go false h = absurd (h refl)
 
@@ -61,7 +61,7 @@ module _ (m r : Summand) (rs : List Summand) where
   unfolding onto
   onto-apart e = go (eqb m.key r.key) (λ h. e (eqb-true m.key r.key h))
     where
-      go : (b : Bool) → (b ≡ true → ⊥) → (if b then onto (record { key = m.key; coef = m.coef +ℤ r.coef }) rs else kept m (onto r rs)) ≡ kept m (onto r rs)
+      go : (b : Bool) → (b ≡ true → ⊥) → (when b then onto (record { key = m.key; coef = m.coef +ℤ r.coef }) rs else kept m (onto r rs)) ≡ kept m (onto r rs)
       go true h = absurd (h refl)
       go false h = refl
 

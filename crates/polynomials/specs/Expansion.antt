@@ -1,7 +1,7 @@
 -- The summands of a component of a term: a product of polynomials, multiplied out. Assumes nothing.
 use Rattle.std.specs.Prelude.{◌≡◌, ◌⊎◌, List, [], ◌∷◌, ◌++◌, map, ℕ, zero, suc, ◌+◌, ◌*◌, ◌/◌, ◌%◌, ◌≤◌, ◌<◌, eqb, ℤ, pos, negsuc, nat_abs, ◌*ℤ◌, length, get_or, take, drop}
 use Rattle.algebra.specs.Lists.{tabulated}
-use Rattle.specification.specs.Results.{if◌then◌else◌}
+use Rattle.specification.specs.Results.{when◌then◌else◌}
 use Rattle.specification.specs.Lists.{joined}
 use Rattle.specification.specs.Terms as S
 use Rattle.theory.specs.Elements.{All}
@@ -24,7 +24,7 @@ digit_of letter i = 3 * letter + i + 1
 
 -- plus for the first product of a wedge's component, minus for the second
 unfoldable pub piece_sign : (o : ℕ) → ℤ
-piece_sign o = if eqb o 0 then pos 1 else negsuc 0
+piece_sign o = when eqb o 0 then pos 1 else negsuc 0
 
 -- a product with the sign plus
 abbrev pub plus : (a b : ℕ) → Piece
@@ -65,7 +65,7 @@ block_of (l ∷ m ∷ k ∷ f) = Triple l m k
 
 -- the polynomial of the component i of a vector part
 unfoldable pub part_block : (i : ℕ) (part : List ℕ) → Block
-part_block i [] = if eqb i 0 then One else Zero
+part_block i [] = when eqb i 0 then One else Zero
 part_block i (l ∷ []) = Single l i
 part_block i (l ∷ m ∷ p) = Cross l m i
 

@@ -2,7 +2,7 @@
 --
 -- In a key the variables descend from the most significant digit on, and the zeros stand behind them.
 use Rattle.std.specs.Prelude.{Bool, ◌||◌, ◌≡◌, ◌⊎◌, ℕ, zero, suc, ◌+◌, ◌*◌, ◌/◌, ◌%◌, ◌≤◌, leb, eqb, ℤ, pos, ◌*ℤ◌}
-use Rattle.specification.specs.Results.{if◌then◌else◌}
+use Rattle.specification.specs.Results.{when◌then◌else◌}
 
 -- the value of a digit where each variable x has the value σ x
 unfoldable pub digit_value : (σ : ℕ → ℤ) (digit : ℕ) → ℤ
@@ -17,11 +17,11 @@ key_value σ (suc n) k = digit_value σ (k % 256) *ℤ key_value σ n (k / 256)
 -- a digit put into n digits in their order: before the first that is not less, from the lowest on
 unfoldable pub placed : (n digit key : ℕ) → ℕ
 placed zero d k = d
-placed (suc n) d k = if leb d (k % 256) then 256 * k + d else k % 256 + 256 * placed n d (k / 256)
+placed (suc n) d k = when leb d (k % 256) then 256 * k + d else k % 256 + 256 * placed n d (k / 256)
 
 -- a key whose lowest digit is 0 times the variable of a digit
 unfoldable pub times_digit : (digit key : ℕ) → ℕ
-times_digit d k = if eqb d 0 then k else placed 7 d (k / 256)
+times_digit d k = when eqb d 0 then k else placed 7 d (k / 256)
 
 -- the digit is 0 or d
 unfoldable pub goes : (d digit : ℕ) → Bool
@@ -30,18 +30,18 @@ goes d a = eqb a 0 || eqb a d
 -- the key with 0 for each d at its end
 unfoldable pub rest : (n d key : ℕ) → ℕ
 rest zero d k = k
-rest (suc n) d k = if goes d (k % 256) then 256 * rest n d (k / 256) else k
+rest (suc n) d k = when goes d (k % 256) then 256 * rest n d (k / 256) else k
 
 -- how often d stands at its end
 unfoldable pub exponent : (n d key : ℕ) → ℕ
 exponent zero d k = 0
 exponent (suc n) d k =
-    if eqb (k % 256) 0 then exponent n d (k / 256) else if eqb (k % 256) d then suc (exponent n d (k / 256)) else 0
+    when eqb (k % 256) 0 then exponent n d (k / 256) else when eqb (k % 256) d then suc (exponent n d (k / 256)) else 0
 
 -- the lowest digit that is not 0, or 0
 unfoldable pub lowest : (n key : ℕ) → ℕ
 lowest zero k = 0
-lowest (suc n) k = if eqb (k % 256) 0 then lowest n (k / 256) else k % 256
+lowest (suc n) k = when eqb (k % 256) 0 then lowest n (k / 256) else k % 256
 
 -- n digits, none below `low`, that descend from the highest on
 abbrev pub From : (low n key : ℕ) → Type 0

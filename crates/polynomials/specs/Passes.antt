@@ -1,6 +1,6 @@
 -- What the passes over summands ask and promise. Assumes nothing.
 use Rattle.std.specs.Prelude.{◌≡◌, List, [], ◌∷◌, ◌++◌, map, ℕ, ◌+◌, ◌^◌, ◌≤◌, ◌<◌, leb, eqb, ℤ, length, take, drop}
-use Rattle.specification.specs.Results.{if◌then◌else◌}
+use Rattle.specification.specs.Results.{when◌then◌else◌}
 use Rattle.polynomials.specs.declared.passes.Loaded.{Loaded}
 use Rattle.polynomials.specs.Keys.{lowest}
 use Rattle.polynomials.specs.Summands.{Summand, mass, kept, put_for, substituted}
@@ -31,7 +31,7 @@ pub record Substituted (d v n r : ℕ) (ms ns : List Summand) : Type 0 where
 
 -- the lesser of two digits, where 0 is none
 unfoldable pub lesser_of : (a b : ℕ) → ℕ
-lesser_of a b = if eqb a 0 then b else if eqb b 0 then a else if leb a b then a else b
+lesser_of a b = when eqb a 0 then b else when eqb b 0 then a else when leb a b then a else b
 
 -- the least digit of the keys and of d that is not 0, or 0
 unfoldable pub least_from : (d : ℕ) (ms : List Summand) → ℕ

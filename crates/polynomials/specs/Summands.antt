@@ -1,7 +1,7 @@
 -- Polynomials as lists of summands: values, like neighbours added, a number put for the lowest variable. Assumes nothing.
 use Rattle.std.specs.Prelude.{Bool, true, false, List, [], ◌∷◌, map, ℕ, suc, ◌+◌, ◌*◌, ◌^◌, ◌≤◌, eqb, ℤ, pos, nat_abs, ◌+ℤ◌, ◌*ℤ◌}
 use Rattle.algebra.specs.Integers.{NonZero}
-use Rattle.specification.specs.Results.{if◌then◌else◌}
+use Rattle.specification.specs.Results.{when◌then◌else◌}
 use Rattle.specification.specs.Terms.{is_zero}
 use Rattle.polynomials.specs.Keys.{key_value, rest, exponent}
 
@@ -30,7 +30,7 @@ mass ms = size (λ k. 1) ms
 
 -- a summand in front, unless its coefficient is 0
 unfoldable pub kept : (m : Summand) (ms : List Summand) → List Summand
-kept m ms = if is_zero m.coef then ms else m ∷ ms
+kept m ms = when is_zero m.coef then ms else m ∷ ms
 
 -- a summand and those behind it: neighbours of one key are added, zeros dropped
 unfoldable pub onto : (m : Summand) (ms : List Summand) → List Summand
@@ -38,7 +38,7 @@ onto m [] = kept m []
 onto m (r ∷ rs) =
     let added = onto (record { key = m.key; coef = m.coef +ℤ r.coef }) rs in
     let apart = kept m (onto r rs) in
-    if eqb m.key r.key then added else apart
+    when eqb m.key r.key then added else apart
 
 -- neighbours of one key added, zeros dropped
 unfoldable pub like_added : (ms : List Summand) → List Summand

@@ -8,7 +8,7 @@ use borrow.Author.Tests.{le-leb, lt-leb}
 use lib.Dec.{T, leb}
 use lib.ListN.{length, get_or, take, drop, length-drop}
 use lib.Seq.{take_all}
-use Rattle.specification.specs.Results.{Result, Test, refused, given, ◌>>◌, if◌then◌else◌}
+use Rattle.specification.specs.Results.{Result, Test, refused, given, ◌>>◌, when◌then◌else◌}
 use Rattle.specification.specs.Letters.{good_table, test_table}
 use Rattle.specification.specs.Records.{write_into}
 use Rattle.specification.specs.Reduction.{reduced}
@@ -151,7 +151,7 @@ pub printed-inside : (s before after : List ℕ) (r : Printing) (m : ℕ) → �
 unfolding printing_of print_answer
 printed-inside s before after r m e h = go (leb line_bytes (length before)) ((λ i. (printing_of (sym h i), after)) ∙ e)
   where
-    go : (b : Bool) → ◌≡◌ {A = Result ℕ × List ℕ} (given m, after) (if b then (given (length (print_call s)), write_into (print_call s) before) else (
+    go : (b : Bool) → ◌≡◌ {A = Result ℕ × List ℕ} (given m, after) (when b then (given (length (print_call s)), write_into (print_call s) before) else (
       refused 2,
       before,
     )) → m ≤ length after

@@ -7,7 +7,7 @@ use native.Mathlib.Omega.{arith}
 use lib.Dec.{T, eqb}
 use lib.IntN.{ℤ, nat_abs}
 use lib.ListN.{length, length-append}
-use Rattle.specification.specs.Results.{if◌then◌else◌}
+use Rattle.specification.specs.Results.{when◌then◌else◌}
 use Rattle.specification.specs.Lists.{joined}
 use Rattle.specification.specs.Terms.{Term, Form, term_in_shape, vector_letters_of, scalar_letters_of}
 use Rattle.specification.specs.Printing.{decimal, print_factor, print_part, is_nothing, print_size, print_star, print_term, print_terms, print_form, line_bytes}
@@ -28,7 +28,7 @@ size_short : (k : ℤ) (others : List ℕ) → length (print_size k others) ≤ 
 unfolding print_size
 size_short k others = go (eqb (nat_abs k) 1 && not (is_nothing others))
   where
-    go : (b : Bool) → length (if b then [] else decimal (nat_abs k)) ≤ 10
+    go : (b : Bool) → length (when b then [] else decimal (nat_abs k)) ≤ 10
     go true = omega arith
     go false = decimal_short (nat_abs k)
 
@@ -60,7 +60,7 @@ module _ (names : List ℕ) where
   unfolding print_star
   star_short t = go (is_nothing (size_text t ++ print_factors names t) || is_nothing t.part)
     where
-      go : (b : Bool) → length {A = ℕ} (if b then [] else 42 ∷ []) ≤ 1
+      go : (b : Bool) → length {A = ℕ} (when b then [] else 42 ∷ []) ≤ 1
       go true = omega arith
       go false = omega arith
 

@@ -6,7 +6,7 @@ use Prim.Native.Nat.{ℕ, ◌+◌, ◌<◌, ◌≤◌}
 use native.Mathlib.Omega.{arith}
 use lib.Dec.{eqb}
 use lib.ListN.{length}
-use Rattle.specification.specs.Results.{if◌then◌else◌}
+use Rattle.specification.specs.Results.{when◌then◌else◌}
 use Rattle.specification.specs.Records.{bit_of, part_bit}
 use Rattle.record_writing.specs.Written.{FieldBit}
 
@@ -15,7 +15,7 @@ pub part_bit-small : (xs : List ℕ) → part_bit xs ≤ 32
 unfolding part_bit
 part_bit-small xs = go (eqb (length xs) 1) (eqb (length xs) 2)
   where
-    go : (a b : Bool) → (if a then 16 else if b then 32 else 0) ≤ 32
+    go : (a b : Bool) → (when a then 16 else when b then 32 else 0) ≤ 32
     go true b = omega arith
     go false true = omega arith
     go false false = omega arith

@@ -1,6 +1,6 @@
 -- What the readers' structs say, and a term record as steps from one to the next. Assumes nothing.
 use Rattle.std.specs.Prelude.{Bool, ◌≡◌, List, [], map, ℕ, ◌+◌, ◌≤◌, pos}
-use Rattle.specification.specs.Results.{Result, refused, given, ◌>>=◌, ◌>>◌, if◌then◌else◌}
+use Rattle.specification.specs.Results.{Result, refused, given, ◌>>=◌, ◌>>◌, when◌then◌else◌}
 use Rattle.specification.specs.Terms.{with_coef, plus}
 use Rattle.specification.specs.Terms as S
 use Rattle.specification.specs.Records.{read_coef, read_factors, read_letters, test_shape, stands, part_letters}
@@ -13,7 +13,7 @@ use Rattle.records.specs.declared.read.TermReading.{TermReading}
 
 -- what was read of a term, and the position behind it; the only refusal here is 11
 unfoldable pub read_of : TermReading → Result (S.Term × ℕ)
-read_of r = if r.ok then given (term_of r.term, r.next) else refused 11
+read_of r = when r.ok then given (term_of r.term, r.next) else refused 11
 
 -- factors alone, the first n of a list
 unfoldable pub listed : ℕ → List ℕ → Term

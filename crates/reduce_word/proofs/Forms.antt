@@ -8,7 +8,7 @@ use native.Mathlib.Numerals.{sub-one}
 use borrow.Author.Tests.{eq-eqb, ne_eqb}
 use lib.ListN.{length, take, drop, length-append, length-drop, drop_of_length-le}
 use lib.Seq.{take-append_seam}
-use Rattle.specification.specs.Results.{if◌then◌else◌}
+use Rattle.specification.specs.Results.{when◌then◌else◌}
 use Rattle.specification.specs.Terms as S
 use Rattle.specification.specs.Records.{write_into}
 use Rattle.specification.specs.Printing.{print_form, TextWritten}
@@ -113,7 +113,7 @@ module _ (s : List ℕ) (x : Lined (List ℕ)) (names table out : List ℕ) (lef
     lines_more out' end' p e t reached = record {
       text = h.text ++ (print_form names (form_of r.form).terms ++ 10 ∷ []);
       same = turn
-          ∙ ap (λ (b : Bool). in_line (place_of s q) (if b then placed (form_of r.form) else refused_at r.refusal r.column) >>> after) (eq-eqb r.refusal 0 e)
+          ∙ ap (λ (b : Bool). in_line (place_of s q) (when b then placed (form_of r.form) else refused_at r.refusal r.column) >>> after) (eq-eqb r.refusal 0 e)
           ∙ (λ i. reduce_lines (left - 1) names table (sym reached.is i) (append_assoc h.text (print_form names (form_of r.form).terms) (10 ∷ []) i));
       told = t.is h.text h.told;
       inside = reached.inside;

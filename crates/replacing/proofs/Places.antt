@@ -6,7 +6,7 @@ use Prim.Native.Nat.{ℕ, suc, ◌+◌, ◌<◌, ◌≤◌}
 use native.Mathlib.Omega.{arith}
 use lib.Dec.{eqb}
 use lib.ListN.{length, get_or, take, drop}
-use Rattle.specification.specs.Results.{if◌then◌else◌}
+use Rattle.specification.specs.Results.{when◌then◌else◌}
 use Rattle.theory.specs.Reduction.Standing.{has_letter, factor_has, leading_of}
 use Rattle.terms.specs.declared.factors.Factor.{Factor}
 use Rattle.terms.specs.declared.factors.Factor.TheVariants.{Scalar, Dot, Triple}
@@ -79,11 +79,11 @@ module _ (letter : ℕ) (p : Part) where
 
 module _ (letter : ℕ) (f : List ℕ) (n i d : ℕ) (g : n ≤ length f) where
   leading_at : (b : Bool) → i < n → b ≡ factor_has letter (letters_of (get_or f i d))
-      → leading_of letter (map letters_of (drop i (take n f))) ≡ (if b then 0 else suc (leading_of letter (map letters_of (drop (i + 1) (take n f)))))
+      → leading_of letter (map letters_of (drop i (take n f))) ≡ (when b then 0 else suc (leading_of letter (map letters_of (drop (i + 1) (take n f)))))
   unfolding leading_of
   leading_at b h e =
       ap (λ (l : List ℕ). leading_of letter (map letters_of l)) (rest_at f n i d g h)
-      ∙ ap (λ (c : Bool). if c then 0 else suc (leading_of letter (map letters_of (drop (i + 1) (take n f))))) (sym e)
+      ∙ ap (λ (c : Bool). when c then 0 else suc (leading_of letter (map letters_of (drop (i + 1) (take n f))))) (sym e)
 
   module _ (b : Bool) (e : b ≡ factor_has letter (letters_of (get_or f i d))) (h : i < n)
       (total : leading_of letter (map letters_of (take n f)) ≡ i + leading_of letter (map letters_of (drop i (take n f)))) where

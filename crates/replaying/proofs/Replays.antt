@@ -8,7 +8,7 @@ use lib.Dec.{compare_is_eq}
 use lib.IntN.{ℤ}
 use lib.ListN.{length, get_or, take, drop, length-map, drop_of_length-le}
 use lib.Seq.{length-take-le}
-use Rattle.specification.specs.Results.{Result, refused, given, if◌then◌else◌}
+use Rattle.specification.specs.Results.{Result, refused, given, when◌then◌else◌}
 use Rattle.specification.specs.Terms.{compare_terms}
 use Rattle.specification.specs.Terms as S
 use Rattle.specification.specs.Rules.{take_step}
@@ -145,6 +145,6 @@ module _ (f last : Form) (q : Steps) (n : ℕ) (rows : List (List ℕ)) (coefs :
   unfolding found_of replay
   replayed h b o = record {
     is = λ log l. begins log ∙ rw (eq-eqb r.number 0 h)
-        (λ i. if (ap (λ (g : S.Form). same_form g (form_by f.kind r.count rows' coefs')) l ∙ sym o) i then accepted log.first_end log.last_start
+        (λ i. when (ap (λ (g : S.Form). same_form g (form_by f.kind r.count rows' coefs')) l ∙ sym o) i then accepted log.first_end log.last_start
         (length log.steps) else refused_at 13 (q.count + 1));
   }

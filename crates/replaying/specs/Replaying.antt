@@ -1,7 +1,7 @@
 -- What the replay gives, and equal terms. Assumes nothing.
 use Rattle.std.specs.Prelude.{◌≡◌, Bool, ◌&&◌, List, [], ℕ, ◌+◌, ℤ, length}
 use Rattle.std.proofs.Math.Dec.{compare_is_eq}
-use Rattle.specification.specs.Results.{if◌then◌else◌}
+use Rattle.specification.specs.Results.{when◌then◌else◌}
 use Rattle.specification.specs.Terms.{compare_terms}
 use Rattle.specification.specs.Terms as S
 use Rattle.specification.specs.Logs.{Log, refused_at, accepted, same_coef, replay}
@@ -22,7 +22,7 @@ pub record ReachedAs (kind n : ℕ) (rows : List (List ℕ)) (coefs : List ℤ) 
 -- a log with this last form: accepted where all steps reach it, or the refusal of one, or 13 with the last form's step
 pub record ReplayedAs (f : Form) (q : Steps) (last : Form) (r : Replayed) : Type 0 where
   pub is : (log : Log) → log.last ≡ form_of last → replay log 1 (form_of f) (steps_of q)
-      ≡ found_of r.number r.step (if r.same then accepted log.first_end log.last_start (length log.steps) else refused_at 13 (q.count + 1))
+      ≡ found_of r.number r.step (when r.same then accepted log.first_end log.last_start (length log.steps) else refused_at 13 (q.count + 1))
 
 -- equal terms
 unfoldable pub same_term : S.Term → S.Term → Bool

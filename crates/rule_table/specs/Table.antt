@@ -1,6 +1,6 @@
 -- The five rules as one table: the rows of a rule, in their order, are the terms of its left side and those of its right side negated. Assumes nothing.
 use Rattle.std.specs.Prelude.{◌≡◌, List, [], ◌∷◌, ◌++◌, map, ℕ, zero, suc, ◌+◌, ◌-◌, ◌*◌, ◌/◌, ◌%◌, ◌<◌, ◌≤◌, eqb, ℤ, pos, negsuc, nat_abs, ◌*ℤ◌, length, get_or, take, drop}
-use Rattle.specification.specs.Results.{if◌then◌else◌}
+use Rattle.specification.specs.Results.{when◌then◌else◌}
 use Rattle.specification.specs.Lists.{order, sorted}
 use Rattle.specification.specs.Terms.{compare_letters, factors_sign, tidy, times_term}
 use Rattle.specification.specs.Terms as S
@@ -48,7 +48,7 @@ letter ls p = get_or ls (p - 1) 0
 
 -- the letter at a place, or none at 0
 unfoldable pub letter_at : (letters : List ℕ) (place : ℕ) → List ℕ
-letter_at ls p = if eqb p 0 then [] else letter ls p ∷ []
+letter_at ls p = when eqb p 0 then [] else letter ls p ∷ []
 
 -- the letters at three places, the last of which may be 0
 unfoldable pub factor_letters : (letters : List ℕ) (places : ℕ) → List ℕ
@@ -56,15 +56,15 @@ factor_letters ls c = letter ls (c / 64) ∷ letter ls (c / 8 % 8) ∷ letter_at
 
 -- the factor of three places, or none at 0
 unfoldable pub factor_at : (letters : List ℕ) (places : ℕ) → List (List ℕ)
-factor_at ls c = if eqb c 0 then [] else factor_letters ls c ∷ []
+factor_at ls c = when eqb c 0 then [] else factor_letters ls c ∷ []
 
 -- the vector part of two places, nothing where the first is 0
 unfoldable pub part_at : (letters : List ℕ) (places : ℕ) → List ℕ
-part_at ls c = if eqb (c / 8) 0 then [] else letter ls (c / 8) ∷ letter_at ls (c % 8)
+part_at ls c = when eqb (c / 8) 0 then [] else letter ls (c / 8) ∷ letter_at ls (c % 8)
 
 -- the sign of a row
 unfoldable pub row_sign : (row : ℕ) → ℤ
-row_sign n = if eqb (n / 8589934592) 1 then pos 1 else negsuc 0
+row_sign n = when eqb (n / 8589934592) 1 then pos 1 else negsuc 0
 
 -- a row at letters
 unfoldable pub row_term : (letters : List ℕ) (row : ℕ) → S.Term
@@ -85,7 +85,7 @@ first_row r = 4 * (r - 1)
 
 -- how many rows a rule has: one term on the left, three or six on the right
 unfoldable pub row_count : (rule : ℕ) → ℕ
-row_count r = if eqb r 5 then 7 else 4
+row_count r = when eqb r 5 then 7 else 4
 
 -- ════ what the functions give
 

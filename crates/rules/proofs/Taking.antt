@@ -12,7 +12,7 @@ use lib.Dec.{T, eqb, leb, leb→le}
 use lib.IntN.{ℤ, nat_abs}
 use lib.ListN.{length, get_or, take}
 use lib.Seq.{length-take-le}
-use Rattle.specification.specs.Results.{Test, refused, given, ◌>>◌, require, if◌then◌else◌}
+use Rattle.specification.specs.Results.{Test, refused, given, ◌>>◌, require, when◌then◌else◌}
 use Rattle.specification.specs.Terms.{times_term, insert, term_kind, vector_letters, scalar_letters, within, gather, gather_into}
 use Rattle.specification.specs.Terms as S
 use Rattle.specification.specs.Rules.{rule_kind, rule_letters, step_kinds_fit, step_terms, take_step}
@@ -46,7 +46,7 @@ use Rattle.rule_table.proofs.Tied.{tied, row_next, row_all, row_at}
 
 -- the kinds by the rule's and M's
 kinds_are : (kind : ℕ) (s : Step) → step_kinds_fit (record { kind = kind; terms = [] }) (step_of s)
-    ≡ (if eqb (rule_kind s.rule) 1 then eqb (kind_of_part (part_of s.m.part)) 0 && eqb kind 1 else eqb kind (kind_of_part (part_of s.m.part)))
+    ≡ (when eqb (rule_kind s.rule) 1 then eqb (kind_of_part (part_of s.m.part)) 0 && eqb kind 1 else eqb kind (kind_of_part (part_of s.m.part)))
 unfolding step_kinds_fit step_of term_kind term_of
 kinds_are kind s = refl
 
@@ -73,7 +73,7 @@ pub few-letters : (r : ℕ) → rule_letters r ≤ 6
 unfolding rule_letters
 few-letters r = go (leb r 2) (leb r 4)
   where
-    go : (a b : Bool) → (if a then 4 else if b then 5 else 6) ≤ 6
+    go : (a b : Bool) → (when a then 4 else when b then 5 else 6) ≤ 6
     go true b = omega arith
     go false true = omega arith
     go false false = omega arith
@@ -82,7 +82,7 @@ some_letters : (r : ℕ) → 4 ≤ rule_letters r
 unfolding rule_letters
 some_letters r = go (leb r 2) (leb r 4)
   where
-    go : (a b : Bool) → 4 ≤ (if a then 4 else if b then 5 else 6)
+    go : (a b : Bool) → 4 ≤ (when a then 4 else when b then 5 else 6)
     go true b = omega arith
     go false true = omega arith
     go false false = omega arith

@@ -7,7 +7,7 @@ use borrow.Author.Tests.{lt-ltb, le-ltb}
 use lib.Dec.{ltb}
 use lib.ListN.{length, take, drop, length-drop}
 use lib.Seq.{take-length}
-use Rattle.specification.specs.Results.{if◌then◌else◌}
+use Rattle.specification.specs.Results.{when◌then◌else◌}
 use Rattle.specification.specs.Terms as S
 use Rattle.specification.specs.Text as T
 use Rattle.specification.specs.Text.{Placed, refused_at, placed, ◌>>=◌, text_form}
@@ -78,10 +78,10 @@ module _ (names table line : List ℕ) (at : ℕ) (t : TextForm) (h : TextGives 
 
 module _ (names table line : List ℕ) (at : ℕ) (e : at ≡ T.place_of line 61) (r : Sides) where
   -- by its position
-  by_sign : read_sides names table line ≡ (if ltb at (length line) then both_sides names table line at else refused_at 4 (length line))
+  by_sign : read_sides names table line ≡ (when ltb at (length line) then both_sides names table line at else refused_at 4 (length line))
   unfolding read_sides both_sides
   by_sign =
-      ap (λ (k : ℕ). if ltb k (length line) then both_sides names table line k else refused_at 4 (length line)) (sym e)
+      ap (λ (k : ℕ). when ltb k (length line) then both_sides names table line k else refused_at 4 (length line)) (sym e)
 
   -- there is one
   pub sign-there : at < length line → SidesRead table (both_sides names table line at) r → SidesRead table (read_sides names table line) r

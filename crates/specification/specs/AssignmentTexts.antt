@@ -1,6 +1,6 @@
 -- Assignments as text: `a = (1, 0, -2), m = 3`. Assumes nothing.
 use Rattle.std.specs.Prelude.{◌&&◌, ◌||◌, List, [], ◌∷◌, ◌++◌, ℕ, zero, suc, ◌+◌, ◌-◌, ◌*◌, length, get_or, take, drop, ltb, leb, eqb}
-use Rattle.specification.specs.Results.{if◌then◌else◌}
+use Rattle.specification.specs.Results.{when◌then◌else◌}
 use Rattle.specification.specs.Letters.{scalar, kind_of}
 use Rattle.specification.specs.Evaluation.{good_assignment}
 use Rattle.specification.specs.Text.{Placed, refused_at, placed, ◌>>=◌, is_letter, is_digit, place_of, next}
@@ -10,11 +10,11 @@ use Rattle.specification.specs.LogTexts.{mark}
 unfoldable pub read_component : (line : List ℕ) (at : ℕ) → Placed (ℕ × ℕ)
 read_component line at =
     let minus = eqb (get_or line at 0) 45 in
-    let first = if minus then next line at else at in
+    let first = when minus then next line at else at in
     let size = get_or line first 0 - 48 in
-    let byte = if minus && leb 1 size then 256 - size else size in
-    if is_digit (get_or line first 0)
-    then (if ltb 6 size || is_digit (get_or line (first + 1) 0) then refused_at 12 first else placed (byte, next line first))
+    let byte = when minus && leb 1 size then 256 - size else size in
+    when is_digit (get_or line first 0)
+    then (when ltb 6 size || is_digit (get_or line (first + 1) 0) then refused_at 12 first else placed (byte, next line first))
     else refused_at 4 first
 
 -- `(1, -2, 3)` of a vector, `2` of a scalar: three signed bytes and the position behind them
@@ -30,7 +30,7 @@ read_value kind line at =
     read_component line third >>= λ z.
     mark 41 line z.1 >>= λ end.
     placed (x.0 ∷ y.0 ∷ z.0 ∷ [], end) in
-    if eqb kind scalar then number else three
+    when eqb kind scalar then number else three
 
 -- three bytes at a letter's place
 unfoldable pub put_three : (n : ℕ) (three bytes : List ℕ) → List ℕ
@@ -52,6 +52,6 @@ read_assigned (suc most) names table line at so =
     read_value (kind_of table n) line value >>= λ r.
     (let all : List ℕ = put_three n r.0 so in
     let further : Placed (List ℕ) = mark 44 line r.1 >>= λ name. read_assigned most names table line name all in
-    let end : Placed (List ℕ) = if good_assignment table all then placed all else refused_at 12 r.1 in
-    if leb (length line) r.1 then end else further) in
-    if is_letter b then (if ltb n (length names) then (if eqb (get_or so (3 * n) 0) 127 then more else refused_at 12 at) else refused_at 5 at) else refused_at 4 at
+    let end : Placed (List ℕ) = when good_assignment table all then placed all else refused_at 12 r.1 in
+    when leb (length line) r.1 then end else further) in
+    when is_letter b then (when ltb n (length names) then (when eqb (get_or so (3 * n) 0) 127 then more else refused_at 12 at) else refused_at 5 at) else refused_at 4 at

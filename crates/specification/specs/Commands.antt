@@ -3,7 +3,7 @@
 -- A refusal is told alone: its number, line and column, the line, and a mark under the place. The first word of an answer is the verdict. The word
 -- `derivation` alone answers each line by itself.
 use Rattle.std.specs.Prelude.{◌≡◌, Bool, true, false, ◌&&◌, ◌||◌, List, [], ◌∷◌, ◌++◌, ℕ, zero, suc, ◌+◌, ℤ, pos, negsuc, length, get_or, take, drop, ltb, leb, eqb}
-use Rattle.specification.specs.Results.{Result, refused, given, ◌>>◌, if◌then◌else◌}
+use Rattle.specification.specs.Results.{Result, refused, given, ◌>>◌, when◌then◌else◌}
 use Rattle.specification.specs.Letters.{scalar, test_table}
 use Rattle.specification.specs.Values.{Vec}
 use Rattle.specification.specs.Terms.{Form}
@@ -36,17 +36,17 @@ signed_numeral (negsuc n) = 45 ∷ numeral (suc n)
 -- why a line is refused
 unfoldable pub reason : ℕ → List ℕ
 reason n =
-    if eqb n 1 then bytes "no name, more than 24 names, or a name twice" else
-    if eqb n 2 then bytes "more output than there is room for" else
-    if eqb n 3 then bytes "too long or too deep" else
-    if eqb n 4 then bytes "torn" else
-    if eqb n 5 then bytes "a name that is not declared" else
-    if eqb n 6 then bytes "kinds that do not fit" else
-    if eqb n 7 then bytes "more than 48 pairs of terms" else
-    if eqb n 8 then bytes "more than 6 vector letters or 2 scalar letters in a term" else
-    if eqb n 9 then bytes "a coefficient beyond 2147483647" else
-    if eqb n 10 then bytes "more than 48 terms" else
-    if eqb n 11 then bytes "not one term" else
+    when eqb n 1 then bytes "no name, more than 24 names, or a name twice" else
+    when eqb n 2 then bytes "more output than there is room for" else
+    when eqb n 3 then bytes "too long or too deep" else
+    when eqb n 4 then bytes "torn" else
+    when eqb n 5 then bytes "a name that is not declared" else
+    when eqb n 6 then bytes "kinds that do not fit" else
+    when eqb n 7 then bytes "more than 48 pairs of terms" else
+    when eqb n 8 then bytes "more than 6 vector letters or 2 scalar letters in a term" else
+    when eqb n 9 then bytes "a coefficient beyond 2147483647" else
+    when eqb n 10 then bytes "more than 48 terms" else
+    when eqb n 11 then bytes "not one term" else
     bytes "not an assignment of numbers from -6 to 6 to every name"
 
 -- so many blanks
@@ -73,7 +73,7 @@ reduce_lines zero names table p before = lined before
 reduce_lines (suc most) names table p before =
     let more : Lined (List ℕ) =
     in_line p (text_form names table (line_of p)) >>> λ f. reduce_lines most names table (to_line (next_line p)) (before ++ print_form names f.terms ++ 10 ∷ []) in
-    if at_end p then lined before else more
+    when at_end p then lined before else more
 
 -- the names, then the forms
 unfoldable pub reduce_input : (s : List ℕ) → Lined (List ℕ)
@@ -84,19 +84,19 @@ reduce_input s = read_header s >>> λ h. reduce_lines (length s) h.0.0 h.0.1 h.1
 -- why a log is refused at a step
 unfoldable pub step_reason : ℕ → List ℕ
 step_reason n =
-    if eqb n 5 then bytes "a letter that is not in the table" else
-    if eqb n 6 then bytes "kinds that do not fit" else
-    if eqb n 8 then bytes "more than 6 vector letters or 2 scalar letters in a term" else
-    if eqb n 9 then bytes "a gathered coefficient beyond 2147483647" else
-    if eqb n 10 then bytes "more than 48 terms" else
-    if eqb n 11 then bytes "not in the one written shape" else
-    if eqb n 13 then bytes "the last form is not the one reached" else
-    if eqb n 14 then bytes "more than 64 steps" else
+    when eqb n 5 then bytes "a letter that is not in the table" else
+    when eqb n 6 then bytes "kinds that do not fit" else
+    when eqb n 8 then bytes "more than 6 vector letters or 2 scalar letters in a term" else
+    when eqb n 9 then bytes "a gathered coefficient beyond 2147483647" else
+    when eqb n 10 then bytes "more than 48 terms" else
+    when eqb n 11 then bytes "not in the one written shape" else
+    when eqb n 13 then bytes "the last form is not the one reached" else
+    when eqb n 14 then bytes "more than 64 steps" else
     bytes "a table that is none"
 
 -- `1 step`, `2 steps`
 unfoldable pub count_text : ℕ → (word : List ℕ) → List ℕ
-count_text n word = numeral n ++ bytes " " ++ word ++ (if eqb n 1 then [] else bytes "s")
+count_text n word = numeral n ++ bytes " " ++ word ++ (when eqb n 1 then [] else bytes "s")
 
 -- `accepted, 1 step, 4 terms to 0` or `refused 9 at step 3: a gathered coefficient beyond 2147483647`
 unfoldable pub checked_text : (first last : ℕ) → C.Checked → List ℕ
@@ -141,14 +141,14 @@ unpack_log table s = unpacked_text table (test_table table >> C.read_log s)
 -- "a missing length byte or a cut table is 1"
 unfoldable pub unpack_input : (s : List ℕ) → List ℕ
 unpack_input s =
-    if leb 1 (length s) && leb (get_or s 0 0 + 1) (length s) then unpack_log (input_table s) (drop (get_or s 0 0 + 1) s) else checked_text 0 0 (C.refused_at 1 0)
+    when leb 1 (length s) && leb (get_or s 0 0 + 1) (length s) then unpack_log (input_table s) (drop (get_or s 0 0 + 1) s) else checked_text 0 0 (C.refused_at 1 0)
 
 -- ════ value: a formula and an assignment line
 
 -- three numbers of a vector, one of a scalar
 unfoldable pub value_text : (kind : ℕ) → Vec → List ℕ
 value_text kind v =
-    if eqb kind scalar then signed_numeral v.x
+    when eqb kind scalar then signed_numeral v.x
     else bytes "(" ++ signed_numeral v.x ++ bytes ", " ++ signed_numeral v.y ++ bytes ", " ++ signed_numeral v.z ++ bytes ")"
 
 -- the formula's value under the line behind it, and nothing more
@@ -166,9 +166,9 @@ value_input s =
 -- an empty form has the other's kind: 6 at the sign where kinds differ
 unfoldable pub paired : (at : ℕ) → Form → Form → Placed (Form × Form)
 paired at f g =
-    if eqb (length f.terms) 0 then placed (record { kind = g.kind; terms = [] }, g) else
-    if eqb (length g.terms) 0 then placed (f, record { kind = f.kind; terms = [] }) else
-    if eqb f.kind g.kind then placed (f, g) else
+    when eqb (length f.terms) 0 then placed (record { kind = g.kind; terms = [] }, g) else
+    when eqb (length g.terms) 0 then placed (f, record { kind = f.kind; terms = [] }) else
+    when eqb f.kind g.kind then placed (f, g) else
     refused_at 6 at
 
 -- the forms of the two sides of the first `=`: 4 at the end of the line where there is none
@@ -179,14 +179,14 @@ read_sides names table line =
     text_form names table (take at line) >>= λ f.
     from (at + 1) (text_form names table (drop (at + 1) line)) >>= λ g.
     paired at f g in
-    if ltb at (length line) then both else refused_at 4 (length line)
+    when ltb at (length line) then both else refused_at 4 (length line)
 
 -- an assignment by names: `a = (0, 0, 1), m = 2`
 unfoldable pub assignment_text : (names table s : List ℕ) → List ℕ
 assignment_text [] table s = []
 assignment_text (n ∷ names) [] s = []
 assignment_text (n ∷ names) (k ∷ table) s =
-    n ∷ bytes " = " ++ value_text k (assignment s 0) ++ (if eqb (length names) 0 then [] else bytes ", ") ++ assignment_text names table (drop 3 s)
+    n ∷ bytes " = " ++ value_text k (assignment s 0) ++ (when eqb (length names) 0 then [] else bytes ", ") ++ assignment_text names table (drop 3 s)
 
 -- `holds`; or `differs`, the assignment, and what each side is under it
 unfoldable pub decision_text : (names table : List ℕ) (f g : Form) (s : List ℕ) → Decision → List ℕ
@@ -230,7 +230,7 @@ names_answer n = (unopened n.0 n.1, [])
 
 -- the line of the first form: 1 where no names are declared
 unfoldable pub read_first : (names table line : List ℕ) → Placed Form
-read_first names table line = if leb 1 (length names) then read_form_line names table line else refused_at 1 0
+read_first names table line = when leb 1 (length names) then read_form_line names table line else refused_at 1 0
 
 -- "open with a table .. and a first form": the form is told
 unfoldable pub first_answer : (names table : List ℕ) → Form → Derivation × List ℕ
@@ -238,7 +238,7 @@ first_answer names table f = (underway names f (record { table = table; count = 
 
 -- the line of a step: 4 for a line that is none
 unfoldable pub read_one_step : (names table line : List ℕ) → Placed Step
-read_one_step names table line = if is_step_line line then read_step_line names table line else refused_at 4 (skip line 0)
+read_one_step names table line = when is_step_line line then read_step_line names table line else refused_at 4 (skip line 0)
 
 -- "A refused step leaves the log open as before": the refusal is told with the number that the step would have
 unfoldable pub step_refused : (names : List ℕ) (first : Form) (state : State) (steps : List Step) (n : ℕ) → Derivation × List ℕ
@@ -252,18 +252,18 @@ step_answer names first state steps step (given next) = (underway names first ne
 -- what the line k leaves, and what is told for it; "14 for a 65th step, tested before anything in that step"
 unfoldable pub answer_line : (k : ℕ) (line : List ℕ) → Derivation → Derivation × List ℕ
 answer_line k line (unopened names table) =
-    if is_declaration line
+    when is_declaration line
     then line_read k line (unopened names table) (declared line (names, table)) names_answer
     else line_read k line (unopened names table) (read_first names table line) (first_answer names table)
 answer_line k line (underway names first state steps) =
-    if is_step_line line && leb 64 state.count
+    when is_step_line line && leb 64 state.count
     then step_refused names first state steps 14
     else line_read k line (underway names first state steps) (read_one_step names state.table line)
     λ step. step_answer names first state steps step (add_to state (C.write_step step))
 
 -- "blank lines are passed"
 unfoldable pub pass_line : (k : ℕ) (line : List ℕ) → Derivation → Derivation × List ℕ
-pass_line k line d = if is_empty_line line then (d, []) else answer_line k line d
+pass_line k line d = when is_empty_line line then (d, []) else answer_line k line d
 
 -- what lines leave, the first of them the line k, and what is told for them behind what was told before
 unfoldable pub answer_lines : (k : ℕ) (lines : List (List ℕ)) → Derivation → (before : List ℕ) → Derivation × List ℕ
@@ -327,12 +327,12 @@ is_command word =
 -- the answer to a word that fixes it
 unfoldable pub command_text : (word s : List ℕ) → List ℕ
 command_text word s =
-    if same_bytes word (bytes "reduce") then answer_text (reduce_input s) else
-    if same_bytes word (bytes "value") then answer_text (value_input s) else
-    if same_bytes word (bytes "check") then answer_text (check_input s) else
-    if same_bytes word (bytes "pack") then answer_text (pack_input s) else
-    if same_bytes word (bytes "unpack") then unpack_input s else
-    if same_bytes word (bytes "derivation") then derivation_input s else
+    when same_bytes word (bytes "reduce") then answer_text (reduce_input s) else
+    when same_bytes word (bytes "value") then answer_text (value_input s) else
+    when same_bytes word (bytes "check") then answer_text (check_input s) else
+    when same_bytes word (bytes "pack") then answer_text (pack_input s) else
+    when same_bytes word (bytes "unpack") then unpack_input s else
+    when same_bytes word (bytes "derivation") then derivation_input s else
     usage
 
 -- the one, or the other
@@ -353,7 +353,7 @@ answer_bytes = 65536
 -- its length and the text in front of the bytes lent; 2, and they stand, where it has more than they or more than an answer has
 unfoldable pub tell_into : (text out : List ℕ) → Result ℕ × List ℕ
 tell_into text out =
-    if leb (length text) answer_bytes && leb (length text) (length out) then (given (length text), write_into text out) else (refused 2, out)
+    when leb (length text) answer_bytes && leb (length text) (length out) then (given (length text), write_into text out) else (refused 2, out)
 
 -- the call: a word, an input and the bytes lent; the answer, and the bytes afterwards
 pub record CommandAnswered (word s out : List ℕ) (answer : Result ℕ) (out' : List ℕ) : Type 0 where

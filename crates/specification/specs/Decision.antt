@@ -1,7 +1,7 @@
 -- The decision: its refusals, and what holds of its answer and of every byte lent. Assumes nothing.
 use Rattle.std.specs.Prelude.{◌≡◌, Bool, ◌&&◌, List, ℕ, ◌+◌, ◌*◌, ◌<◌, pos, length, get_or, drop, T, leb, eqb}
 use Rattle.specification.specs.Lists.{each}
-use Rattle.specification.specs.Results.{Result, refused, given, ◌>>=◌, ◌>>◌, require, if◌then◌else◌}
+use Rattle.specification.specs.Results.{Result, refused, given, ◌>>=◌, ◌>>◌, require, when◌then◌else◌}
 use Rattle.specification.specs.Values.{Vec}
 use Rattle.specification.specs.Letters.{scalar, kind_of, test_table}
 use Rattle.specification.specs.Terms.{Form}
@@ -42,7 +42,7 @@ letter_in_range table s n =
     let first = get_or s (3 * n) 0 in
     let second = get_or s (3 * n + 1) 0 in
     let third = get_or s (3 * n + 2) 0 in
-    if eqb (kind_of table n) scalar
+    when eqb (kind_of table n) scalar
     then leb first 2 && eqb second 0 && eqb third 0
     else leb first 6 && leb second 6 && leb third 6
 

@@ -3,7 +3,7 @@
 -- An assignment gives three integers a letter; a scalar letter uses the first.
 use Rattle.std.specs.Prelude.{Bool, ◌&&◌, ◌||◌, List, [], ◌∷◌, ℕ, ◌+◌, ◌-◌, ◌*◌, ℤ, pos, negsuc, ◌*ℤ◌, length, get_or, ltb, leb, eqb}
 use Rattle.specification.specs.Lists.{all, each}
-use Rattle.specification.specs.Results.{Result, given, ◌>>=◌, ◌>>◌, require, if◌then◌else◌}
+use Rattle.specification.specs.Results.{Result, given, ◌>>=◌, ◌>>◌, require, when◌then◌else◌}
 use Rattle.specification.specs.Values.{Vec, scalar_value, ◌+v◌, ◌-v◌, ◌•◌, dot, wedge, triple}
 use Rattle.specification.specs.Letters.{scalar, vector, kind_of, test_table}
 use Rattle.specification.specs.Terms.{Term, Form}
@@ -52,20 +52,20 @@ expr_kind (Constant k) = scalar
 expr_kind (Sum e f) = expr_kind e
 expr_kind (Difference e f) = expr_kind e
 expr_kind (Negation e) = expr_kind e
-expr_kind (Times e f) = if eqb (expr_kind e) scalar then expr_kind f else expr_kind e
+expr_kind (Times e f) = when eqb (expr_kind e) scalar then expr_kind f else expr_kind e
 expr_kind (Dot e f) = scalar
 expr_kind (Wedge e f) = vector
 expr_kind (Triple e f g) = scalar
 
 -- the value of an expression, by components
 unfoldable pub expr_value : (σ : ℕ → Vec) (e : Expr) → Vec
-expr_value σ (Letter n kind) = if eqb kind scalar then scalar_value (σ n).x else σ n
+expr_value σ (Letter n kind) = when eqb kind scalar then scalar_value (σ n).x else σ n
 expr_value σ (Constant k) = scalar_value k
 expr_value σ (Sum e f) = expr_value σ e +v expr_value σ f
 expr_value σ (Difference e f) = expr_value σ e -v expr_value σ f
 expr_value σ (Negation e) = negsuc 0 • expr_value σ e
 expr_value σ (Times e f) =
-    if eqb (expr_kind e) scalar then (expr_value σ e).x • expr_value σ f else (expr_value σ f).x • expr_value σ e
+    when eqb (expr_kind e) scalar then (expr_value σ e).x • expr_value σ f else (expr_value σ f).x • expr_value σ e
 expr_value σ (Dot e f) = scalar_value (dot (expr_value σ e) (expr_value σ f))
 expr_value σ (Wedge e f) = wedge (expr_value σ e) (expr_value σ f)
 expr_value σ (Triple e f g) = scalar_value (triple (expr_value σ e) (expr_value σ f) (expr_value σ g))
@@ -74,7 +74,7 @@ expr_value σ (Triple e f g) = scalar_value (triple (expr_value σ e) (expr_valu
 
 -- a signed byte
 unfoldable pub signed_byte : ℕ → ℤ
-signed_byte b = if ltb b 128 then pos b else negsuc (255 - b)
+signed_byte b = when ltb b 128 then pos b else negsuc (255 - b)
 
 -- "signed bytes from −6 to 6"
 unfoldable pub six_or_less : ℕ → Bool

@@ -1,6 +1,6 @@
 -- Expressions: the tree, and reading it from its bytes in prefix order. Assumes nothing.
 use Rattle.std.specs.Prelude.{List, ℕ, zero, suc, ◌+◌, ℤ, length, get_or, ltb, leb, eqb}
-use Rattle.specification.specs.Results.{Result, Test, refused, given, ◌>>=◌, ◌>>◌, require, if◌then◌else◌}
+use Rattle.specification.specs.Results.{Result, Test, refused, given, ◌>>=◌, ◌>>◌, require, when◌then◌else◌}
 use Rattle.specification.specs.Letters.{kind_of}
 use Rattle.specification.specs.Records.{four_bytes_at}
 
@@ -25,7 +25,7 @@ pub data Token : Type 0 where
 
 -- the bytes of a token itself: 01 n, 02 and four bytes, else one
 unfoldable pub token_bytes : (token : ℕ) → ℕ
-token_bytes token = if eqb token 1 then 2 else if eqb token 2 then 5 else 1
+token_bytes token = when eqb token 1 then 2 else when eqb token 2 then 5 else 1
 
 -- "its token, letter or constant bytes missing (4)"
 unfoldable pub test_bytes : (s : List ℕ) (at : ℕ) → Test
@@ -43,15 +43,15 @@ read_letter table n = do
 unfoldable pub read_token : (table s : List ℕ) (at : ℕ) → Result Token
 read_token table s at =
     let token = get_or s at 0 in
-    if eqb token 1 then read_letter table (get_or s (at + 1) 0) else
-    if eqb token 2 then given (leaf (Constant (four_bytes_at s (at + 1)))) else
-    if eqb token 3 then given (two Sum) else
-    if eqb token 4 then given (two Difference) else
-    if eqb token 5 then given (one Negation) else
-    if eqb token 6 then given (two Times) else
-    if eqb token 7 then given (two Dot) else
-    if eqb token 8 then given (two Wedge) else
-    if eqb token 9 then given (three Triple) else
+    when eqb token 1 then read_letter table (get_or s (at + 1) 0) else
+    when eqb token 2 then given (leaf (Constant (four_bytes_at s (at + 1)))) else
+    when eqb token 3 then given (two Sum) else
+    when eqb token 4 then given (two Difference) else
+    when eqb token 5 then given (one Negation) else
+    when eqb token 6 then given (two Times) else
+    when eqb token 7 then given (two Dot) else
+    when eqb token 8 then given (two Wedge) else
+    when eqb token 9 then given (three Triple) else
     refused 4
 
 -- the operands of a token, left to right: `tree` reads the tree at a position

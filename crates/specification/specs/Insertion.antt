@@ -1,6 +1,6 @@
 -- Insertion (document 02, K1): a vector form put in for a vector letter of a form. Assumes nothing.
 use Rattle.std.specs.Prelude.{◌&&◌, List, [], ◌∷◌, ℕ, pos, eqb}
-use Rattle.specification.specs.Results.{Result, given, ◌>>=◌, ◌>>◌, require, if◌then◌else◌}
+use Rattle.specification.specs.Results.{Result, given, ◌>>=◌, ◌>>◌, require, when◌then◌else◌}
 use Rattle.specification.specs.Values.{Vec}
 use Rattle.specification.specs.Letters.{scalar, vector, test_letter}
 use Rattle.specification.specs.Terms.{Term, Form}
@@ -41,7 +41,7 @@ plus_terms e (t ∷ ts) = plus_terms (Sum e (term_tree t)) ts
 
 -- the form of a letter: the inserted one for the vector letter that is replaced, else the letter itself
 unfoldable pub leaf_with : (letter : ℕ) (inserted : Form) → (n kind : ℕ) → Form
-leaf_with letter inserted n kind = if eqb kind vector && eqb n letter then inserted else letter_form n kind
+leaf_with letter inserted n kind = when eqb kind vector && eqb n letter then inserted else letter_form n kind
 
 -- "The result is worked as an expression"; the empty form has no tree and stands
 unfoldable pub insert_terms : (leaf : (n kind : ℕ) → Form) (kind : ℕ) (terms : List Term) → Result Form
@@ -54,7 +54,7 @@ insert_form letter inserted form = insert_terms (leaf_with letter inserted) form
 
 -- "where that letter has the inserted form's value": an assignment with another value for one letter
 unfoldable pub replaced : (σ : ℕ → Vec) (letter : ℕ) (v : Vec) → ℕ → Vec
-replaced σ letter v n = if eqb n letter then v else σ n
+replaced σ letter v n = when eqb n letter then v else σ n
 
 -- ════ the call
 

@@ -3,7 +3,7 @@
 -- A place is the number of a line, from 1, and all bytes from its first on. What is refused in a line is told with the line's number and text.
 use Rattle.std.specs.Prelude.{Bool, true, false, ◌&&◌, ◌||◌, List, [], ◌∷◌, ◌++◌, ℕ, zero, suc, ◌+◌, length, get_or, take, drop, ltb, leb, eqb}
 use Rattle.specification.specs.Lists.{all}
-use Rattle.specification.specs.Results.{if◌then◌else◌}
+use Rattle.specification.specs.Results.{when◌then◌else◌}
 use Rattle.specification.specs.Letters.{scalar, vector}
 use Rattle.specification.specs.Words.{bytes}
 use Rattle.specification.specs.Text.{Placed, refused_at, placed, is_letter, place_of, skip, next}
@@ -13,12 +13,12 @@ use Rattle.specification.specs.Text.{Placed, refused_at, placed, is_letter, plac
 -- the bytes before the first newline
 unfoldable pub first_line : List ℕ → List ℕ
 first_line [] = []
-first_line (b ∷ s) = let more = b ∷ first_line s in if eqb b 10 then [] else more
+first_line (b ∷ s) = let more = b ∷ first_line s in when eqb b 10 then [] else more
 
 -- all behind it
 unfoldable pub behind_line : List ℕ → List ℕ
 behind_line [] = []
-behind_line (b ∷ s) = let more = behind_line s in if eqb b 10 then s else more
+behind_line (b ∷ s) = let more = behind_line s in when eqb b 10 then s else more
 
 -- a byte in front of the first of lines
 unfoldable pub in_front : ℕ → List (List ℕ) → List (List ℕ)
@@ -28,7 +28,7 @@ in_front b (line ∷ ls) = (b ∷ line) ∷ ls
 -- all lines of a text: each ends at a newline, the last one there or at the end
 unfoldable pub lines_of : List ℕ → List (List ℕ)
 lines_of [] = []
-lines_of (b ∷ s) = let more = in_front b (lines_of s) in if eqb b 10 then [] ∷ lines_of s else more
+lines_of (b ∷ s) = let more = in_front b (lines_of s) in when eqb b 10 then [] ∷ lines_of s else more
 
 -- where a line begins: its number, and all from it on
 abbrev pub Place : Type 0
@@ -55,7 +55,7 @@ unfoldable pub past_empty : (most : ℕ) → Place → Place
 past_empty zero p = p
 past_empty (suc most) p =
     let more : Place = past_empty most (next_line p) in
-    if at_end p then p else if is_empty_line (line_of p) then more else p
+    when at_end p then p else when is_empty_line (line_of p) then more else p
 
 -- "blank lines are passed"
 unfoldable pub to_line : Place → Place
@@ -112,11 +112,11 @@ read_names (suc most) kind line at n =
     let vectors : Placed Named = read_names most vector line (skip line (at + 7)) n in
     let scalars : Placed Named = read_names most scalar line (skip line (at + 7)) n in
     let one : Placed Named = read_names most kind line (next line at) (n.0 ++ b ∷ [], n.1 ++ kind ∷ []) in
-    if leb (length line) at then placed n else
-    if is_word_at (bytes "vectors") line at then vectors else
-    if is_word_at (bytes "scalars") line at then scalars else
-    if is_letter b && is_word_at (b ∷ []) line at
-    then (if ltb (place_of n.0 b) (length n.0) || leb 24 (length n.0) then refused_at 1 at else one)
+    when leb (length line) at then placed n else
+    when is_word_at (bytes "vectors") line at then vectors else
+    when is_word_at (bytes "scalars") line at then scalars else
+    when is_letter b && is_word_at (b ∷ []) line at
+    then (when ltb (place_of n.0 b) (length n.0) || leb 24 (length n.0) then refused_at 1 at else one)
     else refused_at 4 at
 
 -- a line that begins with one of the two words
@@ -132,11 +132,11 @@ unfoldable pub read_declared : (most : ℕ) → Place → Named → Lined (Named
 read_declared zero p n = lined (n, p)
 read_declared (suc most) p n =
     let more : Lined (Named × Place) = in_line p (declared (line_of p) n) >>> λ m. read_declared most (to_line (next_line p)) m in
-    if is_declaration (line_of p) then more else lined (n, p)
+    when is_declaration (line_of p) then more else lined (n, p)
 
 -- names are declared: 1 at the first other line where there are none
 unfoldable pub some_names : Named × Place → Lined (Named × Place)
-some_names r = if leb 1 (length r.0.0) then lined r else refused_in 1 r.1.0 0 (line_of r.1)
+some_names r = when leb 1 (length r.0.0) then lined r else refused_in 1 r.1.0 0 (line_of r.1)
 
 -- the names of a text, and where its other lines begin
 unfoldable pub read_header : List ℕ → Lined (Named × Place)

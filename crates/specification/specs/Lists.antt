@@ -1,7 +1,7 @@
 -- Lists in general: every element passes a test, those that do, joining, the order of lists, sorting. Assumes nothing.
 use Rattle.std.specs.Prelude.{Bool, true, false, ◌&&◌, List, [], ◌∷◌, ◌++◌, length, ltb, eqb}
 use Prim.Native.Nat.{ℕ, zero, suc, Ordering}
-use Rattle.specification.specs.Results.{if◌then◌else◌}
+use Rattle.specification.specs.Results.{when◌then◌else◌}
 
 -- the first test decides; where it finds no difference, the second
 abbrev pub then_by : Ordering → Ordering → Ordering
@@ -17,7 +17,7 @@ by_order Ordering.gt a b c = c
 
 -- numbers by their size
 unfoldable pub order : ℕ → ℕ → Ordering
-order a b = if ltb a b then Ordering.lt else if eqb a b then Ordering.eq else Ordering.gt
+order a b = when ltb a b then Ordering.lt else when eqb a b then Ordering.eq else Ordering.gt
 
 -- strictly before
 abbrev pub is_less : Ordering → Bool
@@ -45,7 +45,7 @@ module _ {A : Type 0} where
   -- the elements that pass the test, in their order
   unfoldable pub select : (A → Bool) → List A → List A
   select f [] = []
-  select f (x ∷ xs) = let rest = select f xs in if f x then x ∷ rest else rest
+  select f (x ∷ xs) = let rest = select f xs in when f x then x ∷ rest else rest
 
   -- lists one behind the other
   unfoldable pub joined : List (List A) → List A
@@ -78,7 +78,7 @@ module _ {A : Type 0} where
   -- an element put before the first that is not less: an ascending list stays ascending, equal ones are kept
   unfoldable pub put_into : (A → A → Ordering) → A → List A → List A
   put_into f x [] = x ∷ []
-  put_into f x (y ∷ ys) = let behind = y ∷ put_into f x ys in if is_not_more (f x y) then x ∷ y ∷ ys else behind
+  put_into f x (y ∷ ys) = let behind = y ∷ put_into f x ys in when is_not_more (f x y) then x ∷ y ∷ ys else behind
 
   -- the list in ascending order, equal ones kept
   unfoldable pub sorted : (A → A → Ordering) → List A → List A

@@ -1,6 +1,6 @@
 -- Logs as text: a first line with the names, the first form, one line a step, the last form, each form with its kind. Assumes nothing.
 use Rattle.std.specs.Prelude.{Bool, true, false, ◌&&◌, List, [], ◌∷◌, ◌++◌, map, ℕ, zero, suc, ◌+◌, ◌-◌, length, get_or, drop, ltb, leb, eqb}
-use Rattle.specification.specs.Results.{if◌then◌else◌}
+use Rattle.specification.specs.Results.{when◌then◌else◌}
 use Rattle.specification.specs.Letters.{scalar, vector}
 use Rattle.specification.specs.Terms.{Term, Form}
 use Rattle.specification.specs.Rules.{Step, rule_letters, is_rule}
@@ -14,14 +14,14 @@ use Rattle.specification.specs.Lines.{Place, line_of, next_line, to_line, at_end
 
 -- `vectors` or `scalars`
 unfoldable pub kinds_word : (kind : ℕ) → List ℕ
-kinds_word kind = if eqb kind scalar then bytes "scalars" else bytes "vectors"
+kinds_word kind = when eqb kind scalar then bytes "scalars" else bytes "vectors"
 
 -- names behind those of a kind: a word where the kind is another
 unfoldable pub write_names : (kind : ℕ) (names table : List ℕ) → List ℕ
 write_names kind [] table = []
 write_names kind (n ∷ names) [] = []
 write_names kind (n ∷ names) (k ∷ table) =
-    (if eqb k kind then [] else 32 ∷ kinds_word k) ++ 32 ∷ n ∷ write_names k names table
+    (when eqb k kind then [] else 32 ∷ kinds_word k) ++ 32 ∷ n ∷ write_names k names table
 
 -- "a first line with the names": `vectors w r u scalars m`
 unfoldable pub names_line : (names table : List ℕ) → List ℕ
@@ -29,7 +29,7 @@ names_line names table = kinds_word (get_or table 0 0) ++ write_names (get_or ta
 
 -- `vector` or `scalar`
 unfoldable pub kind_word : (kind : ℕ) → List ℕ
-kind_word kind = if eqb kind scalar then bytes "scalar" else bytes "vector"
+kind_word kind = when eqb kind scalar then bytes "scalar" else bytes "vector"
 
 -- "each form with its kind": `vector (a.c)*b-(a.b)*c`
 unfoldable pub form_line : (names : List ℕ) → Form → List ℕ
@@ -49,8 +49,8 @@ from at (placed a) = placed a
 -- a formula with its kind: an empty form has the kind that is told; another has its own, 6 at the formula where it is not the one told
 unfoldable pub of_kind : (kind at : ℕ) → Form → Placed Form
 of_kind kind at f =
-    if eqb (length f.terms) 0 then placed (record { kind = kind; terms = [] }) else
-    if eqb f.kind kind then placed f else
+    when eqb (length f.terms) 0 then placed (record { kind = kind; terms = [] }) else
+    when eqb f.kind kind then placed f else
     refused_at 6 at
 
 -- the formula behind a word of a line
@@ -63,13 +63,13 @@ read_form_line names table line =
     let at = skip line 0 in
     let vectors : Placed Form = kind_at names table line vector (skip line (at + 6)) in
     let scalars : Placed Form = kind_at names table line scalar (skip line (at + 6)) in
-    if is_word_at (bytes "vector") line at then vectors else
-    if is_word_at (bytes "scalar") line at then scalars else
+    when is_word_at (bytes "vector") line at then vectors else
+    when is_word_at (bytes "scalar") line at then scalars else
     refused_at 4 at
 
 -- a byte that has to stand here, and the position behind it
 unfoldable pub mark : (b : ℕ) (line : List ℕ) (at : ℕ) → Placed ℕ
-mark b line at = if eqb (get_or line at 0) b then placed (next line at) else refused_at 4 at
+mark b line at = when eqb (get_or line at 0) b then placed (next line at) else refused_at 4 at
 
 -- so many names, and the position behind them: 4 where no letter stands, 5 where it is not declared
 unfoldable pub read_letters_at : (count : ℕ) (names line : List ℕ) (at : ℕ) → Placed (List ℕ × ℕ)
@@ -78,7 +78,7 @@ read_letters_at (suc count) names line at =
     let b = get_or line at 0 in
     let n = place_of names b in
     let more : Placed (List ℕ × ℕ) = read_letters_at count names line (next line at) >>= λ r. placed (n ∷ r.0, r.1) in
-    if is_letter b then (if ltb n (length names) then more else refused_at 5 at) else refused_at 4 at
+    when is_letter b then (when ltb n (length names) then more else refused_at 5 at) else refused_at 4 at
 
 -- M is one term: 11 at the formula where it is not
 unfoldable pub one_term : (at : ℕ) → Form → Placed Term
@@ -107,16 +107,16 @@ read_step_line names table line =
     from formula (text_form names table (drop formula line)) >>= λ f.
     one_term formula f >>= λ t.
     placed (record { rule = rule; letters = r.0; m = t }) in
-    if leb 49 (get_or line at 0) && leb (get_or line at 0) 53 then step else refused_at 4 at
+    when leb 49 (get_or line at 0) && leb (get_or line at 0) 53 then step else refused_at 4 at
 
 -- the lines of steps behind those before, at most so many, and where the others begin; 3 where one more is a step
 unfoldable pub read_step_lines : (most : ℕ) (names table : List ℕ) → Place → (before : List Step) → Lined (List Step × Place)
 read_step_lines zero names table p before =
-    if is_step_line (line_of p) then refused_in 3 p.0 0 (line_of p) else lined (before, p)
+    when is_step_line (line_of p) then refused_in 3 p.0 0 (line_of p) else lined (before, p)
 read_step_lines (suc most) names table p before =
     let more : Lined (List Step × Place) =
     in_line p (read_step_line names table (line_of p)) >>> λ s. read_step_lines most names table (to_line (next_line p)) (before ++ s ∷ []) in
-    if is_step_line (line_of p) then more else lined (before, p)
+    when is_step_line (line_of p) then more else lined (before, p)
 
 -- what a text of a log says
 pub record LogRead : Type 0 where
@@ -128,7 +128,7 @@ pub record LogRead : Type 0 where
 
 -- nothing but empty lines stands from a place on: 4 where something does
 unfoldable pub nothing_left : {A : Type 0} → Place → A → Lined A
-nothing_left p a = if at_end p then lined a else refused_in 4 p.0 0 (line_of p)
+nothing_left p a = when at_end p then lined a else refused_in 4 p.0 0 (line_of p)
 
 -- the first form, the steps and the last form
 unfoldable pub read_log_lines : (names table : List ℕ) → Place → Lined LogRead

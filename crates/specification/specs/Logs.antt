@@ -2,7 +2,7 @@
 use Rattle.std.specs.Prelude.{Bool, true, false, ◌&&◌, List, [], ◌∷◌, ◌++◌, map, ℕ, zero, suc, ◌+◌, ℤ, pos, negsuc, length, get_or, ltb, leb, eqb}
 use Rattle.std.proofs.Math.Dec.{compare_is_eq}
 use Rattle.specification.specs.Lists.{joined}
-use Rattle.specification.specs.Results.{Result, refused, given, ◌>>=◌, ◌>>◌, require, if◌then◌else◌}
+use Rattle.specification.specs.Results.{Result, refused, given, ◌>>=◌, ◌>>◌, require, when◌then◌else◌}
 use Rattle.specification.specs.Letters.{test_table}
 use Rattle.specification.specs.Terms.{Term, Form, compare_terms}
 use Rattle.specification.specs.Records.{write_term, write_form, read_letters, read_term_at, read_form_at, test_terms}
@@ -103,7 +103,7 @@ steps_letters table k (s ∷ ss) rest = at_step k (test_step_letters table s) λ
 -- the steps from step k on, taken in their order from the current form; "After all steps the last form must be the current one, otherwise 13 with the last form's step"
 unfoldable pub replay : (log : Log) (k : ℕ) (current : Form) (steps : List Step) → Checked
 replay log k current [] =
-    if same_form log.last current then accepted log.first_end log.last_start (length log.steps) else refused_at 13 k
+    when same_form log.last current then accepted log.first_end log.last_start (length log.steps) else refused_at 13 k
 replay log k current (s ∷ ss) = at_step k (take_step current s) λ reached. replay log (k + 1) reached ss
 
 -- the form that steps reach, one after the other, or the refusal of one

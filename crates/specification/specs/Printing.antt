@@ -1,7 +1,7 @@
 -- The printer and the text of a shortening: from standard input to standard output. Assumes nothing.
 use Rattle.std.specs.Prelude.{◌≡◌, Bool, true, false, not, ◌&&◌, ◌||◌, List, [], ◌∷◌, ◌++◌, map, ℕ, zero, suc, ◌+◌, ◌/◌, ◌%◌, ◌≤◌, ℤ, pos, negsuc, nat_abs, length, get_or, take, drop, ltb, leb, eqb}
 use Rattle.specification.specs.Lists.{joined}
-use Rattle.specification.specs.Results.{Result, refused, given, ◌>>◌, require, if◌then◌else◌}
+use Rattle.specification.specs.Results.{Result, refused, given, ◌>>◌, require, when◌then◌else◌}
 use Rattle.specification.specs.Letters.{test_table}
 use Rattle.specification.specs.Terms.{Term, Form}
 use Rattle.specification.specs.Records.{write_into}
@@ -24,7 +24,7 @@ alphabet =
 -- a number in decimal, in at most so many digits
 unfoldable pub digits : (most n : ℕ) → List ℕ
 digits zero n = []
-digits (suc most) n = if ltb n 10 then (48 + n) ∷ [] else digits most (n / 10) ++ (48 + n % 10) ∷ []
+digits (suc most) n = when ltb n 10 then (48 + n) ∷ [] else digits most (n / 10) ++ (48 + n % 10) ∷ []
 
 -- a number below 10000000000 in decimal
 unfoldable pub decimal : ℕ → List ℕ
@@ -37,11 +37,11 @@ is_nothing (b ∷ bs) = false
 
 -- the size of the coefficient: "A coefficient of 1 or −1 is not written unless nothing else is"
 unfoldable pub print_size : (coef : ℤ) (others : List ℕ) → List ℕ
-print_size k others = if eqb (nat_abs k) 1 && not (is_nothing others) then [] else decimal (nat_abs k)
+print_size k others = when eqb (nat_abs k) 1 && not (is_nothing others) then [] else decimal (nat_abs k)
 
 -- "`*` follows any written coefficient or scalar part before a vector part"
 unfoldable pub print_star : (before part : List ℕ) → List ℕ
-print_star before part = if is_nothing before || is_nothing part then [] else 42 ∷ []
+print_star before part = when is_nothing before || is_nothing part then [] else 42 ∷ []
 
 -- the sign of the first term is written where it is `-`
 unfoldable pub print_first_sign : ℤ → List ℕ
@@ -116,7 +116,7 @@ print_call s = print_result (print_tested s)
 -- the text's length and the text in front of the memory lent; memory that is too short for a line is 2, and stands
 unfoldable pub print_answer : (s memory : List ℕ) → Result ℕ × List ℕ
 print_answer s memory =
-    if leb line_bytes (length memory) then (given (length (print_call s)), write_into (print_call s) memory) else (refused 2, memory)
+    when leb line_bytes (length memory) then (given (length (print_call s)), write_into (print_call s) memory) else (refused 2, memory)
 
 -- ════ the text of a log: the first form, each step, the last form, each on a line
 

@@ -1,7 +1,7 @@
 -- What is promised of the calls beyond their definitions: P2, P3, P6 and P7 (demands 2 and 3), the value of K1 and the bytes of K2,
 -- of what a call gave or wrote; K5 of every list of calls. Assumes nothing.
 use Rattle.std.specs.Prelude.{◌≡◌, List, map, ℕ, ◌+◌, ◌*◌, T, length, take, drop}
-use Rattle.specification.specs.Results.{Result, refused, given, if◌then◌else◌}
+use Rattle.specification.specs.Results.{Result, refused, given, when◌then◌else◌}
 use Rattle.specification.specs.Values.{Vec}
 use Rattle.specification.specs.Terms.{Form}
 use Rattle.specification.specs.Records.{write_into, form_tested, read_form, take_form}
@@ -72,7 +72,7 @@ pub record WithinLimits (s : List ℕ) (answer : Checked) : Type 0 where
   pub reached : Form
   pub is_read : read_log s ≡ given log
   pub reaches : take_steps log.first log.steps ≡ given reached
-  pub is : answer ≡ (if same_form log.last reached then accepted log.first_end log.last_start (length log.steps) else refused_at 13 (length log.steps + 1))
+  pub is : answer ≡ (when same_form log.last reached then accepted log.first_end log.last_start (length log.steps) else refused_at 13 (length log.steps + 1))
 
 -- the answer for a log, whoever wrote it
 pub record LogPromise (s : List ℕ) (answer : Checked) : Type 0 where

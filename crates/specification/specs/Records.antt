@@ -3,7 +3,7 @@
 -- Reading is by a position `at` in the bytes `s`; a reader gives what it read and the position behind it, or 11.
 use Rattle.std.specs.Prelude.{Bool, true, false, not, ◌&&◌, List, [], ◌∷◌, ◌++◌, map, ℕ, zero, suc, ◌+◌, ◌-◌, ◌*◌, ◌/◌, ◌%◌, ◌^◌, ℤ, pos, negsuc, length, get_or, take, drop, ltb, leb, eqb}
 use Rattle.specification.specs.Lists.{select, joined, follows}
-use Rattle.specification.specs.Results.{Result, Test, refused, given, ◌>>=◌, ◌>>◌, require, if◌then◌else◌}
+use Rattle.specification.specs.Results.{Result, Test, refused, given, ◌>>=◌, ◌>>◌, require, when◌then◌else◌}
 use Rattle.specification.specs.Letters.{scalar, vector, test_table, test_letters}
 use Rattle.specification.specs.Terms.{Term, Form, term_kind, term_before, term_in_shape}
 
@@ -20,7 +20,7 @@ to_bits32 (negsuc n) = 4294967295 - n
 
 -- a number of 32 bits as an integer
 unfoldable pub from_bits32 : ℕ → ℤ
-from_bits32 n = if ltb n 2147483648 then pos n else negsuc (4294967295 - n)
+from_bits32 n = when ltb n 2147483648 then pos n else negsuc (4294967295 - n)
 
 -- the four bytes of an integer
 unfoldable pub four_bytes : ℤ → List ℕ
@@ -46,7 +46,7 @@ is_one (negsuc n) = false
 
 -- "Bit 0: coefficient, four bytes signed, left out exactly when it is 1"
 unfoldable pub coef_field : ℤ → List ℕ
-coef_field k = if is_one k then [] else four_bytes k
+coef_field k = when is_one k then [] else four_bytes k
 
 -- a count and the letters of factors, left out where there are none
 unfoldable pub count_field : List (List ℕ) → List ℕ
@@ -60,7 +60,7 @@ bit_of (b ∷ bs) value = value
 
 -- bit 4 for a vector letter, bit 5 for a wedge
 unfoldable pub part_bit : List ℕ → ℕ
-part_bit p = if eqb (length p) 1 then 16 else if eqb (length p) 2 then 32 else 0
+part_bit p = when eqb (length p) 1 then 16 else when eqb (length p) 2 then 32 else 0
 
 -- "a bit map byte, then only the fields whose bit stands, in this order"
 unfoldable pub write_term : Term → List ℕ
@@ -128,7 +128,7 @@ read_factors true most size s at = do
 
 -- how many letters the vector part has
 unfoldable pub part_letters : (bits : ℕ) → ℕ
-part_letters bits = if stands 4 bits then 1 else if stands 5 bits then 2 else 0
+part_letters bits = when stands 4 bits then 1 else when stands 5 bits then 2 else 0
 
 -- "bits 4 and 5 never stand together; bits 6 and 7 are 0"
 unfoldable pub good_bits : (bits : ℕ) → Bool
@@ -187,7 +187,7 @@ read_form s = do
 unfoldable pub test_factors : (table : List ℕ) (factors : List (List ℕ)) → Test
 test_factors table [] = given tt
 test_factors table (f ∷ fs) = do
-  test_letters table (if eqb (length f) 1 then scalar else vector) f
+  test_letters table (when eqb (length f) 1 then scalar else vector) f
   test_factors table fs
 
 -- the letters of a term

@@ -2,7 +2,7 @@
 use Rattle.std.specs.Prelude.{◌&&◌, ◌||◌, ℕ, ◌*◌, ℤ, ◌*ℤ◌, length, leb, eqb}
 use mathlib.Core.List.{List, [], ◌∷◌, ◌++◌, map, flat_map}
 use Rattle.specification.specs.Lists.{all}
-use Rattle.specification.specs.Results.{Result, given, ◌>>=◌, ◌>>◌, require, if◌then◌else◌}
+use Rattle.specification.specs.Results.{Result, given, ◌>>=◌, ◌>>◌, require, when◌then◌else◌}
 use Rattle.specification.specs.Letters.{scalar, vector}
 use Rattle.specification.specs.Terms.{Term, Form, dot_of, triple_of, wedge_of, plus, minus, times_term, staying, negated, keep, gather}
 use Rattle.specification.specs.Terms.{letters_fit, term_within, within, coef_within}
@@ -79,7 +79,7 @@ sum_forms f g = do
 unfoldable pub times_forms : Form → Form → Result Form
 times_forms f g = do
   require (eqb f.kind scalar || eqb g.kind scalar) 6
-  product (if eqb f.kind scalar then g.kind else f.kind) times_parts f g
+  product (when eqb f.kind scalar then g.kind else f.kind) times_parts f g
 
 -- the dot of two vectors
 unfoldable pub dot_forms : Form → Form → Result Form
@@ -105,7 +105,7 @@ triple_forms f g h = do
 -- a letter alone: a scalar factor, or a vector part
 unfoldable pub letter_form : (n kind : ℕ) → Form
 letter_form n kind =
-    if eqb kind scalar then record { kind = scalar; terms = plus ((n ∷ []) ∷ []) [] ∷ [] }
+    when eqb kind scalar then record { kind = scalar; terms = plus ((n ∷ []) ∷ []) [] ∷ [] }
     else record { kind = vector; terms = plus [] (n ∷ []) ∷ [] }
 
 -- a constant: 9 where it is beyond, nothing where it is 0

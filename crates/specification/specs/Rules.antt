@@ -1,6 +1,6 @@
 -- The five rules, and the step that adds M times (left − right) to a form. Assumes nothing.
 use Rattle.std.specs.Prelude.{Bool, ◌&&◌, List, [], ◌∷◌, ◌++◌, map, ℕ, ◌+◌, length, get_or, leb, eqb}
-use Rattle.specification.specs.Results.{Result, Test, ◌>>◌, require, if◌then◌else◌}
+use Rattle.specification.specs.Results.{Result, Test, ◌>>◌, require, when◌then◌else◌}
 use Rattle.specification.specs.Letters.{scalar, vector, test_letters}
 use Rattle.specification.specs.Terms.{Term, Form, term_kind, dot_of, triple_of, wedge_of, plus, minus, times_term, negated, gather, within, vector_letters, term_in_shape}
 use Rattle.specification.specs.Records.{test_term}
@@ -67,19 +67,19 @@ rule5 a b c d g h = record {
 unfoldable pub sides : (rule : ℕ) (letters : List ℕ) → Sides
 sides rule ls =
     let l : ℕ → ℕ = λ i. get_or ls i 0 in
-    if eqb rule 1 then rule1 (l 0) (l 1) (l 2) (l 3) else
-    if eqb rule 2 then rule2 (l 0) (l 1) (l 2) (l 3) else
-    if eqb rule 3 then rule3 (l 0) (l 1) (l 2) (l 3) (l 4) else
-    if eqb rule 4 then rule4 (l 0) (l 1) (l 2) (l 3) (l 4) else
+    when eqb rule 1 then rule1 (l 0) (l 1) (l 2) (l 3) else
+    when eqb rule 2 then rule2 (l 0) (l 1) (l 2) (l 3) else
+    when eqb rule 3 then rule3 (l 0) (l 1) (l 2) (l 3) (l 4) else
+    when eqb rule 4 then rule4 (l 0) (l 1) (l 2) (l 3) (l 4) else
     rule5 (l 0) (l 1) (l 2) (l 3) (l 4) (l 5)
 
 -- how many letters a rule has
 unfoldable pub rule_letters : (rule : ℕ) → ℕ
-rule_letters rule = if leb rule 2 then 4 else if leb rule 4 then 5 else 6
+rule_letters rule = when leb rule 2 then 4 else when leb rule 4 then 5 else 6
 
 -- rules 1, 2 and 4 have vectors on both sides, 3 and 5 scalars
 unfoldable pub rule_kind : (rule : ℕ) → ℕ
-rule_kind rule = if eqb rule 3 then scalar else if eqb rule 5 then scalar else vector
+rule_kind rule = when eqb rule 3 then scalar else when eqb rule 5 then scalar else vector
 
 -- the rules are numbered 1 to 5
 unfoldable pub is_rule : (rule : ℕ) → Bool
@@ -96,7 +96,7 @@ pub record Step : Type 0 where
 -- "Rules 1, 2 and 4 take M without a vector part; the kinds must agree"
 unfoldable pub step_kinds_fit : (f : Form) (s : Step) → Bool
 step_kinds_fit f s =
-    if eqb (rule_kind s.rule) vector
+    when eqb (rule_kind s.rule) vector
     then eqb (term_kind s.m) scalar && eqb f.kind vector
     else eqb f.kind (term_kind s.m)
 

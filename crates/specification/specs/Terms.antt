@@ -5,7 +5,7 @@
 use Rattle.std.specs.Prelude.{Bool, true, false, not, ◌&&◌, List, [], ◌∷◌, ◌++◌, map, ℤ, pos, negsuc, neg_ℤ, nat_abs, ◌+ℤ◌, ◌*ℤ◌, length, ltb, leb, eqb}
 use Prim.Native.Nat.{ℕ, zero, suc, ◌+◌, Ordering}
 use Rattle.specification.specs.Lists.{then_by, by_order, order, is_less, is_not_more, all, select, ascend, compare_lists, sorted}
-use Rattle.specification.specs.Results.{Result, given, ◌>>◌, require, if◌then◌else◌}
+use Rattle.specification.specs.Results.{Result, given, ◌>>◌, require, when◌then◌else◌}
 use Rattle.specification.specs.Letters.{scalar, vector}
 
 -- a coefficient, scalar factors, and a vector part
@@ -33,7 +33,7 @@ wedge_of a b = a ∷ b ∷ []
 
 -- the kind of a term: vector where it has a vector part
 unfoldable pub term_kind : Term → ℕ
-term_kind t = if eqb (length t.part) 0 then scalar else vector
+term_kind t = when eqb (length t.part) 0 then scalar else vector
 
 -- ════ the order
 
@@ -67,7 +67,7 @@ exchange_sign (a ∷ bs) = sign_before a bs *ℤ exchange_sign bs
 
 -- exchanges count in a triple, not in a dot
 unfoldable pub factor_sign : List ℕ → ℤ
-factor_sign f = if eqb (length f) 3 then exchange_sign f else pos 1
+factor_sign f = when eqb (length f) 3 then exchange_sign f else pos 1
 
 -- the signs of all factors
 unfoldable pub factors_sign : List (List ℕ) → ℤ
@@ -124,7 +124,7 @@ negated t = with_coef (neg_ℤ t.coef) t
 
 -- a term in front of a list, unless its coefficient is 0: "zeros dropped"
 unfoldable pub keep : Term → List Term → List Term
-keep t ts = if is_zero t.coef then ts else t ∷ ts
+keep t ts = when is_zero t.coef then ts else t ∷ ts
 
 -- a tidy term put into a strictly ascending list; "like terms are added, zeros dropped"
 unfoldable pub insert : Term → List Term → List Term
@@ -155,12 +155,12 @@ term_within t = coef_within t.coef
 -- the vector letters of factors, repeats counted
 unfoldable pub vector_letters_of : List (List ℕ) → ℕ
 vector_letters_of [] = 0
-vector_letters_of (f ∷ fs) = (if eqb (length f) 1 then 0 else length f) + vector_letters_of fs
+vector_letters_of (f ∷ fs) = (when eqb (length f) 1 then 0 else length f) + vector_letters_of fs
 
 -- the scalar letters of factors, repeats counted
 unfoldable pub scalar_letters_of : List (List ℕ) → ℕ
 scalar_letters_of [] = 0
-scalar_letters_of (f ∷ fs) = (if eqb (length f) 1 then 1 else 0) + scalar_letters_of fs
+scalar_letters_of (f ∷ fs) = (when eqb (length f) 1 then 1 else 0) + scalar_letters_of fs
 
 -- the vector letters of a term
 unfoldable pub vector_letters : Term → ℕ

@@ -6,7 +6,7 @@
 use Rattle.std.specs.Prelude.{Bool, true, false, not, ◌&&◌, ◌||◌, List, [], ◌∷◌, ℕ, zero, suc, ◌+◌, ◌*◌, ◌-◌, pos, length, get_or, drop, ltb, leb, eqb}
 use Rattle.specification.specs.Lists.{all}
 use Rattle.specification.specs.Results as R
-use Rattle.specification.specs.Results.{Result, Test, refused, given, ◌>>◌, require, if◌then◌else◌}
+use Rattle.specification.specs.Results.{Result, Test, refused, given, ◌>>◌, require, when◌then◌else◌}
 use Rattle.specification.specs.Letters.{kind_of, test_table}
 use Rattle.specification.specs.Terms.{Form}
 use Rattle.specification.specs.Expressions.{Expr, Letter, Constant, Sum, Difference, Negation, Times, Dot, Wedge, Triple}
@@ -45,7 +45,7 @@ good_names names table = eqb (length names) (length table) && all is_letter name
 -- the number of a name; the number of names where it is not declared
 unfoldable pub place_of : (names : List ℕ) (b : ℕ) → ℕ
 place_of [] b = 0
-place_of (n ∷ names) b = let behind = suc (place_of names b) in if eqb n b then 0 else behind
+place_of (n ∷ names) b = let behind = suc (place_of names b) in when eqb n b then 0 else behind
 
 -- ════ trees with columns
 
@@ -77,9 +77,9 @@ is_refused (given a) = false
 unfoldable pub blamed : Tree → ℕ
 blamed (leaf c e) = c
 blamed (turned c x) = blamed x
-blamed (two c op x y) = if is_refused (work (plain x)) then blamed x else if is_refused (work (plain y)) then blamed y else c
+blamed (two c op x y) = when is_refused (work (plain x)) then blamed x else when is_refused (work (plain y)) then blamed y else c
 blamed (three c x y z) =
-    if is_refused (work (plain x)) then blamed x else if is_refused (work (plain y)) then blamed y else if is_refused (work (plain z)) then blamed z else c
+    when is_refused (work (plain x)) then blamed x else when is_refused (work (plain y)) then blamed y else when is_refused (work (plain z)) then blamed z else c
 
 -- the form of a tree, or working's refusal at its operator
 unfoldable pub worked : Tree → Placed Form
@@ -94,7 +94,7 @@ byte_at s at = get_or s at 0
 -- past blanks, at most so many
 unfoldable pub past_blanks : (most : ℕ) (s : List ℕ) (at : ℕ) → ℕ
 past_blanks zero s at = at
-past_blanks (suc most) s at = let next = past_blanks most s (at + 1) in if eqb (byte_at s at) 32 then next else at
+past_blanks (suc most) s at = let next = past_blanks most s (at + 1) in when eqb (byte_at s at) 32 then next else at
 
 -- "blanks between tokens are free"
 unfoldable pub skip : (s : List ℕ) (at : ℕ) → ℕ
@@ -118,7 +118,7 @@ Read = Placed (Tree × ℕ)
 unfoldable pub read_digits : (most n : ℕ) (s : List ℕ) (at : ℕ) → ℕ × ℕ
 read_digits zero n s at = (n, at)
 read_digits (suc most) n s at =
-    let more = read_digits most (n * 10 + (byte_at s at - 48)) s (at + 1) in if is_digit (byte_at s at) then more else (n, at)
+    let more = read_digits most (n * 10 + (byte_at s at - 48)) s (at + 1) in when is_digit (byte_at s at) then more else (n, at)
 
 -- three names and a closing parenthesis
 unfoldable pub is_triple : (s : List ℕ) (at : ℕ) → Bool
@@ -136,7 +136,7 @@ is_sign b = eqb b 43 || eqb b 45
 
 -- the operator of a sign
 unfoldable pub signed : ℕ → Expr → Expr → Expr
-signed b = if eqb b 45 then Difference else Sum
+signed b = when eqb b 45 then Difference else Sum
 
 -- the sign turned
 unfoldable pub turned_at : (at : ℕ) → Tree × ℕ → Read
@@ -149,13 +149,13 @@ module _ (s : List ℕ) where
 
   -- a closing parenthesis behind a sum
   unfoldable pub closed : Tree × ℕ → Read
-  closed r = if eqb (byte_at s r.1) 41 then placed (r.0, next s r.1) else refused_at 4 r.1
+  closed r = when eqb (byte_at s r.1) 41 then placed (r.0, next s r.1) else refused_at 4 r.1
 
   -- behind a mark the second operand
   unfoldable pub read_second : (mark : ℕ) (op : Expr → Expr → Expr) (operand : ℕ → Read) → Tree × ℕ → Read
   read_second mark op operand r =
       let both : Read = operand (next s r.1) >>= (λ q. placed (two r.1 op r.0 q.0, q.1)) in
-      if eqb (byte_at s r.1) mark then both else placed r
+      when eqb (byte_at s r.1) mark then both else placed r
 
   -- one operand, or two with a mark between them
   unfoldable pub read_pair : (mark : ℕ) (op : Expr → Expr → Expr) (first second : ℕ → Read) (at : ℕ) → Read
@@ -163,18 +163,18 @@ module _ (s : List ℕ) where
 
   -- behind a `*`, or where the factor stands side by side
   unfoldable pub factor_at : (at : ℕ) → ℕ
-  factor_at at = if eqb (byte_at s at) 42 then next s at else at
+  factor_at at = when eqb (byte_at s at) 42 then next s at else at
 
   -- nothing may be left behind the sum
   unfoldable pub whole_text : Tree × ℕ → Placed Tree
-  whole_text r = if leb (length s) r.1 then placed r.0 else refused_at 4 r.1
+  whole_text r = when leb (length s) r.1 then placed r.0 else refused_at 4 r.1
 
 module _ (names table s : List ℕ) where
   -- a name: 5 where it is not declared
   unfoldable pub read_name : (at : ℕ) → Read
   read_name at =
       let n = place_of names (byte_at s at) in
-      if ltb n (length names) then placed (leaf at (Letter n (kind_of table n)), next s at) else refused_at 5 at
+      when ltb n (length names) then placed (leaf at (Letter n (kind_of table n)), next s at) else refused_at 5 at
 
   -- "`(abc)` exactly three names in parentheses: a triple"
   unfoldable pub read_triple : (at : ℕ) → Read
@@ -189,20 +189,20 @@ module _ (names table s : List ℕ) where
   read_bracket sum at =
       let triple : Read = read_triple at in
       let group : Read = sum (next s at) >>= closed s in
-      if is_triple s (next s at) then triple else group
+      when is_triple s (next s at) then triple else group
 
   -- a name, or what stands in parentheses, which `bracket` reads
   unfoldable pub read_atom : (bracket : ℕ → Read) (at : ℕ) → Read
   read_atom bracket at =
       let b = byte_at s at in
       let group : Read = bracket at in
-      if is_letter b then read_name at else if eqb b 40 then group else refused_at 4 at
+      when is_letter b then read_name at else when eqb b 40 then group else refused_at 4 at
 
   -- what is first in a product or behind `*`: a number may stand there
   unfoldable pub read_lead : (bracket : ℕ → Read) (at : ℕ) → Read
   read_lead bracket at =
       let other : Read = read_atom bracket at in
-      if is_digit (byte_at s at) then read_number s at else other
+      when is_digit (byte_at s at) then read_number s at else other
 
   -- "`^` binds closest"
   unfoldable pub read_wedge : (bracket : ℕ → Read) (first : ℕ → Read) (at : ℕ) → Read
@@ -217,7 +217,7 @@ module _ (names table s : List ℕ) where
   more_factors zero bracket x at = placed (x, at)
   more_factors (suc most) bracket x at =
       let more : Read = read_dot bracket (factor_at s at) >>= (λ r. more_factors most bracket (two at Times x r.0) r.1) in
-      if is_factor (byte_at s at) then more else placed (x, at)
+      when is_factor (byte_at s at) then more else placed (x, at)
 
   -- "product by `*` or by standing side by side"
   unfoldable pub read_product : (bracket : ℕ → Read) (at : ℕ) → Read
@@ -228,7 +228,7 @@ module _ (names table s : List ℕ) where
   more_terms zero bracket x at = placed (x, at)
   more_terms (suc most) bracket x at =
       let more : Read = read_product bracket (next s at) >>= (λ r. more_terms most bracket (two at (signed (byte_at s at)) x r.0) r.1) in
-      if is_sign (byte_at s at) then more else placed (x, at)
+      when is_sign (byte_at s at) then more else placed (x, at)
 
   -- "`+`, `-` (also in front)"
   unfoldable pub read_first : (bracket : ℕ → Read) (at : ℕ) → Read
@@ -236,7 +236,7 @@ module _ (names table s : List ℕ) where
       let minus : Read = read_product bracket (next s at) >>= turned_at at in
       let plus : Read = read_product bracket (next s at) in
       let none : Read = read_product bracket at in
-      if eqb (byte_at s at) 45 then minus else if eqb (byte_at s at) 43 then plus else none
+      when eqb (byte_at s at) 45 then minus else when eqb (byte_at s at) 43 then plus else none
 
   -- "a formula is sums of products"
   unfoldable pub read_sum : (bracket : ℕ → Read) (at : ℕ) → Read
@@ -251,7 +251,7 @@ module _ (names table s : List ℕ) where
   unfoldable pub read_text : Placed Tree
   read_text =
       let read : Placed Tree = read_sum (read_nested 16) (skip s 0) >>= whole_text s in
-      if leb (length s) 4096 then read else refused_at 3 4096
+      when leb (length s) 4096 then read else refused_at 3 4096
 
   -- the form of a text, or a refusal with its column: reading precedes working
   unfoldable pub text_form : Placed Form

@@ -8,7 +8,7 @@ use native.Mathlib.Omega.{arith}
 use lib.Dec.{ltb}
 use lib.ListN.{length, set, length-append}
 use borrow.Author.Tests.{lt-ltb, le-ltb}
-use Rattle.specification.specs.Results.{if◌then◌else◌}
+use Rattle.specification.specs.Results.{when◌then◌else◌}
 use Rattle.specification.specs.Printing.{digits, decimal}
 use Rattle.record_writing.specs.Written.{Written}
 use Rattle.record_writing.proofs.Writes.{written_store, written_then, written_length}
@@ -27,7 +27,7 @@ digits_same (suc most) n h =
     go (ltb n 10) (digits_same most (n / 10) l)
   where
     go : (b : Bool) → digits (suc most) (n / 10) ≡ digits (suc (suc most)) (n / 10)
-        → (if b then (48 + n) ∷ [] else digits (suc most) (n / 10) ++ (48 + n % 10) ∷ []) ≡ (if b then (48 + n) ∷ [] else digits (suc (suc most)) (n / 10) ++ (48 + n % 10) ∷ [])
+        → (when b then (48 + n) ∷ [] else digits (suc most) (n / 10) ++ (48 + n % 10) ∷ []) ≡ (when b then (48 + n) ∷ [] else digits (suc (suc most)) (n / 10) ++ (48 + n % 10) ∷ [])
     go true e = refl
     go false e = ap (λ (l : List ℕ). l ++ (48 + n % 10) ∷ []) e
 
@@ -43,7 +43,7 @@ unfolding digits
 digits_short zero n = omega arith
 digits_short (suc most) n = go (ltb n 10) (digits_short most (n / 10))
   where
-    go : (b : Bool) → length (digits most (n / 10)) ≤ most → length (if b then (48 + n) ∷ [] else digits most (n / 10) ++ (48 + n % 10) ∷ []) ≤ suc most
+    go : (b : Bool) → length (digits most (n / 10)) ≤ most → length (when b then (48 + n) ∷ [] else digits most (n / 10) ++ (48 + n % 10) ∷ []) ≤ suc most
     go true h = omega arith
     go false h = simp length-append (omega arith)
 

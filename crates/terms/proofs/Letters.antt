@@ -6,7 +6,7 @@ use Prim.Native.Nat.{ℕ, ◌+◌, ◌-◌, ◌/◌, ◌%◌, ◌<◌, ◌≤◌
 use native.Mathlib.Omega.{arith}
 use lib.Dec.{ltb}
 use lib.ListN.{length}
-use Rattle.specification.specs.Results.{if◌then◌else◌}
+use Rattle.specification.specs.Results.{when◌then◌else◌}
 use Rattle.terms.specs.declared.factors.Factor.{Factor}
 use Rattle.terms.specs.declared.factors.Factor.TheVariants.{Scalar, Dot, Triple}
 use Rattle.terms.specs.declared.types.Part.{Part}
@@ -65,9 +65,9 @@ unfolding letters_of
 letters-long k = go (ltb k 256) (ltb k 65792)
   where
     go : (a b : Bool)
-        → (1 ≤ length (if a then k ∷ [] else if b then (k - 256) / 256 ∷ (k - 256) % 256 ∷ [] else (k - 65792) / 65536 ∷ (k - 65792) / 256 % 256 ∷ (k - 65792)
+        → (1 ≤ length (when a then k ∷ [] else when b then (k - 256) / 256 ∷ (k - 256) % 256 ∷ [] else (k - 65792) / 65536 ∷ (k - 65792) / 256 % 256 ∷ (k - 65792)
         % 256 ∷ []))
-        × (length (if a then k ∷ [] else if b then (k - 256) / 256 ∷ (k - 256) % 256 ∷ [] else (k - 65792) / 65536 ∷ (k - 65792) / 256 % 256 ∷ (k - 65792) %
+        × (length (when a then k ∷ [] else when b then (k - 256) / 256 ∷ (k - 256) % 256 ∷ [] else (k - 65792) / 65536 ∷ (k - 65792) / 256 % 256 ∷ (k - 65792) %
         256 ∷ []) ≤ 3)
     go true b = (omega arith, omega arith)
     go false true = (omega arith, omega arith)

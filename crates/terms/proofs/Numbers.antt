@@ -8,7 +8,7 @@ use native.Mathlib.Omega.{arith}
 use lib.Dec.{ltb}
 use lib.ListN.{length}
 use borrow.Author.Tests.{lt-ltb, le-ltb, ltb-true, ltb-false}
-use Rattle.specification.specs.Results.{if◌then◌else◌}
+use Rattle.specification.specs.Results.{when◌then◌else◌}
 use Rattle.specification.specs.Lists.{order}
 use Rattle.specification.specs.Terms.{compare_letters}
 use Rattle.theory.specs.Order.{LtLetters, letters-laws, nat-laws, compares-less, compares-equal, compares_more}
@@ -128,7 +128,7 @@ unfolding letters_of
 some_letters k = go (ltb k 256) (ltb k 65792)
   where
     go : (a b : Bool)
-        → 0 < length (if a then k ∷ [] else if b then (k - 256) / 256 ∷ (k - 256) % 256 ∷ [] else (k - 65792) / 65536 ∷ (k - 65792) / 256 % 256 ∷ (k - 65792) %
+        → 0 < length (when a then k ∷ [] else when b then (k - 256) / 256 ∷ (k - 256) % 256 ∷ [] else (k - 65792) / 65536 ∷ (k - 65792) / 256 % 256 ∷ (k - 65792) %
         256 ∷ [])
     go true b = omega arith
     go false true = omega arith
@@ -155,7 +155,7 @@ unfolding letters_of
 few-letters k = go (ltb k 256) refl (ltb k 65792) refl
   where
     go : (a : Bool) → ltb k 256 ≡ a → (b : Bool) → ltb k 65792 ≡ b
-        → length (if a then k ∷ [] else if b then (k - 256) / 256 ∷ (k - 256) % 256 ∷ [] else (k - 65792) / 65536 ∷ (k - 65792) / 256 % 256 ∷ (k - 65792) % 256
+        → length (when a then k ∷ [] else when b then (k - 256) / 256 ∷ (k - 256) % 256 ∷ [] else (k - 65792) / 65536 ∷ (k - 65792) / 256 % 256 ∷ (k - 65792) % 256
         ∷ []) < 3 → k < 65792
     go true p b q h = omega (arith, ltb-true k 256 p)
     go false p true q h = ltb-true k 65792 q

@@ -1,7 +1,7 @@
 -- The structs as the specification's terms and forms: each array up to its count. Assumes nothing.
 use Rattle.std.specs.Prelude.{Bool, true, false, List, [], ◌∷◌, map, eqb, take}
 use Prim.Native.Nat.{ℕ, Ordering, ◌≤◌, ◌<◌}
-use Rattle.specification.specs.Results.{Result, refused, given, if◌then◌else◌}
+use Rattle.specification.specs.Results.{Result, refused, given, when◌then◌else◌}
 use Rattle.specification.specs.Terms as S
 use Rattle.theory.specs.Elements.{All}
 use Rattle.terms.specs.declared.types.Part.{Part}
@@ -53,7 +53,7 @@ is_more Ordering.gt = true
 
 -- a form, or the refusal where its number is not 0
 unfoldable pub outcome_of : Outcome → Result S.Form
-outcome_of r = if eqb r.refusal 0 then given (form_of r.form) else refused r.refusal
+outcome_of r = when eqb r.refusal 0 then given (form_of r.form) else refused r.refusal
 
 -- a term's count is within its array, and its factors' letters are bytes
 pub record Counted (t : Term) : Type 0 where

@@ -11,7 +11,7 @@ use lib.Seq.{drop-cons, take_all}
 use borrow.Author.Tests.{eq-eqb, ne_eqb, eqb-true, eqb-false, lt-ltb, le-ltb}
 use Rattle.specification.specs.Lists.{all}
 use Rattle.specification.specs.Text.{is_letter, distinct, good_names, place_of}
-use Rattle.specification.specs.Results.{if◌then◌else◌}
+use Rattle.specification.specs.Results.{when◌then◌else◌}
 use Rattle.theory.specs.Tests.{and-false}
 
 here : (names : List ℕ) (i : ℕ) → i < length names → drop i names ≡ get_or names i 0 ∷ drop (i + 1) names
@@ -51,7 +51,7 @@ not_found n [] = refl
 not_found n (m ∷ names) = rw (turned n m) (go (eqb m n) (not_found n names))
   where
     go : (b : Bool) → all (λ (k : ℕ). not (eqb n k)) names ≡ not (ltb (place_of names n) (length names))
-        → (not b && all (λ (k : ℕ). not (eqb n k)) names) ≡ not (ltb (if b then 0 else suc (place_of names n)) (suc (length names)))
+        → (not b && all (λ (k : ℕ). not (eqb n k)) names) ≡ not (ltb (when b then 0 else suc (place_of names n)) (suc (length names)))
     go true e = ap not (sym (lt-ltb 0 (suc (length names)) (omega arith)))
     go false e = e ∙ ap not (sym (leb-suc-suc (suc (place_of names n)) (length names)))
 

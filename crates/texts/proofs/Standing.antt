@@ -9,7 +9,7 @@ use lib.ListN.{length, get_or, drop, drop_of_length-le, get_or-eq_default}
 use borrow.Author.Tests.{le-leb, lt-leb, leb-true, leb-false}
 use lib.Dec.{T, leb, eqb, eqb→eq, eqb_refl}
 use lib.Seq.{drop-cons, drop-length}
-use Rattle.specification.specs.Results.{if◌then◌else◌}
+use Rattle.specification.specs.Results.{when◌then◌else◌}
 use Rattle.specification.specs.Text.{is_letter, is_digit, skip, next, place_of, is_triple, read_digits}
 use Rattle.theory.specs.Tests.{is_true, and-false}
 use Rattle.theory.specs.Text.Turns.{skip_turn, digits-turn}
@@ -103,8 +103,8 @@ cap-again : (v d : ℕ) → capped (capped v * 10 + d) ≡ capped (v * 10 + d)
 unfolding capped
 cap-again v d = go (leb v 2147483647) refl
   where
-    go : (b : Bool) → leb v 2147483647 ≡ b → (if leb ((if b then v else 2147483648) * 10 + d) 2147483647 then (if b then v else 2147483648) * 10 + d else 2147483648)
-        ≡ (if leb (v * 10 + d) 2147483647 then v * 10 + d else 2147483648)
+    go : (b : Bool) → leb v 2147483647 ≡ b → (when leb ((when b then v else 2147483648) * 10 + d) 2147483647 then (when b then v else 2147483648) * 10 + d else 2147483648)
+        ≡ (when leb (v * 10 + d) 2147483647 then v * 10 + d else 2147483648)
     go true e = refl
     go false e =
         let h : 2147483647 < v = leb-false v 2147483647 e in
@@ -116,7 +116,7 @@ cap-small : (v : ℕ) → capped v ≤ 2147483648
 unfolding capped
 cap-small v = go (leb v 2147483647) (leb-true v 2147483647)
   where
-    go : (b : Bool) → (b ≡ true → v ≤ 2147483647) → (if b then v else 2147483648) ≤ 2147483648
+    go : (b : Bool) → (b ≡ true → v ≤ 2147483647) → (when b then v else 2147483648) ≤ 2147483648
     go true f = omega (arith, f refl)
     go false f = omega arith
 

@@ -5,7 +5,7 @@ use Rattle.std.proofs.Math.Bool.{true, false}
 use mathlib.Core.List.{List, [], ◌∷◌, ◌++◌, map, flat_map, append_assoc}
 use Rattle.std.proofs.Math.Nat as N
 use Rattle.algebra.specs.Lists.{tabulated}
-use Rattle.specification.specs.Results.{if◌then◌else◌}
+use Rattle.specification.specs.Results.{when◌then◌else◌}
 use Rattle.specification.specs.Lists.{all, each, select}
 use Rattle.theory.specs.Tests.{and_both, and_split}
 
@@ -46,7 +46,7 @@ module _ {A : Type 0} where
   all_select P f [] h = tt
   all_select P f (x ∷ xs) h = go (f x) (all_select P f xs h.1)
     where
-      go : (b : Bool) → All P (select f xs) → All P (if b then x ∷ select f xs else select f xs)
+      go : (b : Bool) → All P (select f xs) → All P (when b then x ∷ select f xs else select f xs)
       go true rest = (h.0, rest)
       go false rest = rest
 

@@ -7,7 +7,7 @@ use mathlib.Core.List.{List, [], ◌∷◌}
 use Prim.Native.Nat.{ℕ, ◌<◌, ◌≤◌, Ordering}
 use Rattle.std.proofs.Math.Nat as N
 use Rattle.std.proofs.Math.Dec.{compare_is_eq, eqb_refl}
-use Rattle.specification.specs.Results.{if◌then◌else◌}
+use Rattle.specification.specs.Results.{when◌then◌else◌}
 use Rattle.specification.specs.Lists.{then_by, order, first_difference, compare_lists}
 use Rattle.specification.specs.Terms.{Term, compare_letters, compare_factors, compare_terms}
 
@@ -48,7 +48,7 @@ unfolding order
 view-nat x y = go (ltb x y) (ltb→lt x y) (nltb→le x y) (eqb x y) (eqb→eq x y) (λ e. subst (λ (z : ℕ). T (eqb x z)) e (eqb_refl x))
   where
     go : (b : Bool) → (T b → x < y) → (T (not b) → y ≤ x) → (c : Bool) → (T c → x ≡ y) → (x ≡ y → T c)
-        → View LtN x y (if b then Ordering.lt else if c then Ordering.eq else Ordering.gt)
+        → View LtN x y (when b then Ordering.lt else when c then Ordering.eq else Ordering.gt)
     go true l g c e n = vlt (l tt)
     go false l g true e n = veq (e tt)
     go false l g false e n = vgt (more (g tt) n)

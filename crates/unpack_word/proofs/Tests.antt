@@ -6,7 +6,7 @@ use Prim.Native.Nat.{ℕ, ◌+◌}
 use borrow.Author.Tests.{eq-eqb, ne_eqb}
 use lib.Dec.{eqb}
 use lib.ListN.{length}
-use Rattle.specification.specs.Results.{Test, refused, given, if◌then◌else◌}
+use Rattle.specification.specs.Results.{Test, refused, given, when◌then◌else◌}
 use Rattle.specification.specs.Records.{test_terms}
 use Rattle.specification.specs.Logs.{Checked, refused_at, accepted, at_step, steps_letters}
 use Rattle.specification.specs.Commands.{tested_log}
@@ -24,7 +24,7 @@ at_step-found : (l k : ℕ) → at_step k (test_of l) (λ _. accepted 0 0 0) ≡
 unfolding test_of found_of
 at_step-found l k = go (eqb l 0)
   where
-    go : (b : Bool) → at_step k (if b then given (tt {0}) else refused l) (λ _. accepted 0 0 0) ≡ (if b then accepted 0 0 0 else refused_at l k)
+    go : (b : Bool) → at_step k (when b then given (tt {0}) else refused l) (λ _. accepted 0 0 0) ≡ (when b then accepted 0 0 0 else refused_at l k)
     go true = refl
     go false = refl
 

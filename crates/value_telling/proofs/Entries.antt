@@ -8,7 +8,7 @@ use borrow.Author.Tests.{eq-eqb, ne_eqb}
 use lib.ListN.{length, get_or, drop, length-drop, drop_of_length-le}
 use lib.Dec.{eqb}
 use lib.Seq.{drop-cons, drop-drop, get_or-drop}
-use Rattle.specification.specs.Results.{if◌then◌else◌}
+use Rattle.specification.specs.Results.{when◌then◌else◌}
 use Rattle.specification.specs.Values.{Vec}
 use Rattle.specification.specs.Words.{bytes}
 use Rattle.specification.specs.Evaluation.{signed_byte, assignment}
@@ -71,7 +71,7 @@ module _ {l m : List ℕ} {at next : ℕ} (names table s : List ℕ) (i : ℕ) (
   }
     where
       comma : ℕ → List ℕ
-      comma n = if eqb n 0 then [] else bytes ", "
+      comma n = when eqb n 0 then [] else bytes ", "
 
       rest : List ℕ
       rest = assignment_text (drop (i + 1) names) (drop (i + 1) table) (drop (3 * (i + 1)) s)

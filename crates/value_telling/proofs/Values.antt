@@ -8,7 +8,7 @@ use borrow.Author.Tests.{eq-eqb, ne_eqb}
 use lib.Dec.{T, ltb, ltb→lt, nltb→le}
 use lib.IntN.{ℤ, pos, negsuc, nat_abs}
 use lib.ListN.{length}
-use Rattle.specification.specs.Results.{if◌then◌else◌}
+use Rattle.specification.specs.Results.{when◌then◌else◌}
 use Rattle.specification.specs.Lists.{all}
 use Rattle.specification.specs.Values.{Vec}
 use Rattle.specification.specs.Terms.{term_in_shape}
@@ -56,7 +56,7 @@ byte-size : (b : ℕ) → nat_abs (signed_byte b) ≤ 128
 unfolding signed_byte
 byte-size b = go (ltb b 128) (ltb→lt b 128) (nltb→le b 128)
   where
-    go : (t : Bool) → (T t → b < 128) → (T (not t) → 128 ≤ b) → nat_abs (if t then pos b else negsuc (255 - b)) ≤ 128
+    go : (t : Bool) → (T t → b < 128) → (T (not t) → 128 ≤ b) → nat_abs (when t then pos b else negsuc (255 - b)) ≤ 128
     go true f g = omega (arith, f tt)
     go false f g = omega (arith, g tt)
 

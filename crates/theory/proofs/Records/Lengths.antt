@@ -3,7 +3,7 @@ use Rattle.std.specs.Prelude.{◌≡◌, Bool, true, false, List, [], ◌∷◌,
 use Rattle.std.proofs.Common.{ap, suc-mul, arith, length-append}
 use Rattle.std.proofs.lemmas.List.{length-map}
 use Rattle.specification.specs.Lists.{joined}
-use Rattle.specification.specs.Results.{given, if◌then◌else◌}
+use Rattle.specification.specs.Results.{given, when◌then◌else◌}
 use Rattle.specification.specs.Terms.{Term, Form, term_in_shape}
 use Rattle.specification.specs.Records.{form_bytes, write_term, write_form}
 use Rattle.specification.specs.Rules.{Step, rule_letters, step_in_shape}
@@ -48,7 +48,7 @@ pub letters-few : (rule : ℕ) → rule_letters rule ≤ 6
 unfolding rule_letters
 letters-few rule = go (leb rule 2) (leb rule 4)
   where
-    go : (a b : Bool) → (if a then 4 else if b then 5 else 6) ≤ 6
+    go : (a b : Bool) → (when a then 4 else when b then 5 else 6) ≤ 6
     go true b = omega arith
     go false true = omega arith
     go false false = omega arith

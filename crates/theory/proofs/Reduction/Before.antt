@@ -8,7 +8,7 @@ use Rattle.std.proofs.Math.Dec.{eqb}
 use Rattle.std.proofs.Math.ListN.{length}
 use Rattle.specification.specs.Lists.{all}
 use Rattle.specification.specs.Letters.{scalar, vector}
-use Rattle.specification.specs.Results.{Result, refused, given, ◌>>=◌, ◌>>◌, require, if◌then◌else◌}
+use Rattle.specification.specs.Results.{Result, refused, given, ◌>>=◌, ◌>>◌, require, when◌then◌else◌}
 use Rattle.specification.specs.Terms.{Term, Form, gather, letters_fit, term_within, within}
 use Rattle.specification.specs.Expressions.{Expr, Letter, Constant, Sum, Difference, Negation, Times, Dot, Wedge, Triple, read_expr}
 use Rattle.specification.specs.Reduction.{times_parts, dot_parts, wedge_parts, pair_terms, pairs_of, product_terms, product, times_forms, dot_forms, wedge_forms, triple_forms}
@@ -32,7 +32,7 @@ product_before kind parts f g = do
 times_before : Form → Form → Result Form
 times_before f g = do
   require (eqb f.kind scalar || eqb g.kind scalar) 6
-  product_before (if eqb f.kind scalar then g.kind else f.kind) times_parts f g
+  product_before (when eqb f.kind scalar then g.kind else f.kind) times_parts f g
 
 dot_before : Form → Form → Result Form
 dot_before f g = do
@@ -153,7 +153,7 @@ module _ (f g : Form) where
   times-moved : Unless8or9 (times_before f g) (times_forms f g)
   unfolding times_before times_forms
   times-moved =
-      behind_test (eqb f.kind scalar || eqb g.kind scalar) 6 (product-moved (if eqb f.kind scalar then g.kind else f.kind) times_parts times-modest)
+      behind_test (eqb f.kind scalar || eqb g.kind scalar) 6 (product-moved (when eqb f.kind scalar then g.kind else f.kind) times_parts times-modest)
 
   dot-moved : Unless8or9 (dot_before f g) (dot_forms f g)
   unfolding dot_before dot_forms

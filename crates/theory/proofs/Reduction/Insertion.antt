@@ -9,7 +9,7 @@ use Prim.Native.Nat.{ℕ, zero, suc}
 use Rattle.std.proofs.Math.IntN as I
 use Rattle.std.proofs.Math.Dec.{eqb}
 use Rattle.algebra.specs.Integers as R
-use Rattle.specification.specs.Results.{given, if◌then◌else◌}
+use Rattle.specification.specs.Results.{given, when◌then◌else◌}
 use Rattle.specification.specs.Values.{Vec, scalar_value, ◌+v◌, ◌•◌, wedge}
 use Rattle.specification.specs.Letters.{scalar, vector, kind_of, test_letter}
 use Rattle.specification.specs.Terms.{Term, Form}
@@ -41,7 +41,7 @@ factor_tree-kind (a ∷ b ∷ c ∷ f) = refl
 -- a scalar times a tree has the tree's kind
 times-kind : (e f : Expr) → expr_kind e ≡ scalar → expr_kind (Times e f) ≡ expr_kind f
 unfolding expr_kind
-times-kind e f h = ap (λ (k : ℕ). if eqb k scalar then expr_kind f else k) h
+times-kind e f h = ap (λ (k : ℕ). when eqb k scalar then expr_kind f else k) h
 
 times_factors-kind : (e : Expr) (fs : List (List ℕ)) → expr_kind e ≡ scalar → expr_kind (times_factors e fs) ≡ scalar
 unfolding times_factors
@@ -54,7 +54,7 @@ times_part-kind e [] h = h
 times_part-kind e (a ∷ []) h = times-kind e (Letter a vector) h
 times_part-kind e (a ∷ b ∷ p) h =
     times-kind e (Wedge (Letter a vector) (Letter b vector)) h
-    ∙ ap (λ (t : Bool). if t then scalar else vector) (sym (ne_eqb (length (a ∷ b ∷ p)) 0 (λ z. omega arith)))
+    ∙ ap (λ (t : Bool). when t then scalar else vector) (sym (ne_eqb (length (a ∷ b ∷ p)) 0 (λ z. omega arith)))
 
 -- coefficient and factors make a scalar
 scalar-kind : (t : Term) → expr_kind (times_factors (Constant t.coef) t.factors) ≡ scalar
@@ -88,7 +88,7 @@ module _ (σ : ℕ → Vec) where
   -- a scalar times a tree
   times-tree_value : (e f : Expr) → expr_kind e ≡ scalar → expr_value σ (Times e f) ≡ (expr_value σ e).x • expr_value σ f
   unfolding expr_value
-  times-tree_value e f h = ap (λ (k : ℕ). if eqb k scalar then (expr_value σ e).x • expr_value σ f else (expr_value σ f).x • expr_value σ e) h
+  times-tree_value e f h = ap (λ (k : ℕ). when eqb k scalar then (expr_value σ e).x • expr_value σ f else (expr_value σ f).x • expr_value σ e) h
 
   times_factors_value : (e : Expr) (fs : List (List ℕ)) (k : ℤ) → expr_kind e ≡ scalar → expr_value σ e ≡ scalar_value k
       → expr_value σ (times_factors e fs) ≡ scalar_value (k *ℤ factors_value σ fs)
@@ -135,7 +135,7 @@ module _ (table : List ℕ) where
   factor_tree-letters (a ∷ b ∷ []) h = ((h.0, omega arith), (h.1.0, omega arith))
   factor_tree-letters (a ∷ b ∷ c ∷ f) h =
       let k : All (Known table vector) (a ∷ b ∷ c ∷ f) =
-      subst (λ (one : Bool). All (Known table (if one then scalar else vector)) (a ∷ b ∷ c ∷ f)) (ne_eqb (length (a ∷ b ∷ c ∷ f)) 1 (λ z. omega arith)) h in
+      subst (λ (one : Bool). All (Known table (when one then scalar else vector)) (a ∷ b ∷ c ∷ f)) (ne_eqb (length (a ∷ b ∷ c ∷ f)) 1 (λ z. omega arith)) h in
       ((k.0, omega arith), (k.1.0, omega arith), (k.1.1.0, omega arith))
 
   times_factors-letters : (e : Expr) (fs : List (List ℕ)) → LettersIn table e → All (FactorKnown table) fs → LettersIn table (times_factors e fs)
@@ -176,14 +176,14 @@ module _ (table : List ℕ) (letter : ℕ) (inserted : Form) (is_vector : Known 
   unfolding leaf_with replaced expr_value
   leaf_with_denotes n zero l = go (eqb n letter) refl
     where
-      go : (b : Bool) → eqb n letter ≡ b → Denotes table (letter_form n scalar) scalar (λ σ. scalar_value (if b then value σ inserted else σ n).x)
+      go : (b : Bool) → eqb n letter ≡ b → Denotes table (letter_form n scalar) scalar (λ σ. scalar_value (when b then value σ inserted else σ n).x)
       go true e =
           let same : kind_of table n ≡ kind_of table letter = ap (kind_of table) (eqb-true n letter e) in
           absurd (omega (arith, same, (known_is table scalar n l.0).1, (known_is table vector letter is_vector).1))
       go false e = letter_denotes table n scalar l.0 l.1
   leaf_with_denotes n (suc zero) l = go (eqb n letter)
     where
-      go : (b : Bool) → Denotes table (if b then inserted else letter_form n vector) vector (λ σ. if b then value σ inserted else σ n)
+      go : (b : Bool) → Denotes table (when b then inserted else letter_form n vector) vector (λ σ. when b then value σ inserted else σ n)
       go true = record { kind_is = vector_form; in_shape = shape; known = known; value_is = λ σ. refl }
       go false = letter_denotes table n vector l.0 l.1
   leaf_with_denotes n (suc (suc kind)) l = absurd (omega (arith, l.1))

@@ -8,7 +8,7 @@ use Rattle.std.proofs.Math.Dec.{T, eqb, eqb→eq}
 use Rattle.std.proofs.lemmas.List.{length-map}
 use Rattle.algebra.specs.Integers as R
 use Rattle.algebra.proofs.Normaliser.{var, ◌⊗◌, ◌⊕◌, normalising}
-use Rattle.specification.specs.Results.{given, if◌then◌else◌}
+use Rattle.specification.specs.Results.{given, when◌then◌else◌}
 use Rattle.specification.specs.Values.{Vec, scalar_value, ◌+v◌, ◌•◌, dot, wedge, triple}
 use Rattle.specification.specs.Letters.{scalar, vector}
 use Rattle.specification.specs.Terms.{Term, Form, term_kind, negated, coef_within, term_in_shape}
@@ -274,16 +274,16 @@ module _ {table : List ℕ} {f g : Form} {kf kg : ℕ} {v w : (ℕ → Vec) → 
 
   -- the product of which at least one operand is a scalar
   pub times_denotes : times_forms f g ≡ given r
-      → Denotes table r (if eqb kf scalar then kg else kf) (λ σ. if eqb kf scalar then (v σ).x • w σ else (w σ).x • v σ)
+      → Denotes table r (when eqb kf scalar then kg else kf) (λ σ. when eqb kf scalar then (v σ).x • w σ else (w σ).x • v σ)
   unfolding times_forms
   times_denotes e =
       let t = required (eqb f.kind scalar || eqb g.kind scalar) 6 _ r e in
       go (eqb kf scalar) refl
       (subst (λ (k : ℕ). T (eqb k scalar || eqb g.kind scalar)) df.kind_is t.0)
-      ((λ i. product (if eqb (sym df.kind_is i) scalar then sym dg.kind_is i else sym df.kind_is i) times_parts f g) ∙ t.1)
+      ((λ i. product (when eqb (sym df.kind_is i) scalar then sym dg.kind_is i else sym df.kind_is i) times_parts f g) ∙ t.1)
     where
-      go : (b : Bool) → eqb kf scalar ≡ b → T (b || eqb g.kind scalar) → product (if b then kg else kf) times_parts f g ≡ given r
-          → Denotes table r (if b then kg else kf) (λ σ. if b then (v σ).x • w σ else (w σ).x • v σ)
+      go : (b : Bool) → eqb kf scalar ≡ b → T (b || eqb g.kind scalar) → product (when b then kg else kf) times_parts f g ≡ given r
+          → Denotes table r (when b then kg else kf) (λ σ. when b then (v σ).x • w σ else (w σ).x • v σ)
       go true is t e =
           by_product times_left times_parts kg (small dg) times_left_bilinear
           (subst (λ (k : ℕ). Follows times_left times_parts k kg kg) (sym (eqb→eq kf scalar (subst T (sym is) tt))) (times_left-follows kg)) e

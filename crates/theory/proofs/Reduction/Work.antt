@@ -6,7 +6,7 @@ use Rattle.std.proofs.Math.IntN.{negsuc}
 use Rattle.std.proofs.Math.IntN as I
 use Rattle.algebra.specs.Integers as R
 use Rattle.algebra.specs.Integers.{NonZero, pos-nonzero, negsuc-nonzero}
-use Rattle.specification.specs.Results.{given, if◌then◌else◌}
+use Rattle.specification.specs.Results.{given, when◌then◌else◌}
 use Rattle.specification.specs.Lists.{all, ascend}
 use Rattle.specification.specs.Values.{Vec, scalar_value, ◌•◌}
 use Rattle.specification.specs.Letters.{scalar, vector, good_table}
@@ -36,7 +36,7 @@ pub letter_form_lem : (n kind : ℕ) → FormInShape (letter_form n kind)
 unfolding letter_form all ascend is_zero coef_within vector_letters_of scalar_letters_of vector_letters scalar_letters letters_fit factor_in_shape part_in_shape term_in_shape part_fits term_kind
 letter_form_lem n kind = go (eqb kind scalar)
   where
-    go : (b : Bool) → FormInShape (if b then record { kind = scalar; terms = plus ((n ∷ []) ∷ []) [] ∷ [] } else record { kind = vector; terms = plus [] (n ∷ []) ∷ [] })
+    go : (b : Bool) → FormInShape (when b then record { kind = scalar; terms = plus ((n ∷ []) ∷ []) [] ∷ [] } else record { kind = vector; terms = plus [] (n ∷ []) ∷ [] })
     go true = record { kind = omega arith; count = omega arith; terms = tt; parts = tt; ascending = tt }
     go false = record { kind = omega arith; count = omega arith; terms = tt; parts = tt; ascending = tt }
 

@@ -5,7 +5,7 @@ use Rattle.std.proofs.Math.Path.{ap}
 use Rattle.std.proofs.Math.Bool.{false}
 use Prim.Native.Nat.{ℕ, ◌+◌, Ordering}
 use Rattle.std.proofs.Math.Dec.{compare_is_eq}
-use Rattle.specification.specs.Results.{Result, Test, refused, given, ◌>>=◌, ◌>>◌, if◌then◌else◌}
+use Rattle.specification.specs.Results.{Result, Test, refused, given, ◌>>=◌, ◌>>◌, when◌then◌else◌}
 use Rattle.specification.specs.Letters.{test_table, good_table}
 use Rattle.specification.specs.Terms.{Term, Form, compare_terms}
 use Rattle.specification.specs.Records.{write_form, test_terms}
@@ -155,7 +155,7 @@ unfolding replay take_steps
 replay-accepted log k current [] a b n e = go (same_form log.last current) refl e
   where
     go : (same : Bool) → same_form log.last current ≡ same
-        → (if same then accepted log.first_end log.last_start (length log.steps) else refused_at 13 k) ≡ accepted a b n → Replayed log current [] a b n
+        → (when same then accepted log.first_end log.last_start (length log.steps) else refused_at 13 k) ≡ accepted a b n → Replayed log current [] a b n
     go true s e = record {
       reaches = unfold take_steps in ap given (sym (same_form_eq log.last current (holds (same_form log.last current) s)));
       first_end = cc;

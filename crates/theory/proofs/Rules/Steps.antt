@@ -6,7 +6,7 @@ use mathlib.Core.List.{List, [], ◌∷◌, ◌++◌, map, append-nil}
 use Rattle.std.proofs.Math.IntN.{ℤ}
 use Rattle.std.proofs.Math.IntN as I
 use Rattle.algebra.specs.Integers as R
-use Rattle.specification.specs.Results.{given, if◌then◌else◌}
+use Rattle.specification.specs.Results.{given, when◌then◌else◌}
 use Rattle.specification.specs.Values.{Vec, scalar_value, ◌+v◌, ◌•◌}
 use Rattle.specification.specs.Letters.{scalar, vector, test_letters}
 use Rattle.specification.specs.Terms.{Term, Form, term_kind, times_term, gather, within, vector_letters, term_in_shape}
@@ -55,7 +55,7 @@ pub data Agreeing (f : Form) (s : Step) : Type 0 where
 
 -- the kind of a rule, by the tests for 3 and for 5
 abbrev kind_by : Bool → Bool → ℕ
-kind_by a b = if a then scalar else if b then scalar else vector
+kind_by a b = when a then scalar else when b then scalar else vector
 
 -- what the test of the kinds says
 pub agreeing : (f : Form) (s : Step) → T (step_kinds_fit f s) → Agreeing f s
@@ -63,7 +63,7 @@ unfolding step_kinds_fit term_kind rule_kind
 agreeing f s h = go (eqb s.rule 3) (eqb s.rule 5) refl h
   where
     go : (a b : Bool) → rule_kind s.rule ≡ kind_by a b
-        → T (if eqb (kind_by a b) vector then eqb (kind_of_part s.m.part) scalar && eqb f.kind vector else eqb f.kind (kind_of_part s.m.part)) → Agreeing f s
+        → T (when eqb (kind_by a b) vector then eqb (kind_of_part s.m.part) scalar && eqb f.kind vector else eqb f.kind (kind_of_part s.m.part)) → Agreeing f s
     go true b e h = scalar_rule e (sym (eqb→eq f.kind (kind_of_part s.m.part) h))
     go false true e h = scalar_rule e (sym (eqb→eq f.kind (kind_of_part s.m.part) h))
     go false false e h =

@@ -8,7 +8,7 @@ use mathlib.Core.List.{List, [], ◌∷◌, ◌++◌, map, map-append}
 use Rattle.std.proofs.Math.Dec.{T, ltb}
 use Rattle.std.proofs.lemmas.List.{length-map}
 use Rattle.algebra.specs.Integers as R
-use Rattle.specification.specs.Results.{if◌then◌else◌}
+use Rattle.specification.specs.Results.{when◌then◌else◌}
 use Rattle.specification.specs.Lists.{all}
 use Rattle.specification.specs.Values.{Vec, scalar_value, ◌+v◌, ◌•◌}
 use Rattle.specification.specs.Letters.{scalar, vector}
@@ -178,7 +178,7 @@ module _ (table ls : List ℕ) (known : All (Known table vector) ls) where
       several : (k : List ℕ) → 1 < length k → All (Known table vector) k → FactorKnown table k
       several k l h = go (eqb (length k) 1) (eqb→eq (length k) 1)
         where
-          go : (b : Bool) → (T b → length k ≡ 1) → All (Known table (if b then scalar else vector)) k
+          go : (b : Bool) → (T b → length k ≡ 1) → All (Known table (when b then scalar else vector)) k
           go true e = absurd (omega (arith, e tt))
           go false e = h
 

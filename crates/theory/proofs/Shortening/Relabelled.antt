@@ -11,7 +11,7 @@ use Rattle.std.proofs.Math.IntN.{ℤ, pos}
 use Rattle.std.proofs.Math.IntN as I
 use Rattle.algebra.specs.Integers as R
 use Rattle.algebra.specs.Integers.{NonZero, unit-square, unit-nonzero}
-use Rattle.specification.specs.Results.{if◌then◌else◌}
+use Rattle.specification.specs.Results.{when◌then◌else◌}
 use Rattle.specification.specs.Lists.{all, order, sorted}
 use Rattle.specification.specs.Terms.{Term, compare_letters, exchange_sign, factor_sign, factors_sign, term_sign, tidy, with_coef, plus, times_term, gather}
 use Rattle.theory.specs.Elements.{All, all_implies, all_T}
@@ -58,7 +58,7 @@ module _ (f : ℕ → ℕ) where
   both_one g = rw (length-map g f, length-map (sorted order g) f, O.length-sorted order g) (go (eqb (length g) 3))
     where
       sign : Bool → List ℕ → ℤ
-      sign b g = if b then exchange_sign g else pos 1
+      sign b g = when b then exchange_sign g else pos 1
 
       go : (b : Bool) → sign b g *ℤ sign b (map f g) ≡ sign b (sorted order g) *ℤ sign b (map f (sorted order g))
       go true = signs-reordered f [] (reordered-sorted order g)

@@ -8,7 +8,7 @@ use Rattle.std.proofs.Math.Dec.{eqb}
 use Rattle.std.proofs.Math.IntN as I
 use Rattle.algebra.specs.Integers as R
 use Rattle.algebra.specs.Integers.{NonZero, neg_unique, unit-square}
-use Rattle.specification.specs.Results.{if◌then◌else◌}
+use Rattle.specification.specs.Results.{when◌then◌else◌}
 use Rattle.specification.specs.Lists.{joined, order, sorted}
 use Rattle.specification.specs.Letters.{vector}
 use Rattle.specification.specs.Terms.{Term, Form, compare_letters, exchange_sign, factors_sign, tidy, with_coef, times_term, gather}
@@ -160,7 +160,7 @@ pub record Divides (t m : Term) (r : ℕ) (w : List ℕ) : Type 0 where
 -- the parts of the term, of M and of a term of the rule
 parts-divided : (f : Form) (s : Step) → Agreeing f s → (size : ℕ) (t u : Term) → Bare (rule_kind s.rule) size u → sorted order s.m.part ≡ s.m.part
     → t.part ≡ sorted order (s.m.part ++ u.part)
-    → ((if eqb (rule_kind s.rule) vector then [] else t.part) ≡ s.m.part) × Reordered (if eqb (rule_kind s.rule) vector then t.part else []) u.part
+    → ((when eqb (rule_kind s.rule) vector then [] else t.part) ≡ s.m.part) × Reordered (when eqb (rule_kind s.rule) vector then t.part else []) u.part
 parts-divided f s (vector_rule r p k) size t u b o e =
     let q : sorted order u.part ≡ t.part = sym (e ∙ ap (λ (l : List ℕ). sorted order (l ++ u.part)) p) in
     rw r (sym p, subst (λ (l : List ℕ). Reordered l u.part) q (reordered-back (reordered-sorted order u.part)))
@@ -190,7 +190,7 @@ module _ (f : Form) (s : Step) (agree : Agreeing f s) (in_order : InOrder (monom
         mask = by.mask;
         small = by.small;
         is_m = λ c i. record { coef = c; factors = by.taking i; part = p.0 i };
-        is_pool = ap (λ (l : List (List ℕ)). sorted order (joined l ++ (if eqb (rule_kind s.rule) vector then t.part else []))) by.leaving
+        is_pool = ap (λ (l : List (List ℕ)). sorted order (joined l ++ (when eqb (rule_kind s.rule) vector then t.part else []))) by.leaving
             ∙ sorted-reordered nat-laws (further (reordered-before (further (reordered-joined k.order) (joined-sorted u.factors)) _) (further (reordered-behind (joined u.factors) p.1) b.0));
       }
 

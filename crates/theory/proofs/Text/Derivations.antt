@@ -9,7 +9,7 @@ use Prim.Native.Nat.{ℕ, zero, suc, ◌+◌, ◌-◌, ◌≤◌, ◌<◌}
 use Rattle.std.proofs.Math.ListN.{length, get_or}
 use Rattle.std.proofs.Math.Dec.{T, leb→le}
 use Rattle.specification.specs.Lists.{all, ascend}
-use Rattle.specification.specs.Results.{Result, refused, given, if◌then◌else◌}
+use Rattle.specification.specs.Results.{Result, refused, given, when◌then◌else◌}
 use Rattle.specification.specs.Letters.{scalar, vector, good_table}
 use Rattle.specification.specs.Terms.{Term, Form, term_in_shape}
 use Rattle.specification.specs.Records.{write_form, test_terms}
@@ -43,13 +43,13 @@ pub lines-first : (b : ℕ) (s : List ℕ) → lines_of (b ∷ s) ≡ first_line
 unfolding lines_of first_line behind_line in_front
 lines-first b [] = go (eqb b 10)
   where
-    go : (t : Bool) → (if t then [] ∷ [] else (b ∷ []) ∷ []) ≡ (if t then [] else b ∷ []) ∷ lines_of (if t then [] else [])
+    go : (t : Bool) → (when t then [] ∷ [] else (b ∷ []) ∷ []) ≡ (when t then [] else b ∷ []) ∷ lines_of (when t then [] else [])
     go true = refl
     go false = refl
 lines-first b (c ∷ s) = go (eqb b 10) (lines-first c s)
   where
-    go : (t : Bool) → lines_of (c ∷ s) ≡ first_line (c ∷ s) ∷ lines_of (behind_line (c ∷ s)) → (if t then [] ∷ lines_of (c ∷ s) else in_front b (lines_of (c ∷ s)))
-        ≡ (if t then [] else b ∷ first_line (c ∷ s)) ∷ lines_of (if t then c ∷ s else behind_line (c ∷ s))
+    go : (t : Bool) → lines_of (c ∷ s) ≡ first_line (c ∷ s) ∷ lines_of (behind_line (c ∷ s)) → (when t then [] ∷ lines_of (c ∷ s) else in_front b (lines_of (c ∷ s)))
+        ≡ (when t then [] else b ∷ first_line (c ∷ s)) ∷ lines_of (when t then c ∷ s else behind_line (c ∷ s))
     go true e = refl
     go false e = ap (in_front b) e
 
@@ -67,8 +67,8 @@ lines_join (b ∷ s) t = go (eqb b 10) (lines_join s t)
     front : (ls ms : List (List ℕ)) (line : List ℕ) (more : List (List ℕ)) → ls ≡ line ∷ more → in_front b (ls ++ ms) ≡ in_front b ls ++ ms
     front ls ms line more e = rw e refl
 
-    go : (x : Bool) → lines_of (s ++ 10 ∷ t) ≡ lines_of (s ++ 10 ∷ []) ++ lines_of t → (if x then [] ∷ lines_of (s ++ 10 ∷ t) else in_front b (lines_of (s ++ 10 ∷ t)))
-        ≡ (if x then [] ∷ lines_of (s ++ 10 ∷ []) else in_front b (lines_of (s ++ 10 ∷ []))) ++ lines_of t
+    go : (x : Bool) → lines_of (s ++ 10 ∷ t) ≡ lines_of (s ++ 10 ∷ []) ++ lines_of t → (when x then [] ∷ lines_of (s ++ 10 ∷ t) else in_front b (lines_of (s ++ 10 ∷ t)))
+        ≡ (when x then [] ∷ lines_of (s ++ 10 ∷ []) else in_front b (lines_of (s ++ 10 ∷ []))) ++ lines_of t
     go true e = ap (λ (ls : List (List ℕ)). [] ∷ ls) e
     go false e = let w = some_line s in ap (in_front b) e ∙ front (lines_of (s ++ 10 ∷ [])) (lines_of t) w.0 w.1 w.2
 
@@ -79,7 +79,7 @@ line-alone [] = refl
 line-alone (b ∷ s) = go (eqb b 10) refl (line-alone s)
   where
     go : (x : Bool) → eqb b 10 ≡ x → lines_of (first_line s ++ 10 ∷ []) ≡ first_line s ∷ []
-        → lines_of ((if x then [] else b ∷ first_line s) ++ 10 ∷ []) ≡ (if x then [] else b ∷ first_line s) ∷ []
+        → lines_of ((when x then [] else b ∷ first_line s) ++ 10 ∷ []) ≡ (when x then [] else b ∷ first_line s) ∷ []
     go true h e = refl
     go false h e = rw h (ap (in_front b) e)
 
@@ -133,7 +133,7 @@ then_of : {A B : Type 0} (P : B → Type 0) (x : Placed A) (f : A → Placed B) 
 then_of P (refused_at n c) f h = tt
 then_of P (placed a) f h = h a refl
 
-if_of : {A : Type 0} (P : A → Type 0) (b : Bool) (x y : Placed A) → (T b → Of P x) → Of P y → Of P (if b then x else y)
+if_of : {A : Type 0} (P : A → Type 0) (b : Bool) (x y : Placed A) → (T b → Of P x) → Of P y → Of P (when b then x else y)
 if_of P true x y h k = h tt
 if_of P false x y h k = k
 
@@ -256,7 +256,7 @@ pub first_within : (names table line : List ℕ) → ColumnWithin line (read_fir
 unfolding read_first ColumnWithin
 first_within names table line = go (leb 1 (length names))
   where
-    go : (b : Bool) → ColumnWithin line (if b then read_form_line names table line else refused_at 1 0)
+    go : (b : Bool) → ColumnWithin line (when b then read_form_line names table line else refused_at 1 0)
     go true = form_line-within line names table
     go false = omega arith
 
@@ -265,7 +265,7 @@ pub one_step-within : (names table line : List ℕ) → ColumnWithin line (read_
 unfolding read_one_step ColumnWithin
 one_step-within names table line = go (is_step_line line) refl
   where
-    go : (b : Bool) → is_step_line line ≡ b → ColumnWithin line (if b then read_step_line names table line else refused_at 4 (skip line 0))
+    go : (b : Bool) → is_step_line line ≡ b → ColumnWithin line (when b then read_step_line names table line else refused_at 4 (skip line 0))
     go true e = step-line-within line names table e
     go false e = skip_within line 0 (omega arith)
 
@@ -293,7 +293,7 @@ pub first_goes : (names table line : List ℕ) (f : Form) → GoodSoFar (names, 
 unfolding read_first
 first_goes names table line f g e = go (leb 1 (length names)) (leb→le 1 (length names)) e
   where
-    go : (b : Bool) → (T b → 1 ≤ length names) → (if b then read_form_line names table line else refused_at 1 0) ≡ placed f
+    go : (b : Bool) → (T b → 1 ≤ length names) → (when b then read_form_line names table line else refused_at 1 0) ≡ placed f
         → Leading names f (record { table = table; count = 0; form = f }) []
     go false h e = absurd (refused≢placed e)
     go true h e =
@@ -327,7 +327,7 @@ pub typed-shape : (names table line : List ℕ) (step : Step) → T (good_table 
 unfolding read_one_step
 typed-shape names table line step table_good names_good e = go (is_step_line line) e
   where
-    go : (b : Bool) → (if b then read_step_line names table line else refused_at 4 (skip line 0)) ≡ placed step → T (step_in_shape step)
+    go : (b : Bool) → (when b then read_step_line names table line else refused_at 4 (skip line 0)) ≡ placed step → T (step_in_shape step)
     go false p = absurd (refused≢placed p)
     go true p = step-line-shape names table table_good names_good line step p
 
@@ -342,7 +342,7 @@ answer-goes : (k : ℕ) (line : List ℕ) (d : Derivation) → Going d → Going
 unfolding answer_line names_answer first_answer Going step_refused step_answer
 answer-goes k line (unopened names table) g = go (is_declaration line)
   where
-    go : (b : Bool) → Going (if b then line_read k line (unopened names table) (declared line (names, table)) names_answer
+    go : (b : Bool) → Going (when b then line_read k line (unopened names table) (declared line (names, table)) names_answer
         else line_read k line (unopened names table) (read_first names table line) (first_answer names table)).0
     go true = read_goes k line (unopened names table) (declared line (names, table)) names_answer g (λ n e. declared_good line (names, table) n g e)
     go false = read_goes k line (unopened names table) (read_first names table line) (first_answer names table) g (λ f e. first_goes names table line f g e)
@@ -352,7 +352,7 @@ answer-goes k line (underway names first state steps) g = go (is_step_line line 
     stepped step h (refused n) e = g
     stepped step h (given next) e = step-goes names first state steps step next g h e
 
-    go : (b : Bool) → Going (if b then step_refused names first state steps 14
+    go : (b : Bool) → Going (when b then step_refused names first state steps 14
         else line_read k line (underway names first state steps) (read_one_step names state.table line)
         (λ step. step_answer names first state steps step (add_to state (write_step step)))).0
     go true = g
@@ -365,7 +365,7 @@ pub pass-goes : (k : ℕ) (line : List ℕ) (d : Derivation) → Going d → Goi
 unfolding pass_line
 pass-goes k line d g = go (is_empty_line line)
   where
-    go : (b : Bool) → Going (if b then (d, []) else answer_line k line d).0
+    go : (b : Bool) → Going (when b then (d, []) else answer_line k line d).0
     go true = g
     go false = answer-goes k line d g
 

@@ -5,7 +5,7 @@ use Rattle.std.proofs.Common.{◌∙◌, arith, lt-ltb}
 use Rattle.std.proofs.Math.Bool.{true, false}
 use Prim.Native.Nat.{ℕ, zero, suc, ◌≤◌, ◌<◌}
 use Rattle.std.proofs.Math.Dec.{eqb, ltb→lt, eqb_refl}
-use Rattle.specification.specs.Results.{Result, refused, given, if◌then◌else◌}
+use Rattle.specification.specs.Results.{Result, refused, given, when◌then◌else◌}
 use Rattle.specification.specs.Values.{Vec}
 use Rattle.specification.specs.Letters.{good_table, kind_of, test_letter}
 use Rattle.specification.specs.Terms.{Form}
@@ -42,7 +42,7 @@ module _ (names table s : List ℕ) (good : T (good_table table)) (fit : length 
   abbrev Keeps : (Expr → Expr → Expr) → Type 0
   Keeps op = (e f : Expr) → LettersIn table e → LettersIn table f → LettersIn table (op e f)
 
-  either : (b : Bool) (r q : Read) → (T b → ReadKnown r) → ReadKnown q → ReadKnown (if b then r else q)
+  either : (b : Bool) (r q : Read) → (T b → ReadKnown r) → ReadKnown q → ReadKnown (when b then r else q)
   either true r q h k = h tt
   either false r q h k = k
 
@@ -95,7 +95,7 @@ module _ (names table s : List ℕ) (good : T (good_table table)) (fit : length 
   unfolding signed
   signed_keeps b = go (eqb b 45)
     where
-      go : (t : Bool) → Keeps (if t then Difference else Sum)
+      go : (t : Bool) → Keeps (when t then Difference else Sum)
       go true e f h k = (h, k)
       go false e f h k = (h, k)
 
@@ -105,7 +105,7 @@ module _ (names table s : List ℕ) (good : T (good_table table)) (fit : length 
     atom_known : (at : ℕ) → ReadKnown (read_atom names table s bracket at)
     unfolding read_atom
     atom_known at =
-        either (is_letter (get_or s at 0)) (read_name names table s at) (if eqb (get_or s at 0) 40 then bracket at else refused_at 4 at) (λ t. name_known at)
+        either (is_letter (get_or s at 0)) (read_name names table s at) (when eqb (get_or s at 0) 40 then bracket at else refused_at 4 at) (λ t. name_known at)
         (either (eqb (get_or s at 0) 40) (bracket at) (refused_at 4 at) (λ t. inner at) tt)
 
     lead_known : (at : ℕ) → ReadKnown (read_lead names table s bracket at)
@@ -173,7 +173,7 @@ module _ (names table s : List ℕ) (good : T (good_table table)) (fit : length 
   unfolding read_text whole_text
   text-letters t = long (leb (length s) 4096)
     where
-      rest : (q : Tree × ℕ) (b : Bool) → LettersIn table (plain q.0) → (if b then placed q.0 else refused_at 4 q.1) ≡ placed t → LettersIn table (plain t)
+      rest : (q : Tree × ℕ) (b : Bool) → LettersIn table (plain q.0) → (when b then placed q.0 else refused_at 4 q.1) ≡ placed t → LettersIn table (plain t)
       rest q true h e = subst (λ (x : Tree). LettersIn table (plain x)) (placed_same e) h
       rest q false h e = absurd (refused≢placed e)
 
@@ -181,7 +181,7 @@ module _ (names table s : List ℕ) (good : T (good_table table)) (fit : length 
       whole (refused_at n c) h e = absurd (refused≢placed e)
       whole (placed q) h e = rest q (leb (length s) q.1) h e
 
-      long : (b : Bool) → (if b then read_sum names table s (read_nested names table s 16) (skip s 0) >>= whole_text s else refused_at 3 4096) ≡ placed t
+      long : (b : Bool) → (when b then read_sum names table s (read_nested names table s 16) (skip s 0) >>= whole_text s else refused_at 3 4096) ≡ placed t
           → LettersIn table (plain t)
       long true e = whole (read_sum names table s (read_nested names table s 16) (skip s 0)) (sum_known (read_nested names table s 16) (nested_known 16) (skip s 0)) e
       long false e = absurd (refused≢placed e)

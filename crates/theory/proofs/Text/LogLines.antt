@@ -7,7 +7,7 @@ use native.Mathlib.Omega.{arith}
 use Rattle.std.proofs.Math.ListN.{drop}
 use Rattle.std.proofs.Math.Dec.{leb→le, eqb-suc-zero}
 use borrow.Author.Tests.{le-leb, lt-ltb, eq-eqb, ne_eqb}
-use Rattle.specification.specs.Results.{given, if◌then◌else◌}
+use Rattle.specification.specs.Results.{given, when◌then◌else◌}
 use Rattle.specification.specs.Letters.{scalar, vector, test_letters}
 use Rattle.specification.specs.Terms.{Term, Form, term_kind, term_in_shape}
 use Rattle.specification.specs.Records.{test_term}
@@ -74,7 +74,7 @@ kind-are : (P : List ℕ → Type 0) (k : ℕ) (l : List ℕ) → P (bytes "scal
 unfolding kind_word
 kind-are P k l f g = go (eqb k scalar)
   where
-    go : (b : Bool) → P ((if b then bytes "scalar" else bytes "vector") ++ l)
+    go : (b : Bool) → P ((when b then bytes "scalar" else bytes "vector") ++ l)
     go true = f
     go false = g
 

@@ -8,7 +8,7 @@ use Rattle.std.proofs.Math.IntN.{pos, negsuc}
 use Rattle.std.proofs.Math.IntN as I
 use Rattle.algebra.specs.Integers as R
 use Rattle.algebra.proofs.Normaliser.{lit, ◌⊗◌, normalising}
-use Rattle.specification.specs.Results.{if◌then◌else◌}
+use Rattle.specification.specs.Results.{when◌then◌else◌}
 use Rattle.specification.specs.Lists.{is_not_more, order, put_into, sorted}
 use Rattle.specification.specs.Values.{Vec, scalar_value, ◌•◌, dot, wedge, triple}
 use Rattle.specification.specs.Terms.{pair_sign, sign_before, exchange_sign, factor_sign, factors_sign, compare_letters}
@@ -190,7 +190,7 @@ module _ (σ : ℕ → Vec) where
   factors-put f (g ∷ gs) = test (is_not_more (compare_letters f g)) (factors-put f gs)
     where
       test : (b : Bool) → factors_value σ (put_into compare_letters f gs) ≡ factor_value σ f *ℤ factors_value σ gs
-          → factors_value σ (if b then f ∷ g ∷ gs else g ∷ put_into compare_letters f gs) ≡ factor_value σ f *ℤ factors_value σ (g ∷ gs)
+          → factors_value σ (when b then f ∷ g ∷ gs else g ∷ put_into compare_letters f gs) ≡ factor_value σ f *ℤ factors_value σ (g ∷ gs)
       test true e = refl
       test false e = ap (λ (k : ℤ). factor_value σ g *ℤ k) e ∙ R.*ℤ_left_comm (factor_value σ g) (factor_value σ f) (factors_value σ gs)
 

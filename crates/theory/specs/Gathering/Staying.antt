@@ -3,7 +3,7 @@ use Rattle.std.specs.Prelude.{◌≡◌, refl, Bool, true, false, not, T, ℤ, p
 use Rattle.std.proofs.Common.{sym, ◌∙◌, ap}
 use mathlib.Core.List.{List, [], ◌∷◌, ◌++◌, map, flat_map}
 use Rattle.std.proofs.Math.IntN as I
-use Rattle.specification.specs.Results.{if◌then◌else◌}
+use Rattle.specification.specs.Results.{when◌then◌else◌}
 use Rattle.specification.specs.Lists.{select}
 use Rattle.specification.specs.Terms.{Term, term_sign, tidy, vanishes, staying, gather}
 use Rattle.theory.specs.Tests.{holds, is-zero}
@@ -16,12 +16,12 @@ use Rattle.theory.specs.Gathering.Gathered.{gather-gathered, gathered_known, gat
 -- what vanishes goes
 pub vanishing_goes : (t : Term) (ts : List Term) → vanishes t ≡ true → staying (t ∷ ts) ≡ staying ts
 unfolding staying select
-vanishing_goes t ts e = ap (λ (b : Bool). if not b then t ∷ staying ts else staying ts) e
+vanishing_goes t ts e = ap (λ (b : Bool). when not b then t ∷ staying ts else staying ts) e
 
 -- what does not stays
 pub other-stays : (t : Term) (ts : List Term) → vanishes t ≡ false → staying (t ∷ ts) ≡ t ∷ staying ts
 unfolding staying select
-other-stays t ts e = ap (λ (b : Bool). if not b then t ∷ staying ts else staying ts) e
+other-stays t ts e = ap (λ (b : Bool). when not b then t ∷ staying ts else staying ts) e
 
 -- once tidied, what vanishes weighs nothing
 vanished_weight : (φ : Monomial → ℤ) (t : Term) → T (vanishes t) → weight φ (tidy t) ≡ pos 0
@@ -35,7 +35,7 @@ weigh-staying φ [] = refl
 weigh-staying φ (t ∷ ts) = go (vanishes t) refl (weigh-staying φ ts)
   where
     go : (b : Bool) → vanishes t ≡ b → weigh φ (map tidy (staying ts)) ≡ weigh φ (map tidy ts)
-        → weigh φ (map tidy (if not b then t ∷ staying ts else staying ts)) ≡ weight φ (tidy t) +ℤ weigh φ (map tidy ts)
+        → weigh φ (map tidy (when not b then t ∷ staying ts else staying ts)) ≡ weight φ (tidy t) +ℤ weigh φ (map tidy ts)
     go true e rest = rest ∙ sym (ap (λ (z : ℤ). z +ℤ weigh φ (map tidy ts)) (vanished_weight φ t (holds (vanishes t) e)) ∙ I.+ℤ_idl (weigh φ (map tidy ts)))
     go false e rest = ap (λ (z : ℤ). weight φ (tidy t) +ℤ z) rest
 
@@ -53,7 +53,7 @@ staying-append [] us = refl
 staying-append (t ∷ ts) us = go (vanishes t) (staying-append ts us)
   where
     go : (b : Bool) → staying (ts ++ us) ≡ staying ts ++ staying us
-        → (if not b then t ∷ staying (ts ++ us) else staying (ts ++ us)) ≡ (if not b then t ∷ staying ts else staying ts) ++ staying us
+        → (when not b then t ∷ staying (ts ++ us) else staying (ts ++ us)) ≡ (when not b then t ∷ staying ts else staying ts) ++ staying us
     go true rest = rest
     go false rest = ap (λ (l : List Term). t ∷ l) rest
 
@@ -74,9 +74,9 @@ all_staying P ts h = all_select P (λ (t : Term). not (vanishes t)) ts h
 pub staying-map : (f : Term → Term) → ((t : Term) → vanishes (f t) ≡ vanishes t) → (ts : List Term) → staying (map f ts) ≡ map f (staying ts)
 unfolding staying select
 staying-map f e [] = refl
-staying-map f e (t ∷ ts) = ap (λ (b : Bool). if not b then f t ∷ staying (map f ts) else staying (map f ts)) (e t) ∙ go (vanishes t) (staying-map f e ts)
+staying-map f e (t ∷ ts) = ap (λ (b : Bool). when not b then f t ∷ staying (map f ts) else staying (map f ts)) (e t) ∙ go (vanishes t) (staying-map f e ts)
   where
     go : (b : Bool) → staying (map f ts) ≡ map f (staying ts)
-        → (if not b then f t ∷ staying (map f ts) else staying (map f ts)) ≡ map f (if not b then t ∷ staying ts else staying ts)
+        → (when not b then f t ∷ staying (map f ts) else staying (map f ts)) ≡ map f (when not b then t ∷ staying ts else staying ts)
     go true rest = rest
     go false rest = ap (λ (l : List Term). f t ∷ l) rest

@@ -3,7 +3,7 @@ use Rattle.std.specs.Prelude.{◌≡◌, refl, Bool, true, false, List, [], ◌�
 use Rattle.std.proofs.Common.{sym, ◌∙◌, ap, eqb→eq}
 use Rattle.algebra.specs.Integers as R
 use Rattle.algebra.specs.Integers.{NonZero, factors-nonzero}
-use Rattle.specification.specs.Results.{if◌then◌else◌}
+use Rattle.specification.specs.Results.{when◌then◌else◌}
 use Rattle.specification.specs.Lists.{order, sorted}
 use Rattle.specification.specs.Terms.{Term, compare_letters, exchange_sign, factor_sign, factors_sign, term_sign, tidy}
 use Rattle.theory.specs.Elements.{All}
@@ -32,7 +32,7 @@ signs-append (g ∷ k) l = ap (λ (z : ℤ). factor_sign g *ℤ z) (signs-append
 
 -- ════ what has this order is tidy
 
-if_T : (b : Bool) (x y : ℤ) (P : ℤ → Type 0) → (T b → P x) → P y → P (if b then x else y)
+if_T : (b : Bool) (x y : ℤ) (P : ℤ → Type 0) → (T b → P x) → P y → P (when b then x else y)
 if_T true x y P f g = f tt
 if_T false x y P f g = g
 
@@ -78,7 +78,7 @@ signs-factors (f ∷ fs) h =
     let w = factors-nonzero (factor_sign f) (factors_sign fs) h in (
       record {
         ascend = O.asc_sort nat-laws f;
-        strict = λ e. sign-strict f (λ z. w.0 (ap (λ (b : Bool). if b then exchange_sign f else pos 1) (eqb-three (length f) (sym (O.length-sorted order f) ∙ e)) ∙ z));
+        strict = λ e. sign-strict f (λ z. w.0 (ap (λ (b : Bool). when b then exchange_sign f else pos 1) (eqb-three (length f) (sym (O.length-sorted order f) ∙ e)) ∙ z));
       },
       signs-factors fs w.1,
     )

@@ -7,7 +7,7 @@ use mathlib.Core.List.{List, [], ◌∷◌, ◌++◌, map}
 use Prim.Native.Nat.{zero, suc, Ordering}
 use Rattle.std.proofs.Math.IntN as I
 use Rattle.algebra.specs.Integers as R
-use Rattle.specification.specs.Results.{if◌then◌else◌}
+use Rattle.specification.specs.Results.{when◌then◌else◌}
 use Rattle.specification.specs.Lists.{by_order}
 use Rattle.specification.specs.Terms.{Term, tidy, with_coef, is_zero, keep, insert, gather_into, gather}
 use Rattle.theory.specs.Elements.{All}
@@ -28,7 +28,7 @@ module _ (φ : Monomial → ℤ) where
   unfolding keep is_zero weigh
   weigh-keep t ts = go t.coef refl
     where
-      go : (c : ℤ) → t.coef ≡ c → weigh φ (if is_zero c then ts else t ∷ ts) ≡ weight φ t +ℤ weigh φ ts
+      go : (c : ℤ) → t.coef ≡ c → weigh φ (when is_zero c then ts else t ∷ ts) ≡ weight φ t +ℤ weigh φ ts
       go (pos zero) e =
           sym (ap (λ (z : ℤ). z *ℤ φ (monomial t) +ℤ weigh φ ts) e ∙ ap (λ (z : ℤ). z +ℤ weigh φ ts) (I.zero-*ℤ (φ (monomial t))) ∙ I.+ℤ_idl (weigh φ ts))
       go (pos (suc n)) e = refl

@@ -2,7 +2,7 @@
 use Rattle.std.specs.Prelude.{◌≡◌, refl, Bool, true, false, not, ◌&&◌, List, [], ◌∷◌, ℕ, ◌+◌, ◌*◌, ◌/◌, ◌%◌, ◌^◌, ◌≤◌, ◌<◌, ℤ, length, T, ltb, eqb}
 use Rattle.std.proofs.lemmas.Bool.{false≢true, eqb-false}
 use Rattle.std.proofs.Common.{arith, ltb→lt, lt-ltb, eqb-true, eq-eqb, ne_eqb}
-use Rattle.specification.specs.Results.{if◌then◌else◌}
+use Rattle.specification.specs.Results.{when◌then◌else◌}
 use Rattle.specification.specs.Records.{is_one, coef_field, count_field, four_bytes, bit_of, part_bit, stands, part_letters, good_bits}
 use Rattle.theory.specs.Tests.{is_true, and_split}
 use Rattle.theory.specs.Records.Fields.{are_there}
@@ -82,7 +82,7 @@ module _ (c s d t : Bool) (n q : ℕ) (h : n ≡ bit c * 1 + bit s * 2 + bit d *
   small : n < 64
   small = omega (arith, bit-small c, bit-small s, bit-small d, bit-small t)
 
-  tells : (part : List ℕ) (b₄ b₅ : Bool) → q % 2 ≡ bit b₄ → q / 2 ≡ bit b₅ → (if b₄ then 1 else if b₅ then 2 else 0) ≡ length part → not (b₄ && b₅) ≡ true → Tells n c s d t part
+  tells : (part : List ℕ) (b₄ b₅ : Bool) → q % 2 ≡ bit b₄ → q / 2 ≡ bit b₅ → (when b₄ then 1 else when b₅ then 2 else 0) ≡ length part → not (b₄ && b₅) ≡ true → Tells n c s d t part
   unfolding good_bits part_letters
   tells part b₄ b₅ e₄ e₅ e g = record {
     coef = stands₀;

@@ -5,7 +5,7 @@ use Rattle.std.proofs.Common.{◌∙◌}
 use Rattle.std.proofs.Math.Bool.{true, false}
 use Prim.Native.Nat.{ℕ, zero, suc, ◌+◌, ◌≤◌}
 use Rattle.std.proofs.Math.Dec.{T}
-use Rattle.specification.specs.Results.{Result, given, require, if◌then◌else◌}
+use Rattle.specification.specs.Results.{Result, given, require, when◌then◌else◌}
 use Rattle.specification.specs.Letters.{good_table, kind_of, test_letter}
 use Rattle.specification.specs.Expressions.{Expr, Letter, Constant, Sum, Difference, Negation, Times, Dot, Wedge, Triple, Token, leaf, one, two, three, token_bytes, test_bytes, read_letter, read_token, read_operands, read_tree, read_expr}
 use Rattle.theory.specs.Tests.{eqb_T, given_same, refused≢given, required, passes, tested, bound, into}
@@ -60,7 +60,7 @@ module _ (table : List ℕ) (good : T (good_table table)) where
   this : (t : Token) → TokenFits t → Fitting (given t)
   this t h token e = subst TokenFits (given_same e) h
 
-  either : (b : Bool) (r s : Result Token) → Fitting r → Fitting s → Fitting (if b then r else s)
+  either : (b : Bool) (r s : Result Token) → Fitting r → Fitting s → Fitting (when b then r else s)
   either true r s h k = h
   either false r s h k = k
 

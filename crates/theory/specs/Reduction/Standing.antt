@@ -8,7 +8,7 @@ use Rattle.std.proofs.Math.Dec.{T, eqb_refl}
 use Rattle.std.proofs.Math.Seq.{take-length, drop-length}
 use Rattle.algebra.specs.Integers as R
 use Rattle.algebra.specs.Integers.{NonZero}
-use Rattle.specification.specs.Results.{Result, refused, given, ◌>>=◌, ◌>>◌, require, if◌then◌else◌}
+use Rattle.specification.specs.Results.{Result, refused, given, ◌>>=◌, ◌>>◌, require, when◌then◌else◌}
 use Rattle.specification.specs.Lists.{all, select, ascend}
 use Rattle.specification.specs.Letters.{scalar, vector}
 use Rattle.specification.specs.Terms.{Term, Form, plus, term_kind, times_term, is_zero, vanishes, staying, keep, gather, coef_within, within}
@@ -37,12 +37,12 @@ has_letter letter (n ∷ ns) = eqb n letter || has_letter letter ns
 
 -- whether a vector letter is in a factor: a scalar letter is none
 unfoldable pub factor_has : (letter : ℕ) (factor : List ℕ) → Bool
-factor_has letter f = if eqb (length f) 1 then false else has_letter letter f
+factor_has letter f = when eqb (length f) 1 then false else has_letter letter f
 
 -- how many leading factors are without it
 unfoldable pub leading_of : (letter : ℕ) (factors : List (List ℕ)) → ℕ
 leading_of letter [] = 0
-leading_of letter (f ∷ fs) = if factor_has letter f then 0 else suc (leading_of letter fs)
+leading_of letter (f ∷ fs) = when factor_has letter f then 0 else suc (leading_of letter fs)
 
 -- ════ step by step
 
@@ -149,7 +149,7 @@ term_in_shape_lem t h = record {
   ascending = tt;
 }
   where
-    small : (b : Bool) → (if b then scalar else vector) ≤ 1
+    small : (b : Bool) → (when b then scalar else vector) ≤ 1
     small true = omega arith
     small false = omega arith
 
@@ -163,7 +163,7 @@ term_within_lem t h =
 -- a term in shape stays
 stays_in-shape : (t : Term) → T (term_in_shape t) → staying (t ∷ []) ≡ t ∷ []
 unfolding staying select vanishes is_zero
-stays_in-shape t h = ap (λ (z : ℤ). if not (is_zero z) then t ∷ [] else []) (in_order-sign t (term-opens t h).in_order)
+stays_in-shape t h = ap (λ (z : ℤ). when not (is_zero z) then t ∷ [] else []) (in_order-sign t (term-opens t h).in_order)
 
 -- two terms whose pair makes one term in shape: the product is that term
 one_product : (parts : List ℕ → List ℕ → List Term) (left right : ℕ) (t u v : Term) → pair_terms parts (t, u) ≡ v ∷ [] → T (term_in_shape v)
@@ -249,7 +249,7 @@ module _ (letter : ℕ) (inserted : Form) where
   -- another letter is itself
   leaf-stands : (n : ℕ) → eqb n letter ≡ false → leaf_with letter inserted n vector ≡ letter_form n vector
   unfolding leaf_with
-  leaf-stands n e = ap (λ (b : Bool). if b then inserted else letter_form n vector) e
+  leaf-stands n e = ap (λ (b : Bool). when b then inserted else letter_form n vector) e
 
   -- a scalar letter is itself
   scalar-stands : (n : ℕ) → ◌≡◌ {A = Result Form} (given (leaf_with letter inserted n scalar)) (given (one_term scalar (plus ((n ∷ []) ∷ []) [])))
@@ -296,7 +296,7 @@ unfolding leading_of
 leading_at-most letter [] = omega arith
 leading_at-most letter (f ∷ fs) = go (factor_has letter f) (leading_at-most letter fs)
   where
-    go : (b : Bool) → leading_of letter fs ≤ length fs → (if b then 0 else suc (leading_of letter fs)) ≤ suc (length fs)
+    go : (b : Bool) → leading_of letter fs ≤ length fs → (when b then 0 else suc (leading_of letter fs)) ≤ suc (length fs)
     go true h = omega arith
     go false h = omega arith
 
@@ -311,7 +311,7 @@ leading-without letter [] = tt
 leading-without letter (f ∷ fs) = go (factor_has letter f) refl (leading-without letter fs)
   where
     go : (b : Bool) → factor_has letter f ≡ b → Without letter (take (leading_of letter fs) fs)
-        → Without letter (take (if b then 0 else suc (leading_of letter fs)) (f ∷ fs))
+        → Without letter (take (when b then 0 else suc (leading_of letter fs)) (f ∷ fs))
     go true e h = tt
     go false e h = (e, h)
 

@@ -8,7 +8,7 @@ use native.Mathlib.Omega.{arith}
 use Rattle.std.proofs.Math.Dec.{T}
 use Rattle.std.proofs.Math.ListN.{length}
 use Rattle.specification.specs.Lists.{all, follows}
-use Rattle.specification.specs.Results.{Result, refused, given, ◌>>=◌, ◌>>◌, require, if◌then◌else◌}
+use Rattle.specification.specs.Results.{Result, refused, given, ◌>>=◌, ◌>>◌, require, when◌then◌else◌}
 use Rattle.specification.specs.Letters.{scalar, vector, kind_of, good_table, test_table, test_letter, test_letters}
 use Rattle.specification.specs.Terms.{Term, Form, gather, within, term_within, vector_letters, term_before, term_in_shape}
 use Rattle.specification.specs.Records.{is_one, four_bytes_at, stands, good_bits, part_letters, read_letters, read_coef, read_factors, test_shape, read_term_at, part_fits, read_terms, read_form_at, test_factors, test_term, test_terms}
@@ -60,7 +60,7 @@ letters_not13 table kind (n ∷ ns) =
 factors_not13 : (table : List ℕ) (fs : List (List ℕ)) → Not13 (test_factors table fs)
 unfolding test_factors
 factors_not13 table [] = given_not13 tt
-factors_not13 table (f ∷ fs) = then_not13 (test_letters table (if eqb (length f) 1 then scalar else vector) f) (test_factors table fs) (letters_not13 table _ f) (factors_not13 table fs)
+factors_not13 table (f ∷ fs) = then_not13 (test_letters table (when eqb (length f) 1 then scalar else vector) f) (test_factors table fs) (letters_not13 table _ f) (factors_not13 table fs)
 
 term_not13 : (table : List ℕ) (t : Term) → Not13 (test_term table t)
 unfolding test_term
@@ -183,7 +183,7 @@ letters-passed table k (s ∷ ss) rest w =
 
 -- what the comparison of the form reached with the last form answers, at a step
 abbrev compared : (log : Log) (reached : Form) (k : ℕ) → Checked
-compared log reached k = if same_form log.last reached then accepted log.first_end log.last_start (length log.steps) else refused_at 13 k
+compared log reached k = when same_form log.last reached then accepted log.first_end log.last_start (length log.steps) else refused_at 13 k
 
 replay-within : (log : Log) (k : ℕ) (current : Form) (ss : List Step) → T (within_limits (replay log k current ss))
     → (reached : Form) × (take_steps current ss ≡ given reached) × (replay log k current ss ≡ compared log reached (k + length ss))

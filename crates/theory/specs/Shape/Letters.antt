@@ -6,7 +6,7 @@ use mathlib.Core.List.{List, [], ◌∷◌, map}
 use Prim.Native.Nat.{ℕ, zero, suc, ◌≤◌, ◌<◌}
 use native.Mathlib.Omega.{arith}
 use Rattle.std.proofs.Math.Dec.{T, leb, leb→le, eqb→eq}
-use Rattle.specification.specs.Results.{given, ◌>>◌, require, if◌then◌else◌}
+use Rattle.specification.specs.Results.{given, ◌>>◌, require, when◌then◌else◌}
 use Rattle.specification.specs.Lists.{order, all, sorted}
 use Rattle.specification.specs.Letters.{scalar, vector, is_kind, good_table, test_table, kind_of, test_letter, test_letters}
 use Rattle.specification.specs.Terms.{Term, compare_letters, tidy, times_term, gather}
@@ -70,7 +70,7 @@ module _ (table : List ℕ) where
 
   -- the kind of a factor's letters
   abbrev kind_of_factor : List ℕ → ℕ
-  kind_of_factor f = if eqb (length f) 1 then scalar else vector
+  kind_of_factor f = when eqb (length f) 1 then scalar else vector
 
   -- the letters of a factor are known
   abbrev pub FactorKnown : List ℕ → Type 0
@@ -125,7 +125,7 @@ module _ (table : List ℕ) where
 
   sorted_known : (f : List ℕ) → FactorKnown f → FactorKnown (sorted order f)
   sorted_known f h =
-      subst (λ (n : ℕ). All (Known (if eqb n 1 then scalar else vector)) (sorted order f)) (sym (O.length-sorted order f)) (O.all_sorted order (Known (kind_of_factor f)) f h)
+      subst (λ (n : ℕ). All (Known (when eqb n 1 then scalar else vector)) (sorted order f)) (sym (O.length-sorted order f)) (O.all_sorted order (Known (kind_of_factor f)) f h)
 
   each-sorted : (fs : List (List ℕ)) → All FactorKnown fs → All FactorKnown (map (sorted order) fs)
   each-sorted [] h = tt

@@ -7,7 +7,7 @@ use mathlib.Core.List.{List, [], ◌∷◌, ◌++◌, map}
 use Prim.Native.Nat.{ℕ, zero, suc, ◌+◌, ◌<◌, ◌≤◌, Ordering}
 use Rattle.std.proofs.Math.Nat as N
 use Rattle.algebra.specs.Integers.{NonZero, pos-nonzero, negsuc-nonzero}
-use Rattle.specification.specs.Results.{if◌then◌else◌}
+use Rattle.specification.specs.Results.{when◌then◌else◌}
 use Rattle.specification.specs.Lists.{is_not_more, all, ascend, order, put_into, sorted}
 use Rattle.specification.specs.Letters.{scalar, vector}
 use Rattle.specification.specs.Terms.{Term, compare_letters, tidy, is_zero, coef_within, vector_letters_of, scalar_letters_of}
@@ -113,14 +113,14 @@ part-closes (a ∷ b ∷ c ∷ p) s n = absurd (omega (arith, n))
 
 -- the kind that a vector part gives
 abbrev pub kind_of_part : List ℕ → ℕ
-kind_of_part p = if eqb (length p) 0 then scalar else vector
+kind_of_part p = when eqb (length p) 0 then scalar else vector
 
 -- a part of the scalar kind is nothing
 pub no_part : (p : List ℕ) → kind_of_part p ≡ scalar → p ≡ []
 no_part [] h = refl
 no_part (a ∷ p) h = go (eqb (length (a ∷ p)) 0) (eqb→eq (length (a ∷ p)) 0) h
   where
-    go : (b : Bool) → (T b → length (a ∷ p) ≡ 0) → (if b then scalar else vector) ≡ scalar → a ∷ p ≡ []
+    go : (b : Bool) → (T b → length (a ∷ p) ≡ 0) → (when b then scalar else vector) ≡ scalar → a ∷ p ≡ []
     go true e h = absurd (omega (arith, e tt))
     go false e h = absurd (omega arith)
 
@@ -243,7 +243,7 @@ module _ (S : List (List ℕ) → ℕ) (g : List ℕ → ℕ) (nil : S [] ≡ 0)
   sum-put f [] = cons f []
   sum-put f (h ∷ l) = go (is_not_more (compare_letters f h)) (sum-put f l)
     where
-      go : (b : Bool) → S (put_into compare_letters f l) ≡ g f + S l → S (if b then f ∷ h ∷ l else h ∷ put_into compare_letters f l) ≡ g f + S (h ∷ l)
+      go : (b : Bool) → S (put_into compare_letters f l) ≡ g f + S l → S (when b then f ∷ h ∷ l else h ∷ put_into compare_letters f l) ≡ g f + S (h ∷ l)
       go true ih = cons f (h ∷ l)
       go false ih = omega (arith, ih, cons h (put_into compare_letters f l), cons h l)
 
@@ -261,21 +261,21 @@ length_same f = O.length-sorted order f
 
 vectors-tidy : (l : List (List ℕ)) → vector_letters_of (sorted compare_letters (map (sorted order) l)) ≡ vector_letters_of l
 unfolding vector_letters_of
-vectors-tidy = sum-sorted vector_letters_of (λ f. if eqb (length f) 1 then 0 else length f) refl (λ f l. refl) (λ f. ap (λ (n : ℕ). if eqb n 1 then 0 else n) (length_same f))
+vectors-tidy = sum-sorted vector_letters_of (λ f. when eqb (length f) 1 then 0 else length f) refl (λ f l. refl) (λ f. ap (λ (n : ℕ). when eqb n 1 then 0 else n) (length_same f))
 
 scalars-tidy : (l : List (List ℕ)) → scalar_letters_of (sorted compare_letters (map (sorted order) l)) ≡ scalar_letters_of l
 unfolding scalar_letters_of
-scalars-tidy = sum-sorted scalar_letters_of (λ f. if eqb (length f) 1 then 1 else 0) refl (λ f l. refl) (λ f. ap (λ (n : ℕ). if eqb n 1 then 1 else 0) (length_same f))
+scalars-tidy = sum-sorted scalar_letters_of (λ f. when eqb (length f) 1 then 1 else 0) refl (λ f l. refl) (λ f. ap (λ (n : ℕ). when eqb n 1 then 1 else 0) (length_same f))
 
 -- vector letters of joined factors
 pub vectors-append : (k l : List (List ℕ)) → vector_letters_of (k ++ l) ≡ vector_letters_of k + vector_letters_of l
 unfolding vector_letters_of
-vectors-append = sum-append vector_letters_of (λ f. if eqb (length f) 1 then 0 else length f) refl (λ f l. refl) (λ f. ap (λ (n : ℕ). if eqb n 1 then 0 else n) (length_same f))
+vectors-append = sum-append vector_letters_of (λ f. when eqb (length f) 1 then 0 else length f) refl (λ f l. refl) (λ f. ap (λ (n : ℕ). when eqb n 1 then 0 else n) (length_same f))
 
 -- scalar letters of joined factors
 pub scalars-append : (k l : List (List ℕ)) → scalar_letters_of (k ++ l) ≡ scalar_letters_of k + scalar_letters_of l
 unfolding scalar_letters_of
-scalars-append = sum-append scalar_letters_of (λ f. if eqb (length f) 1 then 1 else 0) refl (λ f l. refl) (λ f. ap (λ (n : ℕ). if eqb n 1 then 1 else 0) (length_same f))
+scalars-append = sum-append scalar_letters_of (λ f. when eqb (length f) 1 then 1 else 0) refl (λ f l. refl) (λ f. ap (λ (n : ℕ). when eqb n 1 then 1 else 0) (length_same f))
 
 lengths-each : (l : List (List ℕ)) → All OneToThree l → All OneToThree (map (sorted order) l)
 lengths-each [] a = tt
@@ -289,5 +289,5 @@ tidy-fits kind t s = record {
   part = omega (arith, length_same t.part, s.part);
   vectors = omega (arith, vectors-tidy t.factors, length_same t.part, s.vectors);
   scalars = omega (arith, scalars-tidy t.factors, s.scalars);
-  kind_is = ap (λ (n : ℕ). if eqb n 0 then scalar else vector) (length_same t.part) ∙ s.kind_is;
+  kind_is = ap (λ (n : ℕ). when eqb n 0 then scalar else vector) (length_same t.part) ∙ s.kind_is;
 }

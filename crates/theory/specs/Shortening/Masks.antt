@@ -7,7 +7,7 @@ use mathlib.Core.List.{List, [], ◌∷◌, ◌++◌}
 use Prim.Native.Nat.{ℕ, ◌+◌, ◌*◌, ◌/◌, ◌%◌, ◌^◌, ◌<◌, Ordering}
 use Rattle.std.proofs.Math.Nat as N
 use native.Mathlib.Omega.{arith}
-use Rattle.specification.specs.Results.{if◌then◌else◌}
+use Rattle.specification.specs.Results.{when◌then◌else◌}
 use Rattle.specification.specs.Lists.{is_not_more, put_into, sorted}
 use Rattle.theory.specs.Order.{Laws}
 use Rattle.theory.specs.Sorting as O
@@ -17,12 +17,12 @@ module _ {A : Type 0} where
   -- the elements whose bit in the mask stands, the first with bit 0
   unfoldable pub taken : (mask : ℕ) → List A → List A
   taken k [] = []
-  taken k (x ∷ l) = let rest = taken (k / 2) l in if eqb (k % 2) 1 then x ∷ rest else rest
+  taken k (x ∷ l) = let rest = taken (k / 2) l in when eqb (k % 2) 1 then x ∷ rest else rest
 
   -- the others
   unfoldable pub left_over : (mask : ℕ) → List A → List A
   left_over k [] = []
-  left_over k (x ∷ l) = let rest = left_over (k / 2) l in if eqb (k % 2) 1 then rest else x ∷ rest
+  left_over k (x ∷ l) = let rest = left_over (k / 2) l in when eqb (k % 2) 1 then rest else x ∷ rest
 
   -- a list taken apart into some elements and the others
   data Apart : List A → List A → List A → Type 0 where
@@ -73,12 +73,12 @@ module _ {A : Type 0} (cmp : A → A → Ordering) where
   apart-put x end = (x ∷ [], leaves end, same)
   apart-put x (takes {x = y} {l = l} {s = s} {c = c} p) = go (is_not_more (cmp x y)) (apart-put x p)
     where
-      go : (b : Bool) → Others (put_into cmp x l) s (x ∷ c) → Others (if b then x ∷ y ∷ l else y ∷ put_into cmp x l) (y ∷ s) (x ∷ c)
+      go : (b : Bool) → Others (put_into cmp x l) s (x ∷ c) → Others (when b then x ∷ y ∷ l else y ∷ put_into cmp x l) (y ∷ s) (x ∷ c)
       go true w = (x ∷ c, leaves (takes p), same)
       go false w = (w.0, takes w.1, w.2)
   apart-put x (leaves {x = y} {l = l} {s = s} {c = c} p) = go (is_not_more (cmp x y)) (apart-put x p)
     where
-      go : (b : Bool) → Others (put_into cmp x l) s (x ∷ c) → Others (if b then x ∷ y ∷ l else y ∷ put_into cmp x l) s (x ∷ y ∷ c)
+      go : (b : Bool) → Others (put_into cmp x l) s (x ∷ c) → Others (when b then x ∷ y ∷ l else y ∷ put_into cmp x l) s (x ∷ y ∷ c)
       go true w = (x ∷ y ∷ c, leaves (leaves p), same)
       go false w = (y ∷ w.0, leaves w.1, further (behind w.2) exchanged)
 

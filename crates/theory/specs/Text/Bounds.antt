@@ -7,7 +7,7 @@ use Prim.Native.Nat.{ℕ, zero, suc, ◌+◌, ◌*◌, ◌-◌, ◌<◌, ◌≤�
 use native.Mathlib.Omega.{arith}
 use Rattle.std.proofs.Math.ListN.{length, get_or, get_or-eq_default}
 use Rattle.std.proofs.Math.Dec.{leb→le, nleb→lt}
-use Rattle.specification.specs.Results.{Result, refused, given, if◌then◌else◌}
+use Rattle.specification.specs.Results.{Result, refused, given, when◌then◌else◌}
 use Rattle.specification.specs.Letters.{kind_of}
 use Rattle.specification.specs.Terms.{Form}
 use Rattle.specification.specs.Expressions.{Expr, Letter, Times, Dot, Wedge}
@@ -28,7 +28,7 @@ unfoldable pub ReadWithin : (n : ℕ) → Read → Type 0
 ReadWithin n (refused_at k c) = (3 ≤ k) × (k ≤ 5) × (c ≤ n)
 ReadWithin n (placed r) = TreeWithin n r.0 × (r.1 ≤ n)
 
-pick : (P : ℕ → Type 0) (b : Bool) (x y : ℕ) → P x → P y → P (if b then x else y)
+pick : (P : ℕ → Type 0) (b : Bool) (x y : ℕ) → P x → P y → P (when b then x else y)
 pick P true x y h k = h
 pick P false x y h k = k
 
@@ -38,14 +38,14 @@ unfolding TreeWithin blamed
 blamed-within n (leaf c e) h = h
 blamed-within n (turned c x) h = blamed-within n x h.1
 blamed-within n (two c op x y) h =
-    pick (λ (m : ℕ). m ≤ n) (is_refused (work (plain x))) (blamed x) (if is_refused (work (plain y)) then blamed y else c) (blamed-within n x h.1)
+    pick (λ (m : ℕ). m ≤ n) (is_refused (work (plain x))) (blamed x) (when is_refused (work (plain y)) then blamed y else c) (blamed-within n x h.1)
     (pick (λ (m : ℕ). m ≤ n) (is_refused (work (plain y))) (blamed y) c (blamed-within n y h.2) h.0)
 blamed-within n (three c x y z) h =
-    pick (λ (m : ℕ). m ≤ n) (is_refused (work (plain x))) (blamed x) (if is_refused (work (plain y)) then blamed y else if is_refused (work (plain z)) then blamed z else c) (blamed-within n x h.1)
-    (pick (λ (m : ℕ). m ≤ n) (is_refused (work (plain y))) (blamed y) (if is_refused (work (plain z)) then blamed z else c) (blamed-within n y h.2)
+    pick (λ (m : ℕ). m ≤ n) (is_refused (work (plain x))) (blamed x) (when is_refused (work (plain y)) then blamed y else when is_refused (work (plain z)) then blamed z else c) (blamed-within n x h.1)
+    (pick (λ (m : ℕ). m ≤ n) (is_refused (work (plain y))) (blamed y) (when is_refused (work (plain z)) then blamed z else c) (blamed-within n y h.2)
     (pick (λ (m : ℕ). m ≤ n) (is_refused (work (plain z))) (blamed z) c (blamed-within n z h.3) h.0))
 
-either : (n : ℕ) (b : Bool) (r q : Read) → (T b → ReadWithin n r) → ReadWithin n q → ReadWithin n (if b then r else q)
+either : (n : ℕ) (b : Bool) (r q : Read) → (T b → ReadWithin n r) → ReadWithin n q → ReadWithin n (when b then r else q)
 either n true r q h k = h tt
 either n false r q h k = k
 
@@ -98,7 +98,7 @@ module _ (s : List ℕ) where
   blanks-within zero at h = h
   blanks-within (suc most) at h = go (eqb (get_or s at 0) 32) (there-byte at 32 (omega arith)) (λ l. blanks-within most (at + 1) (omega arith))
     where
-      go : (b : Bool) → (T b → at < length s) → (at < length s → past_blanks most s (at + 1) ≤ length s) → (if b then past_blanks most s (at + 1) else at) ≤ length s
+      go : (b : Bool) → (T b → at < length s) → (at < length s → past_blanks most s (at + 1) ≤ length s) → (when b then past_blanks most s (at + 1) else at) ≤ length s
       go true f g = g (f tt)
       go false f g = h
 
@@ -116,7 +116,7 @@ module _ (s : List ℕ) where
   digits-within (suc most) v at h = go (is_digit (get_or s at 0)) (there-digit at) (λ l. digits-within most (v * 10 + (get_or s at 0 - 48)) (at + 1) (omega arith))
     where
       go : (b : Bool) → (T b → at < length s) → (at < length s → (read_digits most (v * 10 + (get_or s at 0 - 48)) s (at + 1)).1 ≤ length s)
-          → (if b then read_digits most (v * 10 + (get_or s at 0 - 48)) s (at + 1) else (v, at)).1 ≤ length s
+          → (when b then read_digits most (v * 10 + (get_or s at 0 - 48)) s (at + 1) else (v, at)).1 ≤ length s
       go true f g = g (f tt)
       go false f g = h
 
@@ -127,7 +127,7 @@ module _ (s : List ℕ) where
     unfolding read_name ReadWithin TreeWithin
     name-then at k h f = go (ltb (place_of names (get_or s at 0)) (length names))
       where
-        go : (b : Bool) → ReadWithin (length s) ((if b then placed (leaf at (Letter (place_of names (get_or s at 0)) (kind_of table (place_of names (get_or s at 0)))), next s at) else refused_at 5 at) >>= k)
+        go : (b : Bool) → ReadWithin (length s) ((when b then placed (leaf at (Letter (place_of names (get_or s at 0)) (kind_of table (place_of names (get_or s at 0)))), next s at) else refused_at 5 at) >>= k)
         go true = f h
         go false = (omega arith, omega arith, h)
 
@@ -135,7 +135,7 @@ module _ (s : List ℕ) where
     unfolding read_name ReadWithin TreeWithin
     name-within at h = go (ltb (place_of names (get_or s at 0)) (length names))
       where
-        go : (b : Bool) → ReadWithin (length s) (if b then placed (leaf at (Letter (place_of names (get_or s at 0)) (kind_of table (place_of names (get_or s at 0)))), next s at) else refused_at 5 at)
+        go : (b : Bool) → ReadWithin (length s) (when b then placed (leaf at (Letter (place_of names (get_or s at 0)) (kind_of table (place_of names (get_or s at 0)))), next s at) else refused_at 5 at)
         go true = (omega arith, next_within at h)
         go false = (omega arith, omega arith, omega arith)
 
@@ -262,7 +262,7 @@ module _ (s : List ℕ) where
     whole_within (refused_at n c) h = h
     whole_within (placed q) h = go (leb (length s) q.1)
       where
-        go : (b : Bool) → TextWithin (if b then placed q.0 else refused_at 4 q.1)
+        go : (b : Bool) → TextWithin (when b then placed q.0 else refused_at 4 q.1)
         go true = h.0
         go false = (omega arith, omega arith, h.1)
 
@@ -272,7 +272,7 @@ module _ (s : List ℕ) where
         go (leb (length s) 4096) (nleb→lt (length s) 4096) (whole_within (read_sum names table s (read_nested names table s 16) (skip s 0)) (sum-within (read_nested names table s 16) (nested-within 16) (skip s 0) (skip_within 0 (omega arith))))
       where
         go : (b : Bool) → (T (not b) → 4096 < length s) → TextWithin (read_sum names table s (read_nested names table s 16) (skip s 0) >>= whole_text s)
-            → TextWithin (if b then read_sum names table s (read_nested names table s 16) (skip s 0) >>= whole_text s else refused_at 3 4096)
+            → TextWithin (when b then read_sum names table s (read_nested names table s 16) (skip s 0) >>= whole_text s else refused_at 3 4096)
         go true f h = h
         go false f h = let l = f tt in (omega arith, omega arith, omega arith)
 

@@ -2,7 +2,7 @@
 use Rattle.std.specs.Prelude.{◌≡◌, refl, Bool, true, false, ℕ, ◌<◌, ◌≤◌, pos, nat_abs, T, leb}
 use Rattle.std.proofs.Common.{sym, ◌∙◌, ap, arith, leb→le}
 use Rattle.specification.specs.Results as S
-use Rattle.specification.specs.Results.{Result, refused, given, if◌then◌else◌}
+use Rattle.specification.specs.Results.{Result, refused, given, when◌then◌else◌}
 use Rattle.specification.specs.Terms.{Form, coef_within}
 use Rattle.specification.specs.Expressions.{Expr, Letter, Constant, Sum, Difference, Negation, Times, Dot, Wedge, Triple}
 use Rattle.specification.specs.Reduction.{negate_form, sum_forms, times_forms, dot_forms, wedge_forms, triple_forms, letter_form, constant_form, work_with, work}
@@ -38,7 +38,7 @@ pub worked_two : (c : ℕ) (op : Expr → Expr → Expr) (forms : Form → Form 
 unfolding worked blamed plain at_column is_refused
 worked_two c op forms law x y = rw (law (plain x) (plain y)) (go (work (plain x)) (work (plain y)))
   where
-    go : (a b : Result Form) → at_column (if is_refused a then blamed x else if is_refused b then blamed y else c) (S.◌>>=◌ a (λ u. S.◌>>=◌ b (λ v. forms u v)))
+    go : (a b : Result Form) → at_column (when is_refused a then blamed x else when is_refused b then blamed y else c) (S.◌>>=◌ a (λ u. S.◌>>=◌ b (λ v. forms u v)))
         ≡ (at_column (blamed x) a >>= (λ u. at_column (blamed y) b >>= (λ v. at_column c (forms u v))))
     go (refused n) b = refl
     go (given u) (refused n) = refl
@@ -89,7 +89,7 @@ unfolding worked blamed plain at_column is_refused work_with
 worked-three c x y z = go (work (plain x)) (work (plain y)) (work (plain z))
   where
     go : (a b d : Result Form)
-        → at_column (if is_refused a then blamed x else if is_refused b then blamed y else if is_refused d then blamed z else c)
+        → at_column (when is_refused a then blamed x else when is_refused b then blamed y else when is_refused d then blamed z else c)
         (S.◌>>=◌ a (λ u. S.◌>>=◌ b (λ v. S.◌>>=◌ d (λ w. triple_forms u v w))))
         ≡ (at_column (blamed x) a >>= (λ u. at_column (blamed y) b >>= (λ v. at_column (blamed z) d >>= (λ w. at_column c (triple_forms u v w)))))
     go (refused n) b d = refl

@@ -10,7 +10,7 @@ use Rattle.std.proofs.Math.ListN.{length, drop}
 use Rattle.std.proofs.Math.Seq.{append_snoc}
 use Rattle.std.proofs.Math.Dec.{T}
 use borrow.Author.Tests.{lt-leb, le-ltb, eq-eqb, eqb-true}
-use Rattle.specification.specs.Results.{if◌then◌else◌}
+use Rattle.specification.specs.Results.{when◌then◌else◌}
 use Rattle.specification.specs.Lists.{all}
 use Rattle.specification.specs.Letters.{scalar, vector, is_kind, good_table}
 use Rattle.specification.specs.Words.{bytes}
@@ -68,7 +68,7 @@ names-blank kind [] table = nothing
 names-blank kind (n ∷ names) [] = nothing
 names-blank kind (n ∷ names) (k ∷ table) = go (eqb k kind)
   where
-    go : (b : Bool) → Blank ((if b then [] else 32 ∷ kinds_word k) ++ 32 ∷ n ∷ write_names k names table)
+    go : (b : Bool) → Blank ((when b then [] else 32 ∷ kinds_word k) ++ 32 ∷ n ∷ write_names k names table)
     go true = blank (n ∷ write_names k names table)
     go false = blank (kinds_word k ++ 32 ∷ n ∷ write_names k names table)
 
@@ -79,7 +79,7 @@ words_are : (P : List ℕ → Type 0) (k : ℕ) (l : List ℕ) → P (bytes "sca
 unfolding kinds_word
 words_are P k l f g = go (eqb k scalar)
   where
-    go : (b : Bool) → P ((if b then bytes "scalars" else bytes "vectors") ++ l)
+    go : (b : Bool) → P ((when b then bytes "scalars" else bytes "vectors") ++ l)
     go true = f
     go false = g
 
@@ -106,7 +106,7 @@ write-line kind [] table h = tt
 write-line kind (n ∷ names) [] h = tt
 write-line kind (n ∷ names) (k ∷ table) h = go (eqb k kind) (refl, (h.0, write-line k names table h.1))
   where
-    go : (b : Bool) → OneLine (32 ∷ n ∷ write_names k names table) → OneLine ((if b then [] else 32 ∷ kinds_word k) ++ 32 ∷ n ∷ write_names k names table)
+    go : (b : Bool) → OneLine (32 ∷ n ∷ write_names k names table) → OneLine ((when b then [] else 32 ∷ kinds_word k) ++ 32 ∷ n ∷ write_names k names table)
     go true w = w
     go false w = (refl, word_line k (32 ∷ n ∷ write_names k names table) w)
 
@@ -174,11 +174,11 @@ module _ (line : List ℕ) where
     is : read_names most kind line (skip line a) (done, kinds) ≡ read_names left k line (skip line at) (done, kinds)
 
   -- it is reached
-  to_name : (most kind a k : ℕ) (l done kinds : List ℕ) → k ≤ 1 → length line ≤ a + most → drop a line ≡ (if eqb k kind then [] else 32 ∷ kinds_word k) ++ 32 ∷ l
+  to_name : (most kind a k : ℕ) (l done kinds : List ℕ) → k ≤ 1 → length line ≤ a + most → drop a line ≡ (when eqb k kind then [] else 32 ∷ kinds_word k) ++ 32 ∷ l
       → AtName most kind a k l done kinds
   to_name most kind a k l done kinds h m e = go (eqb k kind) refl e
     where
-      go : (b : Bool) → eqb k kind ≡ b → drop a line ≡ (if b then [] else 32 ∷ kinds_word k) ++ 32 ∷ l → AtName most kind a k l done kinds
+      go : (b : Bool) → eqb k kind ≡ b → drop a line ≡ (when b then [] else 32 ∷ kinds_word k) ++ 32 ∷ l → AtName most kind a k l done kinds
       go true q e = record {
         at = a;
         left = most;

@@ -5,7 +5,7 @@ use Rattle.std.proofs.Common.{◌∙◌, arith, length-append, eqb→eq}
 use mathlib.Core.List.{List, [], ◌∷◌, ◌++◌, map, append_assoc, append-nil}
 use Rattle.std.proofs.Math.IntN.{pos, neg_ℤ}
 use Rattle.algebra.specs.Integers.{NonZero, pos-nonzero}
-use Rattle.specification.specs.Results.{Result, given, ◌>>=◌, ◌>>◌, require, if◌then◌else◌}
+use Rattle.specification.specs.Results.{Result, given, ◌>>=◌, ◌>>◌, require, when◌then◌else◌}
 use Rattle.specification.specs.Lists.{all, joined, ascend}
 use Rattle.specification.specs.Letters.{vector}
 use Rattle.specification.specs.Terms.{Term, Form, term_kind, negated, gather, within, coef_within, term_before, term_in_shape}
@@ -63,7 +63,7 @@ term-works names table t h k =
     p = t.part
 
     go : (b : Bool) → (T b → T (eqb n 1) × T (not (is_nothing (factors_text names fs ++ print_part names p))))
-        → work (if b then unsized table fs p else chain table (Constant (pos n)) fs p) ≡ given (one_term (kind_of_part p) (sized n fs p))
+        → work (when b then unsized table fs p else chain table (Constant (pos n)) fs p) ≡ given (one_term (kind_of_part p) (sized n fs p))
     go true o =
         let e : n ≡ 1 = eqb→eq n 1 (o tt).0 in
         subst (λ (m : ℕ). work (unsized table fs p) ≡ given (one_term (kind_of_part p) (sized m fs p))) (sym e)

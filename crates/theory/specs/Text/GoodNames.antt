@@ -2,7 +2,7 @@
 use Rattle.std.specs.Prelude.{◌≡◌, refl, Bool, true, false, not, ◌&&◌, ◌||◌, List, [], ◌∷◌, ◌++◌, ℕ, zero, suc, ◌+◌, ◌≤◌, ◌<◌, length, get_or, T, ltb, leb, eqb}
 use Rattle.std.proofs.Common.{subst, arith, length-append, leb→le, nltb→le, le→leb}
 use Rattle.std.proofs.Math.Dec.{nleb→lt}
-use Rattle.specification.specs.Results.{if◌then◌else◌}
+use Rattle.specification.specs.Results.{when◌then◌else◌}
 use Rattle.specification.specs.Lists.{all}
 use Rattle.specification.specs.Letters.{scalar, vector, is_kind, good_table}
 use Rattle.specification.specs.Words.{bytes}
@@ -38,7 +38,7 @@ distinct_more (n ∷ l) b h k =
     let v = other (eqb n b) k in
     and_both (all (λ m. not (eqb n m)) (l ++ b ∷ [])) (distinct (l ++ b ∷ [])) (all_more (λ m. not (eqb n m)) l b w.0 v.0) (distinct_more l b w.1 v.1)
   where
-    other : (t : Bool) → suc (length l) ≤ (if t then 0 else suc (place_of l b)) → T (not t) × (length l ≤ place_of l b)
+    other : (t : Bool) → suc (length l) ≤ (when t then 0 else suc (place_of l b)) → T (not t) × (length l ≤ place_of l b)
     other true k = absurd (omega arith)
     other false k = (tt, omega arith)
 
@@ -82,10 +82,10 @@ names_good_lem (suc most) kind line at n m k h e =
 
     go : (end w v l o p f : Bool) → (T l → T (is_letter b)) → (T (not p) → length n.0 ≤ place_of n.0 b) → (T (not f) → length n.0 < 24)
         → ((kind at : ℕ) (x : Named) → T (is_kind kind) → GoodSoFar x → read_names most kind line at x ≡ placed m → GoodSoFar m)
-        → (if end then placed n else
-        if w then read_names most vector line (skip line (at + 7)) n else
-        if v then read_names most scalar line (skip line (at + 7)) n else
-        if l && o then (if p || f then refused_at 1 at else read_names most kind line (next line at) more) else refused_at 4 at) ≡ placed m
+        → (when end then placed n else
+        when w then read_names most vector line (skip line (at + 7)) n else
+        when v then read_names most scalar line (skip line (at + 7)) n else
+        when l && o then (when p || f then refused_at 1 at else read_names most kind line (next line at) more) else refused_at 4 at) ≡ placed m
         → GoodSoFar m
     go true w v l o p f hl hp hf again e = subst GoodSoFar (placed_same e) h
     go false true v l o p f hl hp hf again e = again vector (skip line (at + 7)) n vector-kind h e
@@ -112,7 +112,7 @@ header-so_far (suc most) p n r h e = go (is_declaration (line_of p)) (λ m. head
     line again (refused_at k c) q e = absurd (never-lined e)
     line again (placed m) q e = again m (declared_good (line_of p) n m h q) e
 
-    go : (t : Bool) → ((m : Named) → GoodSoFar m → read_declared most (to_line (next_line p)) m ≡ lined r → GoodSoFar r.0) → (if t then in_line p (declared (line_of p) n) >>> (λ m. read_declared most (to_line (next_line p)) m) else lined (n, p)) ≡ lined r → GoodSoFar r.0
+    go : (t : Bool) → ((m : Named) → GoodSoFar m → read_declared most (to_line (next_line p)) m ≡ lined r → GoodSoFar r.0) → (when t then in_line p (declared (line_of p) n) >>> (λ m. read_declared most (to_line (next_line p)) m) else lined (n, p)) ≡ lined r → GoodSoFar r.0
     go true again e = line again (declared (line_of p) n) refl e
     go false again e = subst (λ (x : Named × Place). GoodSoFar x.0) (lined_same e) h
 
@@ -144,7 +144,7 @@ pub header_good : (s : List ℕ) (names table : List ℕ) (p : Place) → read_h
 unfolding read_header some_names
 header_good s names table p e = first (read_declared (length s) (to_line (1, s)) ([], [])) refl e
   where
-    good : (r : Named × Place) → GoodSoFar r.0 → (b : Bool) → (T b → 1 ≤ length r.0.0) → (if b then lined r else refused_in 1 r.1.0 0 (line_of r.1)) ≡ lined ((names, table), p)
+    good : (r : Named × Place) → GoodSoFar r.0 → (b : Bool) → (T b → 1 ≤ length r.0.0) → (when b then lined r else refused_in 1 r.1.0 0 (line_of r.1)) ≡ lined ((names, table), p)
         → HeaderGood names table
     good r h true f e =
         let q : r ≡ ((names, table), p) = lined_same e in

@@ -4,7 +4,7 @@ use Rattle.std.proofs.Common.{ap, eqb→eq}
 use mathlib.Core.List.{List, [], ◌∷◌, ◌++◌, map}
 use native.Mathlib.Omega.{arith}
 use Rattle.std.proofs.Math.ListN.{length-append}
-use Rattle.specification.specs.Results.{if◌then◌else◌}
+use Rattle.specification.specs.Results.{when◌then◌else◌}
 use Rattle.specification.specs.Lists.{all, joined}
 use Rattle.specification.specs.Terms.{Term, Form, vector_letters_of, scalar_letters_of, term_in_shape}
 use Rattle.specification.specs.Printing.{digits, decimal, is_nothing, print_size, print_star, print_first_sign, print_sign, print_factor, print_part, print_term, print_terms, print_form, name_of}
@@ -17,7 +17,7 @@ unfolding digits
 digits_short zero n = omega arith
 digits_short (suc most) n = go (ltb n 10) (digits_short most (n / 10))
   where
-    go : (b : Bool) → length (digits most (n / 10)) ≤ most → length (if b then (48 + n) ∷ [] else digits most (n / 10) ++ (48 + n % 10) ∷ []) ≤ suc most
+    go : (b : Bool) → length (digits most (n / 10)) ≤ most → length (when b then (48 + n) ∷ [] else digits most (n / 10) ++ (48 + n % 10) ∷ []) ≤ suc most
     go true h = omega arith
     go false h = simp length-append (omega arith)
 
@@ -25,7 +25,7 @@ size_short : (k : ℤ) (others : List ℕ) → length (print_size k others) ≤ 
 unfolding print_size decimal
 size_short k others = go (eqb (nat_abs k) 1 && not (is_nothing others))
   where
-    go : (b : Bool) → length (if b then [] else digits 10 (nat_abs k)) ≤ 10
+    go : (b : Bool) → length (when b then [] else digits 10 (nat_abs k)) ≤ 10
     go true = omega arith
     go false = digits_short 10 (nat_abs k)
 
@@ -33,7 +33,7 @@ star_short : (before part : List ℕ) → length (print_star before part) ≤ 1
 unfolding print_star
 star_short before part = go (is_nothing before || is_nothing part)
   where
-    go : (b : Bool) → length {A = ℕ} (if b then [] else 42 ∷ []) ≤ 1
+    go : (b : Bool) → length {A = ℕ} (when b then [] else 42 ∷ []) ≤ 1
     go true = omega arith
     go false = omega arith
 
@@ -44,7 +44,7 @@ few_factors_lem [] h = omega arith
 few_factors_lem (f ∷ fs) h = go (eqb (length f) 1) (few_factors_lem fs h.1)
   where
     go : (b : Bool) → length fs ≤ vector_letters_of fs + scalar_letters_of fs
-        → suc (length fs) ≤ (if b then 0 else length f) + vector_letters_of fs + ((if b then 1 else 0) + scalar_letters_of fs)
+        → suc (length fs) ≤ (when b then 0 else length f) + vector_letters_of fs + ((when b then 1 else 0) + scalar_letters_of fs)
     go true ih = omega arith
     go false ih = omega (arith, h.0.0)
 

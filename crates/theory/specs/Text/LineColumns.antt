@@ -2,7 +2,7 @@
 use Rattle.std.specs.Prelude.{◌≡◌, refl, Bool, true, false, not, ◌&&◌, ◌||◌, List, [], ◌∷◌, ◌++◌, ℕ, zero, suc, ◌+◌, ◌≤◌, ◌<◌, length, get_or, T, ltb, leb}
 use Rattle.std.proofs.Common.{subst, arith}
 use Rattle.std.proofs.Math.Dec.{nleb→lt}
-use Rattle.specification.specs.Results.{if◌then◌else◌}
+use Rattle.specification.specs.Results.{when◌then◌else◌}
 use Rattle.specification.specs.Letters.{scalar, vector}
 use Rattle.specification.specs.Terms.{Form}
 use Rattle.specification.specs.Words.{bytes}
@@ -52,10 +52,10 @@ names-within (suc most) kind line at n =
     go : (end : Bool) → (T (not end) → at < length line) → (w v l t : Bool)
         → ColumnWithin line (read_names most vector line (skip line (at + 7)) n) → ColumnWithin line (read_names most scalar line (skip line (at + 7)) n)
         → ColumnWithin line (read_names most kind line (next line at) (n.0 ++ get_or line at 0 ∷ [], n.1 ++ kind ∷ []))
-        → ColumnWithin line (if end then placed n else
-        if w then read_names most vector line (skip line (at + 7)) n else
-        if v then read_names most scalar line (skip line (at + 7)) n else
-        if l then (if t then refused_at 1 at else read_names most kind line (next line at) (n.0 ++ get_or line at 0 ∷ [], n.1 ++ kind ∷ [])) else refused_at 4 at)
+        → ColumnWithin line (when end then placed n else
+        when w then read_names most vector line (skip line (at + 7)) n else
+        when v then read_names most scalar line (skip line (at + 7)) n else
+        when l then (when t then refused_at 1 at else read_names most kind line (next line at) (n.0 ++ get_or line at 0 ∷ [], n.1 ++ kind ∷ [])) else refused_at 4 at)
     go true f w v l t a b c = tt
     go false f true v l t a b c = a
     go false f false true l t a b c = b
@@ -69,7 +69,7 @@ declared-within zero p n = lined-within (n, p)
 declared-within (suc most) p n = go (is_declaration (line_of p)) (λ m. declared-within most (to_line (next_line p)) m)
   where
     go : (t : Bool) → ((m : Named) → Within (read_declared most (to_line (next_line p)) m))
-        → Within (if t then in_line p (declared (line_of p) n) >>> (λ m. read_declared most (to_line (next_line p)) m) else lined (n, p))
+        → Within (when t then in_line p (declared (line_of p) n) >>> (λ m. read_declared most (to_line (next_line p)) m) else lined (n, p))
     go true again =
         then-within (in_line p (declared (line_of p) n)) (λ m. read_declared most (to_line (next_line p)) m)
         (line-within p (declared (line_of p) n) (names-within (length (line_of p)) vector (line_of p) (skip (line_of p) 0) n)) again
@@ -79,7 +79,7 @@ some_within : (r : Named × Place) → Within (some_names r)
 unfolding some_names Within
 some_within r = go (leb 1 (length r.0.0))
   where
-    go : (b : Bool) → Within (if b then lined r else refused_in 1 r.1.0 0 (line_of r.1))
+    go : (b : Bool) → Within (when b then lined r else refused_in 1 r.1.0 0 (line_of r.1))
     go true = tt
     go false = omega arith
 
@@ -103,7 +103,7 @@ lines-within zero names table p before = lined-within before
 lines-within (suc most) names table p before = go (at_end p) (λ f. lines-within most names table (to_line (next_line p)) (before ++ print_form names f.terms ++ 10 ∷ []))
   where
     go : (t : Bool) → ((f : Form) → Within (reduce_lines most names table (to_line (next_line p)) (before ++ print_form names f.terms ++ 10 ∷ [])))
-        → Within (if t then lined before else
+        → Within (when t then lined before else
         (in_line p (text_form names table (line_of p)) >>> (λ f. reduce_lines most names table (to_line (next_line p)) (before ++ print_form names f.terms ++ 10 ∷ []))))
     go true again = lined-within before
     go false again =

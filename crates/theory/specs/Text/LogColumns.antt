@@ -7,7 +7,7 @@ use Prim.Native.Nat.{ℕ, zero, suc, ◌+◌, ◌-◌, ◌≤◌, ◌<◌}
 use native.Mathlib.Omega.{arith}
 use Rattle.std.proofs.Math.Dec.{leb, leb→le}
 use Rattle.std.proofs.Math.ListN.{length, get_or}
-use Rattle.specification.specs.Results.{if◌then◌else◌}
+use Rattle.specification.specs.Results.{when◌then◌else◌}
 use Rattle.specification.specs.Letters.{scalar, vector}
 use Rattle.specification.specs.Terms.{Term, Form}
 use Rattle.specification.specs.Rules.{Step, rule_letters}
@@ -25,7 +25,7 @@ module _ (line : List ℕ) where
   unfolding Reads of_kind
   of_kind-reads kind at f l = go (eqb (length f.terms) 0) (eqb f.kind kind)
     where
-      go : (a b : Bool) → Reads line Any (if a then placed (record { kind = kind; terms = [] }) else if b then placed f else refused_at 6 at)
+      go : (a b : Bool) → Reads line Any (when a then placed (record { kind = kind; terms = [] }) else when b then placed f else refused_at 6 at)
       go true b = tt
       go false true = tt
       go false false = l
@@ -43,8 +43,8 @@ module _ (line : List ℕ) where
       (behind-word line (bytes "scalar") (skip line 0) (omega arith))
     where
       go : (a b : Bool) → (a ≡ true → skip line (skip line 0 + 6) ≤ length line) → (b ≡ true → skip line (skip line 0 + 6) ≤ length line)
-          → Reads line Any (if a then kind_at names table line vector (skip line (skip line 0 + 6)) else
-          if b then kind_at names table line scalar (skip line (skip line 0 + 6)) else refused_at 4 (skip line 0))
+          → Reads line Any (when a then kind_at names table line vector (skip line (skip line 0 + 6)) else
+          when b then kind_at names table line scalar (skip line (skip line 0 + 6)) else refused_at 4 (skip line 0))
       go true b f g = kind-reads names table vector (skip line (skip line 0 + 6)) (f refl)
       go false true f g = kind-reads names table scalar (skip line (skip line 0 + 6)) (g refl)
       go false false f g = refused_reads line Any 4 (skip line 0) (skip_within line 0 (omega arith))
@@ -59,7 +59,7 @@ module _ (line : List ℕ) where
       go (is_letter (get_or line at 0)) (ltb (place_of names (get_or line at 0)) (length names)) (there-letter line at) (letters_read count names (next line at))
     where
       go : (a b : Bool) → (T a → at < length line) → (At line (next line at) → Reads line (Behind line) (read_letters_at count names line (next line at)))
-          → Reads line (Behind line) (if a then (if b then (read_letters_at count names line (next line at) >>= λ r. placed (place_of names (get_or line at 0) ∷ r.0, r.1)) else refused_at 5 at) else refused_at 4 at)
+          → Reads line (Behind line) (when a then (when b then (read_letters_at count names line (next line at) >>= λ r. placed (place_of names (get_or line at 0) ∷ r.0, r.1)) else refused_at 5 at) else refused_at 4 at)
       go true true f again =
           reads_then line (Behind line) (Behind line) (read_letters_at count names line (next line at)) (λ r. placed (place_of names (get_or line at 0) ∷ r.0, r.1))
           (again (next_within line at (f tt))) (λ r h. placed-reads line (Behind line) (place_of names (get_or line at 0) ∷ r.0, r.1) h)
@@ -119,7 +119,7 @@ module _ (line : List ℕ) where
     step-reads = go (leb 49 (get_or line at 0) && leb (get_or line at 0) 53) (λ t. leb→le 49 (get_or line at 0) (and_split (leb 49 (get_or line at 0)) (leb (get_or line at 0) 53) t).0)
       where
         go : (b : Bool) → (T b → 49 ≤ get_or line at 0)
-            → Reads line Any (if b then (mark 58 line (next line at) >>= λ letters. read_letters_at (rule_letters rule) names line letters >>= behind_names) else refused_at 4 at)
+            → Reads line Any (when b then (mark 58 line (next line at) >>= λ letters. read_letters_at (rule_letters rule) names line letters >>= behind_names) else refused_at 4 at)
         go true f =
             reads_then line (At line) Any (mark 58 line (next line at)) (λ letters. read_letters_at (rule_letters rule) names line letters >>= behind_names)
             (mark-reads line 58 (next line at) (omega arith) (next_within line at (there line at (omega (arith, f tt)))))
@@ -152,12 +152,12 @@ module _ (names table : List ℕ) (p : Place) (before : List Step) where
   abbrev more : ℕ → Step → Lined Steps
   more most s = read_step_lines most names table (to_line (next_line p)) (before ++ s ∷ [])
 
-  no_more : (b : Bool) → Within (if b then too_many else done)
+  no_more : (b : Bool) → Within (when b then too_many else done)
   no_more true = too_many-within
   no_more false = done-within
 
   one_more : (most : ℕ) (b : Bool) → (b ≡ true → ColumnWithin (line_of p) (read_step_line names table (line_of p))) → ((s : Step) → Within (more most s))
-      → Within (if b then (in_line p (read_step_line names table (line_of p)) >>> more most) else done)
+      → Within (when b then (in_line p (read_step_line names table (line_of p)) >>> more most) else done)
   one_more most true f again =
       then-within (in_line p (read_step_line names table (line_of p))) (more most) (line-within p (read_step_line names table (line_of p)) (f refl)) again
   one_more most false f again = done-within

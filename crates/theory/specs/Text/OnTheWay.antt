@@ -8,7 +8,7 @@ use Rattle.std.proofs.Math.Bool.{true, false}
 use Prim.Native.Nat.{ℕ, zero, suc}
 use Rattle.std.proofs.Math.ListN.{get_or}
 use Rattle.specification.specs.Results as S
-use Rattle.specification.specs.Results.{Result, if◌then◌else◌}
+use Rattle.specification.specs.Results.{Result, when◌then◌else◌}
 use Rattle.specification.specs.Letters.{kind_of}
 use Rattle.specification.specs.Terms.{Form}
 use Rattle.specification.specs.Expressions.{Expr, Letter, Constant, Sum, Difference, Times, Dot, Wedge}
@@ -41,19 +41,19 @@ turned_form v = v >>= (λ x. placed (negate_form x))
 
 -- an operator of a level stands here
 unfoldable pub goes_on : (level b : ℕ) → Bool
-goes_on level b = if eqb level 1 then eqb b 94 else if eqb level 2 then eqb b 46 else if eqb level 3 then is_factor b else is_sign b
+goes_on level b = when eqb level 1 then eqb b 94 else when eqb level 2 then eqb b 46 else when eqb level 3 then is_factor b else is_sign b
 
 -- how many of them there are at most, in a text of so many bytes
 unfoldable pub most_of : (level n : ℕ) → ℕ
-most_of level n = if leb level 2 then 1 else n
+most_of level n = when leb level 2 then 1 else n
 
 -- what an operator of a level does with two forms
 unfoldable pub operates : (level b : ℕ) (f g : Form) → Result Form
 operates level b f g =
-    if eqb level 1 then wedge_forms f g else
-    if eqb level 2 then dot_forms f g else
-    if eqb level 3 then times_forms f g else
-    if eqb b 45 then sum_forms f (negate_form g) else
+    when eqb level 1 then wedge_forms f g else
+    when eqb level 2 then dot_forms f g else
+    when eqb level 3 then times_forms f g else
+    when eqb b 45 then sum_forms f (negate_form g) else
     sum_forms f g
 
 -- a sign in front
@@ -62,23 +62,23 @@ isFront level b = eqb level 4 && is_sign b
 
 -- a minus in front turns the signs
 unfoldable pub fronted : (level b : ℕ) → Placed Form → Placed Form
-fronted level b v = if eqb level 4 && eqb b 45 then turned_form v else v
+fronted level b v = when eqb level 4 && eqb b 45 then turned_form v else v
 
 module _ (s : List ℕ) where
   -- where the right operand of an operator begins
   unfoldable pub operand_at : (level at : ℕ) → ℕ
-  operand_at level at = if eqb level 3 then factor_at s at else next s at
+  operand_at level at = when eqb level 3 then factor_at s at else next s at
 
   -- where the first operand begins
   unfoldable pub front_at : (level at : ℕ) → ℕ
-  front_at level at = if isFront level (get_or s at 0) then next s at else at
+  front_at level at = when isFront level (get_or s at 0) then next s at else at
 
   -- operators of a level, at most so many, each with an operand behind it
   unfoldable pub way_chain : (level most : ℕ) (operand : ℕ → Way) (v : Placed Form) (at : ℕ) → Way
   way_chain level zero operand v at = placed (v, at)
   way_chain level (suc most) operand v at =
       let more : Way = operand (operand_at level at) >>= (λ r. way_chain level most operand (join_at at (operates level (get_or s at 0)) v r.0) r.1) in
-      if goes_on level (get_or s at 0) then more else placed (v, at)
+      when goes_on level (get_or s at 0) then more else placed (v, at)
 
   -- a number
   unfoldable pub way_number : (at : ℕ) → Way
@@ -86,18 +86,18 @@ module _ (s : List ℕ) where
 
   -- a closing parenthesis
   unfoldable pub way_closed : Placed Form × ℕ → Way
-  way_closed r = if eqb (get_or s r.1 0) 41 then placed (r.0, next s r.1) else refused_at 4 r.1
+  way_closed r = when eqb (get_or s r.1 0) 41 then placed (r.0, next s r.1) else refused_at 4 r.1
 
   -- nothing may be left
   unfoldable pub way_whole : Placed Form × ℕ → Placed Form
-  way_whole r = if leb (length s) r.1 then r.0 else refused_at 4 r.1
+  way_whole r = when leb (length s) r.1 then r.0 else refused_at 4 r.1
 
 module _ (names table s : List ℕ) where
   -- a name
   unfoldable pub way_name : (at : ℕ) → Way
   way_name at =
       let n = place_of names (get_or s at 0) in
-      if ltb n (length names) then placed (placed (letter_form n (kind_of table n)), next s at) else refused_at 5 at
+      when ltb n (length names) then placed (placed (letter_form n (kind_of table n)), next s at) else refused_at 5 at
 
   -- a triple
   unfoldable pub way_triple : (at : ℕ) → Way
@@ -109,14 +109,14 @@ module _ (names table s : List ℕ) where
   way_bracket sum at =
       let triple : Way = way_triple at in
       let group : Way = sum (next s at) >>= way_closed s in
-      if is_triple s (next s at) then triple else group
+      when is_triple s (next s at) then triple else group
 
   -- a name or parentheses; a number where one may stand
   unfoldable pub way_atom : (bracket : ℕ → Way) (number : Bool) (at : ℕ) → Way
   way_atom bracket number at =
       let b = get_or s at 0 in
       let group : Way = bracket at in
-      if number && is_digit b then way_number s at else if is_letter b then way_name at else if eqb b 40 then group else refused_at 4 at
+      when number && is_digit b then way_number s at else when is_letter b then way_name at else when eqb b 40 then group else refused_at 4 at
 
   -- the reader at a level; behind an operator a number may stand from level 3 on
   unfoldable pub way_level : (bracket : ℕ → Way) (level : ℕ) (number : Bool) (at : ℕ) → Way
@@ -134,7 +134,7 @@ module _ (names table s : List ℕ) where
   unfoldable pub way_text : Placed Form
   way_text =
       let read : Placed Form = way_level (way_nested 16) 4 true (skip s 0) >>= way_whole s in
-      if leb (length s) 4096 then read else refused_at 3 4096
+      when leb (length s) 4096 then read else refused_at 3 4096
 
 -- ════ it gives what the tree gives
 
@@ -143,7 +143,7 @@ unfoldable pub on_the_way : Read → Way
 on_the_way (refused_at n c) = refused_at n c
 on_the_way (placed r) = placed (worked r.0, r.1)
 
-either_way_lem : (b : Bool) (r q : Read) (v w : Way) → on_the_way r ≡ v → on_the_way q ≡ w → on_the_way (if b then r else q) ≡ (if b then v else w)
+either_way_lem : (b : Bool) (r q : Read) (v w : Way) → on_the_way r ≡ v → on_the_way q ≡ w → on_the_way (when b then r else q) ≡ (when b then v else w)
 either_way_lem true r q v w h k = h
 either_way_lem false r q v w h k = k
 
@@ -181,8 +181,8 @@ signed-operates : (b : ℕ) → Operates (signed b) (operates 4 b)
 unfolding work_with signed operates
 signed-operates b e f = go (eqb b 45)
   where
-    go : (t : Bool) → work ((if t then Difference else Sum) e f)
-        ≡ S.◌>>=◌ (work e) (λ u. S.◌>>=◌ (work f) (λ v. if t then sum_forms u (negate_form v) else sum_forms u v))
+    go : (t : Bool) → work ((when t then Difference else Sum) e f)
+        ≡ S.◌>>=◌ (work e) (λ u. S.◌>>=◌ (work f) (λ v. when t then sum_forms u (negate_form v) else sum_forms u v))
     go true = refl
     go false = refl
 
@@ -209,7 +209,7 @@ module _ (s : List ℕ) where
       (λ r. placed (join_at q.1 (operates level b) (worked q.0) r.0, r.1)) (h (next s q.1))
       (λ r. ap (λ (v : Placed Form). placed (v, r.1)) (two_way q.1 op (operates level b) (law b) q.0 r.0)))
       refl
-      ∙ (λ i. if sym (marks b) i then way (sym (place q.1) i) >>= (λ r. placed (join_at q.1 (operates level b) (worked q.0) r.0, r.1))
+      ∙ (λ i. when sym (marks b) i then way (sym (place q.1) i) >>= (λ r. placed (join_at q.1 (operates level b) (worked q.0) r.0, r.1))
       else placed (worked q.0, q.1))
 
 module _ (names table s : List ℕ) where
@@ -341,8 +341,8 @@ module _ (names table s : List ℕ) where
             (λ r. terms-way (length s) r.0 r.1)
             ∙ bound (way_level names table s way 3 true a)
 
-        front : (minus plus : Bool) → on_the_way ((if minus then product (next s at) >>= turned_at at else if plus then product (next s at) else product at) >>= behind)
-            ≡ (way_level names table s way 3 true (if plus || minus then next s at else at) >>= (λ r. rest (if minus then turned_form r.0 else r.0, r.1)))
+        front : (minus plus : Bool) → on_the_way ((when minus then product (next s at) >>= turned_at at else when plus then product (next s at) else product at) >>= behind)
+            ≡ (way_level names table s way 3 true (when plus || minus then next s at else at) >>= (λ r. rest (when minus then turned_form r.0 else r.0, r.1)))
         front true true = turned-way (next s at)
         front true false = turned-way (next s at)
         front false true = plain (next s at)
@@ -360,7 +360,7 @@ module _ (names table s : List ℕ) where
   whole-way (refused_at n c) = refl
   whole-way (placed q) = go (leb (length s) q.1)
     where
-      go : (b : Bool) → ((if b then placed q.0 else refused_at 4 q.1) >>= worked) ≡ (if b then worked q.0 else refused_at 4 q.1)
+      go : (b : Bool) → ((when b then placed q.0 else refused_at 4 q.1) >>= worked) ≡ (when b then worked q.0 else refused_at 4 q.1)
       go true = refl
       go false = refl
 
@@ -378,6 +378,6 @@ module _ (names table s : List ℕ) where
       same : on_the_way read ≡ way
       same = sum-way (read_nested names table s 16) (way_nested names table s 16) (nested-way 16) (skip s 0)
 
-      go : (b : Bool) → (if b then way >>= way_whole s else refused_at 3 4096) ≡ ((if b then read >>= whole_text s else refused_at 3 4096) >>= worked)
+      go : (b : Bool) → (when b then way >>= way_whole s else refused_at 3 4096) ≡ ((when b then read >>= whole_text s else refused_at 3 4096) >>= worked)
       go true = ap (λ (w : Way). w >>= way_whole s) (sym same) ∙ sym (whole-way read)
       go false = refl

@@ -3,7 +3,7 @@ use Rattle.std.specs.Prelude.{◌≡◌, refl, Bool, true, false, not, ◌&&◌,
 use Rattle.std.proofs.Common.{ap, arith}
 use mathlib.Core.List.{List, [], ◌∷◌, ◌++◌, map}
 use Rattle.std.proofs.Math.Dec.{eqb-suc-zero}
-use Rattle.specification.specs.Results.{if◌then◌else◌}
+use Rattle.specification.specs.Results.{when◌then◌else◌}
 use Rattle.specification.specs.Lists.{all, joined}
 use Rattle.specification.specs.Terms.{Term}
 use Rattle.specification.specs.Printing.{decimal, is_nothing, print_size, print_star, print_first_sign, print_sign, name_of}
@@ -61,7 +61,7 @@ size_line : (k : ℤ) (others : List ℕ) → OneLine (print_size k others)
 unfolding print_size
 size_line k others = go (eqb (nat_abs k) 1 && not (is_nothing others))
   where
-    go : (b : Bool) → OneLine (if b then [] else decimal (nat_abs k))
+    go : (b : Bool) → OneLine (when b then [] else decimal (nat_abs k))
     go true = tt
     go false = decimal-line (nat_abs k)
 
@@ -70,7 +70,7 @@ star-line : (before part : List ℕ) → OneLine (print_star before part)
 unfolding print_star
 star-line before part = go (is_nothing before || is_nothing part)
   where
-    go : (b : Bool) → OneLine (if b then [] else 42 ∷ [])
+    go : (b : Bool) → OneLine (when b then [] else 42 ∷ [])
     go true = tt
     go false = (refl, tt)
 

@@ -3,7 +3,7 @@ use Rattle.std.specs.Prelude.{◌≡◌, refl, Bool, List, ℕ, ◌+◌, ◌≤�
 use Rattle.std.proofs.Common.{sym, arith, eqb→eq}
 use Rattle.std.proofs.Math.Bool.{true, false}
 use Rattle.std.proofs.Math.ListN.{get_or, length-drop}
-use Rattle.specification.specs.Results.{if◌then◌else◌}
+use Rattle.specification.specs.Results.{when◌then◌else◌}
 use Rattle.specification.specs.Text.{Placed, refused_at, placed, ◌>>=◌, skip, next, text_form}
 use Rattle.specification.specs.Lines.{Place, line_of, at_end, refused_in, lined, is_word_at}
 use Rattle.specification.specs.LogTexts.{from, mark, nothing_left}
@@ -65,7 +65,7 @@ module _ (line : List ℕ) where
   unfolding mark
   mark-reads b at h l = go (eqb (get_or line at 0) b) (eqb→eq (get_or line at 0) b)
     where
-      go : (t : Bool) → (T t → get_or line at 0 ≡ b) → Reads At (if t then placed (next line at) else refused_at 4 at)
+      go : (t : Bool) → (T t → get_or line at 0 ≡ b) → Reads At (when t then placed (next line at) else refused_at 4 at)
       go true f = placed-reads At (next line at) (next_within line at (there line at (omega (arith, f tt))))
       go false f = refused_reads At 4 at l
 
@@ -78,6 +78,6 @@ pub end-within : {A : Type 0} (p : Place) (l : A) → Within (nothing_left p l)
 unfolding nothing_left Within
 end-within p l = go (at_end p)
   where
-    go : (b : Bool) → Within (if b then lined l else refused_in 4 p.0 0 (line_of p))
+    go : (b : Bool) → Within (when b then lined l else refused_in 4 p.0 0 (line_of p))
     go true = tt
     go false = omega arith

@@ -8,7 +8,7 @@ use Prim.Native.Nat.{ℕ, zero, suc, ◌+◌, ◌<◌, ◌≤◌}
 use Rattle.std.proofs.Math.ListN.{length, get_or, drop}
 use Rattle.std.proofs.Math.Dec.{eqb, eqb_refl}
 use borrow.Author.Tests.{lt-ltb}
-use Rattle.specification.specs.Results.{if◌then◌else◌}
+use Rattle.specification.specs.Results.{when◌then◌else◌}
 use Rattle.specification.specs.Letters.{kind_of}
 use Rattle.specification.specs.Expressions.{Expr, Letter, Constant, Triple, Dot, Wedge}
 use Rattle.specification.specs.Printing.{decimal, name_of}

@@ -8,7 +8,7 @@ use Prim.Native.Nat.{ℕ, zero, suc, ◌+◌, ◌<◌, ◌≤◌}
 use Rattle.std.proofs.Math.IntN.{nat_abs}
 use Rattle.std.proofs.Math.ListN.{get_or, drop, length-append}
 use Rattle.std.proofs.Math.Dec.{eqb}
-use Rattle.specification.specs.Results.{if◌then◌else◌}
+use Rattle.specification.specs.Results.{when◌then◌else◌}
 use Rattle.specification.specs.Lists.{joined}
 use Rattle.specification.specs.Letters.{kind_of}
 use Rattle.specification.specs.Terms.{Term}
@@ -93,7 +93,7 @@ module _ (names : List ℕ) where
 -- the tree of a printed term, without its sign
 unfoldable pub term_expr : (names table : List ℕ) (t : Term) → Expr
 term_expr names table t =
-    if left_out names t.coef t.factors t.part then unsized table t.factors t.part else chain table (Constant (pos (nat_abs t.coef))) t.factors t.part
+    when left_out names t.coef t.factors t.part then unsized table t.factors t.part else chain table (Constant (pos (nat_abs t.coef))) t.factors t.part
 
 star-part : (names before p : List ℕ) → is_nothing before ≡ false
     → print_star before (print_part names p) ++ print_part names p ≡ part_text names p
@@ -349,10 +349,10 @@ module _ (names table s : List ℕ) (good : T (good_names names table)) (depth :
       part = print_part names t.part
 
       size : Bool → List ℕ
-      size b = if b then [] else decimal n
+      size b = when b then [] else decimal n
 
       go : (b : Bool) → (T b → T (not (is_nothing (factors_text names fs ++ part)))) → drop a s ≡ (size b ++ factors_text names fs ++ print_star (size b ++ factors_text names fs) part ++ part) ++ l
-          → Reads s (read_product names table s bracket a) (if b then unsized table fs t.part else chain table (Constant (pos n)) fs t.part) l
+          → Reads s (read_product names table s bracket a) (when b then unsized table fs t.part else chain table (Constant (pos n)) fs t.part) l
       go true o e = unsized_read a fs t.part l (o tt) h.factors h.part g e
       go false o e = sized_read a n fs t.part l small h.factors h.part g e
 
@@ -408,7 +408,7 @@ module _ (names table s : List ℕ) (good : T (good_names names table)) (depth :
       part = print_part names t.part
 
       size : Bool → List ℕ
-      size b = if b then [] else decimal n
+      size b = when b then [] else decimal n
 
       go : (b : Bool) → (T b → T (not (is_nothing (factors_text names fs ++ part)))) → Unsigned (size b ++ factors_text names fs ++ print_star (size b ++ factors_text names fs) part ++ part)
       go true o = unsized-begins fs t.part (o tt) h.factors h.part

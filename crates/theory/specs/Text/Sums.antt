@@ -7,7 +7,7 @@ use Prim.Native.Nat.{ℕ, zero, suc, ◌+◌, ◌<◌, ◌≤◌}
 use native.Mathlib.Omega.{arith}
 use Rattle.std.proofs.Math.ListN.{length, get_or, drop, length-append}
 use Rattle.std.proofs.Math.Dec.{eqb}
-use Rattle.specification.specs.Results.{if◌then◌else◌}
+use Rattle.specification.specs.Results.{when◌then◌else◌}
 use Rattle.specification.specs.Terms.{Term}
 use Rattle.specification.specs.Expressions.{Expr, Constant, Sum, Difference, Negation}
 use Rattle.specification.specs.Printing.{print_first_sign, print_sign, name_of, print_term, print_terms, print_form}

@@ -7,7 +7,7 @@ use Rattle.std.proofs.Common.{arith, ltb→lt}
 use Rattle.std.proofs.Math.Dec.{leb, eqb}
 use Rattle.std.proofs.Math.ListN.{length, get_or}
 use Rattle.std.proofs.Math.Seq.{length-take-le}
-use Rattle.specification.specs.Results.{if◌then◌else◌}
+use Rattle.specification.specs.Results.{when◌then◌else◌}
 use Rattle.specification.specs.Letters.{scalar, kind_of}
 use Rattle.specification.specs.Terms.{Form}
 use Rattle.specification.specs.Evaluation.{good_assignment, value, assignment}
@@ -25,10 +25,10 @@ use Rattle.theory.specs.Text.PartColumns.{Reads, reads_then, refused_reads, plac
 
 module _ (line : List ℕ) where
   -- the position of a component's digit
-  first_within : (at : ℕ) → At line at → At line (if eqb (get_or line at 0) 45 then next line at else at)
+  first_within : (at : ℕ) → At line at → At line (when eqb (get_or line at 0) 45 then next line at else at)
   first_within at l = go (eqb (get_or line at 0) 45) (there-byte line at 45 (omega arith))
     where
-      go : (b : Bool) → (T b → at < length line) → At line (if b then next line at else at)
+      go : (b : Bool) → (T b → at < length line) → At line (when b then next line at else at)
       go true f = next_within line at (f tt)
       go false f = l
 
@@ -36,12 +36,12 @@ module _ (line : List ℕ) where
   unfolding read_component
   component-reads at l =
       let minus = eqb (get_or line at 0) 45 in
-      let first = if minus then next line at else at in
+      let first = when minus then next line at else at in
       let size = get_or line first 0 - 48 in
-      go first (if minus && leb 1 size then 256 - size else size) (first_within at l) (is_digit (get_or line first 0)) (ltb 6 size || is_digit (get_or line (first + 1) 0)) (there-digit line first)
+      go first (when minus && leb 1 size then 256 - size else size) (first_within at l) (is_digit (get_or line first 0)) (ltb 6 size || is_digit (get_or line (first + 1) 0)) (there-digit line first)
     where
       go : (first byte : ℕ) → At line first → (a b : Bool) → (T a → first < length line)
-          → Reads line (Behind line) (if a then (if b then refused_at 12 first else placed (byte, next line first)) else refused_at 4 first)
+          → Reads line (Behind line) (when a then (when b then refused_at 12 first else placed (byte, next line first)) else refused_at 4 first)
       go first byte k true true f = refused_reads line (Behind line) 12 first k
       go first byte k true false f = placed-reads line (Behind line) (byte, next line first) (next_within line first (f tt))
       go first byte k false b f = refused_reads line (Behind line) 4 first k
@@ -75,7 +75,7 @@ module _ (line : List ℕ) where
           mark-then (Behind line) 41 z.1 _ (omega arith) f λ end g.
           placed-reads line (Behind line) (x.0 ∷ y.0 ∷ z.0 ∷ [], end) g
 
-      go : (b : Bool) → Reads line (Behind line) (if b then (read_component line at >>= λ x. placed (x.0 ∷ 0 ∷ 0 ∷ [], x.1))
+      go : (b : Bool) → Reads line (Behind line) (when b then (read_component line at >>= λ x. placed (x.0 ∷ 0 ∷ 0 ∷ [], x.1))
           else (mark 40 line at >>= λ one. read_component line one >>= λ x. mark 44 line x.1 >>= λ two. read_component line two >>= λ y.
           mark 44 line y.1 >>= λ third. read_component line third >>= λ z. mark 41 line z.1 >>= λ end. placed (x.0 ∷ y.0 ∷ z.0 ∷ [], end)))
       go true = number
@@ -85,7 +85,7 @@ module _ (line : List ℕ) where
     -- what comes behind a value: the next name, or the end
     abbrev behind_value : (most : ℕ) (n : ℕ) (so : List ℕ) → List ℕ × ℕ → Placed (List ℕ)
     behind_value most n so r =
-        if leb (length line) r.1 then (if good_assignment table (put_three n r.0 so) then placed (put_three n r.0 so) else refused_at 12 r.1)
+        when leb (length line) r.1 then (when good_assignment table (put_three n r.0 so) then placed (put_three n r.0 so) else refused_at 12 r.1)
         else (mark 44 line r.1 >>= λ name. read_assigned most names table line name (put_three n r.0 so))
 
     assigned-reads : (most at : ℕ) (so : List ℕ) → At line at → Reads line Any (read_assigned most names table line at so)
@@ -102,7 +102,7 @@ module _ (line : List ℕ) where
         value_behind_lem again r h = turn (leb (length line) r.1) (good_assignment table (put_three n r.0 so))
           where
             turn : (a b : Bool)
-                → Reads line Any (if a then (if b then placed (put_three n r.0 so) else refused_at 12 r.1)
+                → Reads line Any (when a then (when b then placed (put_three n r.0 so) else refused_at 12 r.1)
                 else (mark 44 line r.1 >>= λ name. read_assigned most names table line name (put_three n r.0 so)))
             turn true true = placed-reads line Any (put_three n r.0 so) tt
             turn true false = refused_reads line Any 12 r.1 h
@@ -110,7 +110,7 @@ module _ (line : List ℕ) where
 
         go : (a b c : Bool) → (T a → at < length line)
             → ((name : ℕ) (all : List ℕ) → At line name → Reads line Any (read_assigned most names table line name all))
-            → Reads line Any (if a then (if b then (if c then (mark 61 line (next line at) >>= λ value. read_value (kind_of table n) line value >>= behind_value most n so)
+            → Reads line Any (when a then (when b then (when c then (mark 61 line (next line at) >>= λ value. read_value (kind_of table n) line value >>= behind_value most n so)
             else refused_at 12 at) else refused_at 5 at) else refused_at 4 at)
         go true true true f again =
             mark-then Any 61 (next line at) _ (omega arith) (next_within line at (f tt)) λ value h.
@@ -130,8 +130,8 @@ module _ (names table line : List ℕ) where
   unfolding paired
   pair_reads at f g l = go (eqb (length f.terms) 0) (eqb (length g.terms) 0) (eqb f.kind g.kind)
     where
-      go : (a b c : Bool) → Reads line {A = Form × Form} Any (if a then placed (record { kind = g.kind; terms = [] }, g) else
-          if b then placed (f, record { kind = f.kind; terms = [] }) else if c then placed (f, g) else refused_at 6 at)
+      go : (a b c : Bool) → Reads line {A = Form × Form} Any (when a then placed (record { kind = g.kind; terms = [] }, g) else
+          when b then placed (f, record { kind = f.kind; terms = [] }) else when c then placed (f, g) else refused_at 6 at)
       go true b c = placed-reads line Any _ tt
       go false true c = placed-reads line Any _ tt
       go false false true = placed-reads line Any _ tt
@@ -154,7 +154,7 @@ module _ (names table line : List ℕ) where
       at = place_of line 61
 
       go : (b : Bool) → (T b → at < length line)
-          → Reads line Any (if b then (text_form names table (take at line) >>= λ f. from (at + 1) (text_form names table (drop (at + 1) line)) >>= λ g. paired at f g)
+          → Reads line Any (when b then (text_form names table (take at line) >>= λ f. from (at + 1) (text_form names table (drop (at + 1) line)) >>= λ g. paired at f g)
           else refused_at 4 (length line))
       go true f =
           let l = f tt in

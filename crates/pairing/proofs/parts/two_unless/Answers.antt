@@ -3,7 +3,7 @@ use mathlib.Core.Path.{refl, sym, ap}
 use mathlib.Core.Bool.{Bool}
 use mathlib.Core.List.{[], ◌∷◌}
 use native.Mathlib.Omega.{arith}
-use Rattle.specification.specs.Results.{if◌then◌else◌}
+use Rattle.specification.specs.Results.{when◌then◌else◌}
 use Rattle.terms.specs.Abstraction.{term_of}
 use Rattle.pairing.specs.Parts.{list_of}
 use Rattle.pairing.proofs.Few.{few_as}
@@ -13,12 +13,12 @@ pub returns-then-gone : goal.returns-then-gone
 unfolding list_of
 returns-then-gone c =
     let a = c in
-    few_as _ (term_of a.args.t ∷ []) _ (ap (λ (b : Bool). term_of a.args.t ∷ (if b then [] else term_of a.args.u ∷ [])) (sym c.if-gone.true))
+    few_as _ (term_of a.args.t ∷ []) _ (ap (λ (b : Bool). term_of a.args.t ∷ (when b then [] else term_of a.args.u ∷ [])) (sym c.if-gone.true))
     (record { is = refl; few = omega arith; first = a.requires.0; second = a.requires.1 })
 
 pub returns-else-gone : goal.returns-else-gone
 unfolding list_of
 returns-else-gone c =
     let a = c in
-    few_as _ (term_of a.args.t ∷ term_of a.args.u ∷ []) _ (ap (λ (b : Bool). term_of a.args.t ∷ (if b then [] else term_of a.args.u ∷ [])) (sym c.if-gone.false))
+    few_as _ (term_of a.args.t ∷ term_of a.args.u ∷ []) _ (ap (λ (b : Bool). term_of a.args.t ∷ (when b then [] else term_of a.args.u ∷ [])) (sym c.if-gone.false))
     (record { is = refl; few = omega arith; first = a.requires.0; second = a.requires.1 })

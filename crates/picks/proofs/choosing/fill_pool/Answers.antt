@@ -5,7 +5,7 @@ use mathlib.Core.List.{[]}
 use lib.ListN.{length}
 use Rattle.terms.specs.Abstraction.{part_of}
 use mathlib.Core.Logic.{⊎_elim}
-use Rattle.specification.specs.Results.{if◌then◌else◌}
+use Rattle.specification.specs.Results.{when◌then◌else◌}
 use lib.Dec.{eqb}
 use Rattle.specification.specs.Rules.{rule_kind}
 use Rattle.specification.specs.Letters.{vector}
@@ -18,7 +18,7 @@ use Rattle.picks.proofs.choosing.fill_pool.Goals as goal
 seven : (c : Start) → length c.args.t.factors ≡ 7
 seven c = search rules
 
-part-pooled : (c : Joined-rule_kind-eq1) → Pooled (if eqb (rule_kind c.args.rule) vector then part_of c.args.t.part else [])
+part-pooled : (c : Joined-rule_kind-eq1) → Pooled (when eqb (rule_kind c.args.rule) vector then part_of c.args.t.part else [])
     c.if-rule_kind-eq1.pool c.if-rule_kind-eq1.c
 part-pooled c = let w = c in
     let e = c.rule_kind.ensures in
