@@ -1,4 +1,3 @@
-use Rattle.std.proofs.Common.{rules}
 use mathlib.Core.Path.{sym, refl, subst, ◌∙◌}
 use Rattle.audit.specs.Answers.{verdict_of}
 use Rattle.audit.proofs.Audits.{audit-table, buffer_short, work_short, audit_refused, log-inside, audit-agrees}

@@ -1,4 +1,3 @@
-use Rattle.std.proofs.Common.{rules}
 use Rattle.audit.proofs.Audits.{holds-said, other-said, differs-not, refused_not}
 use Rattle.audit.proofs.says_holds.Goals as goal
 

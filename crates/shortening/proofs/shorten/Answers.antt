@@ -1,7 +1,7 @@
 use Rattle.std.proofs.Common.{rules}
-use mathlib.Core.Path.{◌≡◌, sym, ◌∙◌}
+use mathlib.Core.Path.{◌≡◌}
 use Prim.Native.Nat.{ℕ}
-use lib.ListN.{length, length-map}
+use lib.ListN.{length}
 use Rattle.forms.proofs.Takers.{bytes_all}
 use Rattle.specification.specs.Shortening.{log_length}
 use Rattle.shortening.specs.Answers.{shortening_of}
@@ -11,10 +11,10 @@ use Rattle.shortening.proofs.shorten.Goals.{After-derive-d, After-read_form-a}
 use Rattle.shortening.proofs.shorten.Goals as goal
 
 form-places : (c : After-read_form-a) → length c.read_form-a.result.form.terms ≡ 48
-form-places c = sym (length-map c.read_form-a.result.form.terms _) ∙ c.read_form-a.type_inv.1.1.1.0.1.1.1.1.0.1.0.1
+form-places c = search rules
 
 last_places : (c : After-derive-d) → length c.derive-d.result.last.terms ≡ 48
-last_places c = sym (length-map c.derive-d.result.last.terms _) ∙ c.derive-d.type_inv.1.1.1.0.1.1.1.1.0.1.0.1
+last_places c = search rules
 
 pub returns-then-bad-ne0 : goal.returns-then-bad-ne0
 unfolding shortening_of log_length

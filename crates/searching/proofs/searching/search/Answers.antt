@@ -1,10 +1,9 @@
 -- `searching::searching::search` meets its contract. The loop: no place passed so far, from the first on, is a step to fewer terms. Assumes nothing.
-use Rattle.std.proofs.Common.{rules}
 use mathlib.Core.Path.{◌≡◌, refl, ap, subst, ◌∙◌}
 use mathlib.Core.List.{[]}
 use Prim.Native.Nat.{◌*◌, ◌+◌, ◌-◌, ◌/◌, ◌%◌, ◌<◌}
 use native.Mathlib.Omega.{arith}
-use lib.ListN.{length, get_or}
+use lib.ListN.{get_or}
 use Rattle.specification.specs.Terms as S
 use Rattle.integers.proofs.Machine.{back_is}
 use Rattle.terms.specs.Abstraction.{term_of}
@@ -15,7 +14,7 @@ use Rattle.theory.specs.Gathering.Coefficients.{term_at}
 use Rattle.candidates.specs.Trying.{NextPlace}
 use Rattle.searching.specs.Searching.{SearchedBy}
 use Rattle.searching.proofs.Searches.{RowPassed, Useless, row-none, row_more, row_term_lem, row-valid, row-searched, refused_useless, long_useless, shorter, not_found}
-use Rattle.searching.proofs.searching.search.Goals.{After-next_candidate-c, After-term_of-t, In-loop-at, Start}
+use Rattle.searching.proofs.searching.search.Goals.{After-next_candidate-c, In-loop-at, Start}
 use Rattle.searching.proofs.searching.search.Goals as goal
 
 -- the form that the rows stand for
@@ -26,26 +25,21 @@ form c = form_by c.args.kind c.args.n c.args.rows.now c.args.coefs.now
 inside : (c : In-loop-at) → c.loop-at.at / 40960 < c.args.n
 inside c = omega (arith, c.loop-at-test.true)
 
-own : (c : After-term_of-t) → term_of c.term_of-t.result ≡ term_at (form c.before.before.before.before.before.before).terms
-    (c.loop-at.at / 40960)
-own c =
-    c.term_of-t.ensures.0 ∙ ap (term_by (get_or c.args.rows.now
-    (c.loop-at.at / 40960) [])) (back_is (record { sfits = c.term_of-arg-1.given }))
-    ∙ row_term_lem _ _ _ _ c.requires.0 (c.loop-at.at / 40960)
-    (inside c.before.before.before)
-
 -- the places up to the next candidate, where it does not shorten
 onward : (c : After-next_candidate-c)
     → Useless c.args.table.now
-    (form c.before.before.before.before.before.before.before) c.next_candidate-c.result.found c.next_candidate-c.result.step
+    (form c.before.before.before.before.before.before.before.before) c.next_candidate-c.result.found c.next_candidate-c.result.step
     → RowPassed c.args.table.now
-    (form c.before.before.before.before.before.before.before) c.args.first
+    (form c.before.before.before.before.before.before.before.before) c.args.first
     (c.loop-at.at / 40960 * 40960 + c.next_candidate-c.result.next)
-onward c u = let w = c.before.before.before.before.before.before.before in
+onward c u = let w = c.before.before.before.before.before.before.before.before in
     let v = c.loop-at in
+    let own : term_of c.term_of-t.result ≡ term_at (form w).terms (v.at / 40960) = c.term_of-t.ensures.0
+    ∙ ap (term_by (get_or w.args.rows.now (v.at / 40960) [])) (back_is (record { sfits = c.term_of-arg-1.given }))
+    ∙ row_term_lem _ _ _ _ w.requires.0 (v.at / 40960) (omega (arith, c.loop-at-test.true)) in
     row_more w.args.marks.now w.args.table.now (form w) w.args.first v.at (v.at / 40960) c.next_candidate-c.result
     w.requires.0.in_shape w.requires.3 refl v.invariant.0
-    (subst (λ (t : S.Term). NextPlace w.args.marks.now w.args.kind t (v.at % 40960) c.next_candidate-c.result) (own c.before)
+    (subst (λ (t : S.Term). NextPlace w.args.marks.now w.args.kind t (v.at % 40960) c.next_candidate-c.result) own
     c.next_candidate-c.ensures) u
 
 -- and they are more

@@ -1,5 +1,4 @@
 -- `shortening::rounds::derive` meets its contract: the form is held in rows, the rounds are taken there, and what they reach is given back. Assumes nothing.
-use Rattle.std.proofs.Common.{rules}
 use native.Mathlib.Omega.{arith}
 use Rattle.rows.proofs.RowForms.{held-run}
 use Rattle.shortening.proofs.Derivations.{rounds-derived}

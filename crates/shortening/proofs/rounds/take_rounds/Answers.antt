@@ -1,49 +1,35 @@
 -- `shortening::rounds::take_rounds` meets its contract. The loop: the n steps so far lead from the first form to the one in the rows, each admissible and each
 -- with fewer terms; the marks cover it, and its search has been made. Assumes nothing.
-use Rattle.std.proofs.Common.{rules}
-use mathlib.Core.Path.{◌≡◌, refl, sym, subst}
+use mathlib.Core.Path.{refl, sym, subst}
 use mathlib.Core.List.{List}
-use Prim.Native.Nat.{◌+◌, ◌≤◌, ◌<◌}
+use Prim.Native.Nat.{ℕ, ◌+◌, ◌≤◌, ◌<◌}
 use native.Mathlib.Omega.{arith}
 use borrow.Author.Tests.{not-false}
+use lib.IntN.{ℤ}
 use lib.ListN.{length, set}
 use Rattle.specification.specs.Terms as S
 use Rattle.rows.specs.Rows.{run_of, form_by, FormRun}
 use Rattle.rows.proofs.Runs.{run_length}
 use Rattle.rows.proofs.RowForms.{run-copied, form-copied}
 use Rattle.marking.specs.Marks.{Covering}
-use Rattle.searching.specs.Searching.{Shorter, SearchedBy}
+use Rattle.searching.specs.Searching.{Shorter}
 use Rattle.shortening.specs.Derived.{Leads}
 use Rattle.shortening.proofs.Derivations.{rounds_none, found_anywhere, shorter, round_room, round-covered, round_more, rounds_end}
-use Rattle.shortening.proofs.rounds.take_rounds.Goals.{After-copy, After-mark_reached, In-loop-r, Start}
+use Rattle.shortening.proofs.rounds.take_rounds.Goals.{After-copy, After-mark_reached, In-loop-r}
 use Rattle.shortening.proofs.rounds.take_rounds.Goals as goal
 
 -- the first form
-abbrev form : (c : Start) → S.Form
-form c = form_by c.args.kind c.args.held c.args.rows.now c.args.coefs.now
-
-few : (c : Start) → length (form c).terms ≤ 48
-few c = omega (arith, run_length c.args.rows.now c.args.coefs.now c.args.held c.requires.0.run.room c.requires.0.run.beside, c.requires.0.few)
-
--- the form in the rows
-abbrev current : (c : In-loop-r) → S.Form
-current c = form_by c.args.kind
-    c.loop-r.count c.loop-r.rows c.loop-r.coefs
+few : (kind held : ℕ) (rows : List (List ℕ)) (coefs : List ℤ) → FormRun kind held rows coefs → length (form_by kind held rows coefs).terms ≤ 48
+few kind held rows coefs w = omega (arith, run_length rows coefs held w.run.room w.run.beside, w.few)
 
 -- the step that was found
-found : (c : In-loop-r) → Shorter c.args.table.now (current c) c.loop-r.r c.loop-r.to c.loop-r.tos
+found : (c : In-loop-r) → Shorter c.args.table.now (form_by c.args.kind c.loop-r.count c.loop-r.rows c.loop-r.coefs) c.loop-r.r c.loop-r.to c.loop-r.tos
 found c = let v = c.loop-r in
-    shorter c.args.table.now
-    (form c.before.before.before.before.before.before.before.before.before.before.before.before.before.before.before)
-    (few c.before.before.before.before.before.before.before.before.before.before.before.before.before.before.before) v.steps v.n
-    (current c) v.invariant.0 v.r v.to v.tos _ v.invariant.4 c.loop-r-test.true
+    shorter c.args.table.now _ (few _ _ _ _ c.requires.0) v.steps v.n _ v.invariant.0 v.r v.to v.tos _ v.invariant.4 c.loop-r-test.true
 
 room : (c : In-loop-r) → c.loop-r.n < 48
 room c = let v = c.loop-r in
-    round_room c.args.table.now
-    (form c.before.before.before.before.before.before.before.before.before.before.before.before.before.before.before)
-    (few c.before.before.before.before.before.before.before.before.before.before.before.before.before.before.before) v.steps v.n
-    (current c) v.invariant.0 v.r v.to v.tos _ v.invariant.4 c.loop-r-test.true
+    round_room c.args.table.now _ (few _ _ _ _ c.requires.0) v.steps v.n _ v.invariant.0 v.r v.to v.tos _ v.invariant.4 c.loop-r-test.true
 
 -- it saves a term
 fewer : (c : In-loop-r) → c.loop-r.r.count < c.loop-r.count
@@ -53,41 +39,31 @@ fewer c = let v = c.loop-r in
 -- the form that it reaches, copied
 reached : (c : After-copy) → FormRun c.args.kind c.loop-r.r.count c.copy.new.rows c.copy.new.coefs
 reached c = let v = c.loop-r in
-    form-copied _ _ _ _ _ c.copy.ensures _ (omega (arith, fewer c.before.before.before.before.before.before, v.invariant.1.run.room))
-    (omega (arith, fewer c.before.before.before.before.before.before, v.invariant.1.run.beside))
-    (found c.before.before.before.before.before.before).form
-
-same : (c : After-copy) → run_of c.loop-r.r.count c.copy.new.rows
-    c.copy.new.coefs ≡ run_of c.loop-r.r.count
-    c.loop-r.to c.loop-r.tos
-same c = run-copied _ _ _ _ _ c.copy.ensures
+    let g = shorter c.args.table.now _ (few _ _ _ _ c.requires.0) v.steps v.n _ v.invariant.0 v.r v.to v.tos _ v.invariant.4 c.loop-r-test.true in
+    let less : v.r.count < v.count =
+    omega (arith, g.fewer, run_length v.rows v.coefs v.count v.invariant.1.run.room v.invariant.1.run.beside) in
+    form-copied _ _ _ _ _ c.copy.ensures _ (omega (arith, less, v.invariant.1.run.room)) (omega (arith, less, v.invariant.1.run.beside)) g.form
 
 leads : (c : After-copy)
-    → Leads c.args.table.now (form c.before.before.before.before.before.before.before.before.before.before.before.before.before.before.before.before.before.before.before.before.before) (set c.loop-r.steps
-    c.loop-r.n c.loop-r.r.step)
+    → Leads c.args.table.now (form_by c.args.kind c.args.held c.args.rows.now c.args.coefs.now) (set c.loop-r.steps c.loop-r.n c.loop-r.r.step)
     (c.loop-r.n + 1)
     (form_by c.args.kind c.loop-r.r.count c.copy.new.rows
     c.copy.new.coefs)
 leads c = let v = c.loop-r in
-    subst (λ (l : List S.Term). Leads c.args.table.now (form c.before.before.before.before.before.before.before.before.before.before.before.before.before.before.before.before.before.before.before.before.before) (set v.steps v.n v.r.step) (v.n + 1)
+    subst (λ (l : List S.Term). Leads c.args.table.now (form_by c.args.kind c.args.held c.args.rows.now c.args.coefs.now) (set v.steps v.n v.r.step) (v.n + 1)
     (record {
       kind = c.args.kind;
       terms = l;
-    })) (sym (same c))
-    (round_more c.args.table.now (form c.before.before.before.before.before.before.before.before.before.before.before.before.before.before.before.before.before.before.before.before.before) (few c.before.before.before.before.before.before.before.before.before.before.before.before.before.before.before.before.before.before.before.before.before) v.steps v.n
-    (current c.before.before.before.before.before.before) v.invariant.0 v.r v.to v.tos _ v.invariant.4
-    c.loop-r-test.true)
+    })) (sym (run-copied _ _ _ _ _ c.copy.ensures))
+    (round_more c.args.table.now _ (few _ _ _ _ c.requires.0) v.steps v.n _ v.invariant.0 v.r v.to v.tos _ v.invariant.4 c.loop-r-test.true)
 
 -- the marks carried over cover it
 covered : (c : After-mark_reached)
     → Covering c.mark_reached.new.marks (run_of c.loop-r.r.count
     c.copy.new.rows c.copy.new.coefs)
 covered c = let v = c.loop-r in
-    round-covered c.args.table.now
-    (form c.before.before.before.before.before.before.before.before.before.before.before.before.before.before.before.before.before.before.before.before.before.before.before.before.before) (few c.before.before.before.before.before.before.before.before.before.before.before.before.before.before.before.before.before.before.before.before.before.before.before.before.before) v.steps v.n
-    (current c.before.before.before.before.before.before.before.before.before.before) v.invariant.0 v.r v.to v.tos _ v.invariant.4
-    c.loop-r-test.true
-    v.invariant.1.in_shape v.marks _ v.invariant.3 c.mark_reached.ensures.covering _ _ (same c.before.before.before.before)
+    round-covered c.args.table.now _ (few _ _ _ _ c.requires.0) v.steps v.n _ v.invariant.0 v.r v.to v.tos _ v.invariant.4 c.loop-r-test.true
+    v.invariant.1.in_shape v.marks _ v.invariant.3 c.mark_reached.ensures.covering _ _ (run-copied _ _ _ _ _ c.copy.ensures)
 
 pub no_step-none-requires : goal.no_step-none-requires
 no_step-none-requires c = tt
@@ -255,6 +231,6 @@ returns c = let v = c.loop-r in
     record {
       leads = v.invariant.0;
       form = v.invariant.1;
-      none = rounds_end w.args.table.now (form (goal.at.returns c).Start) (few (goal.at.returns c).Start) v.steps v.n (form_by w.args.kind v.count v.rows v.coefs) v.invariant.0
+      none = rounds_end w.args.table.now _ (few _ _ _ _ w.requires.0) v.steps v.n (form_by w.args.kind v.count v.rows v.coefs) v.invariant.0
           v.r v.to v.tos _ v.invariant.4 c.loop-r-test.false;
     }

@@ -1,19 +1,11 @@
 -- `shortening::rounds::take_rounds` meets its contract. The loop: the n steps so far lead from the first form to the one in the rows, each admissible and each
 -- with fewer terms; the marks cover it, and its search has been made. Assumes nothing.
-use mathlib.Core.Path.{◌≡◌, refl, sym, subst}
-use mathlib.Core.List.{List}
-use Prim.Native.Nat.{◌+◌, ◌≤◌, ◌<◌}
-use native.Mathlib.Omega.{arith}
-use borrow.Author.Tests.{not-false}
-use lib.ListN.{length, set}
-use Rattle.specification.specs.Terms as S
+use mathlib.Core.Path.{◌≡◌}
+use lib.ListN.{length}
 use Rattle.rows.specs.Rows.{run_of, form_by, FormRun}
-use Rattle.rows.proofs.Runs.{run_length}
-use Rattle.rows.proofs.RowForms.{run-copied, form-copied}
 use Rattle.marking.specs.Marks.{Covering}
-use Rattle.searching.specs.Searching.{Shorter, SearchedBy}
+use Rattle.searching.specs.Searching.{SearchedBy}
 use Rattle.shortening.specs.Derived.{Leads}
-use Rattle.shortening.proofs.Derivations.{rounds_none, found_anywhere, shorter, round_room, round-covered, round_more, rounds_end}
 use Rattle.shortening.proofs.rounds.take_rounds.Given as goal
 
 abbrev pub invariant-loop-r : goal.invariant-loop-r
