@@ -4,7 +4,7 @@
 set -eu
 cd "$(dirname "$0")/.."
 mkdir -p target
-rt staticlib exports >target/benchmark.log 2>&1 || { cat target/benchmark.log; exit 1; }
+tests/library.sh
 python3 tests/check_cases.py --header >target/logs.h
 python3 tests/decision_cases.py --header >target/forms.h
 python3 tests/shortening_cases.py --header >target/shortening.h

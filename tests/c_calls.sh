@@ -6,7 +6,7 @@ cd "$(dirname "$0")/.."
 mkdir -p target
 header=include/kalzunbi.h library=target/staticlib/libexports.a
 strict='-std=c99 -Wall -Wextra -Werror -pedantic -Iinclude'
-rt staticlib exports >target/c_calls.log 2>&1 || { cat target/c_calls.log; exit 1; }
+tests/library.sh
 
 needed=$(nm --undefined-only "$library" | awk 'NF == 2 { print $2 }' | sort -u | tr '\n' ' ')
 [ "$needed" = 'memcpy memset ' ] || { echo "the library needs: $needed"; exit 1; }

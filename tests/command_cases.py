@@ -2,7 +2,7 @@
 """What the program `kalzunbi` writes, computed from the definition of the text and the customer's document alone.
 
 Without arguments: writes the answer of each input under examples/ (NAME.WORD) to NAME.answer beside it. With a number and a seed: so many random inputs,
-damaged ones among them, go to target/bin/kalzunbi, and what it writes is compared; the last line says how many differ. Some derivations are typed: a line
+damaged ones among them, go to crates/kalzunbi/out/kalzunbi, and what it writes is compared; the last line says how many differ. Some derivations are typed: a line
 goes to the program, in pieces, when what is told for the lines before it has come.
 """
 import pathlib
@@ -59,7 +59,7 @@ Names come first, as in 'vectors a b c' and 'scalars m n'. A refusal begins with
 """
 WORDS = {b"vectors": 1, b"scalars": 0}
 ROOT = pathlib.Path(__file__).resolve().parent.parent
-PROGRAM = ROOT / "target" / "bin" / "kalzunbi"
+PROGRAM = ROOT / "crates" / "kalzunbi" / "out" / "kalzunbi"
 
 
 class Stop(Exception):

@@ -38,7 +38,7 @@ MARGIN = 16
 
 def load():
     made, shared = HOME / "target" / "staticlib" / "libexports.a", HOME / "target" / "libkalzunbi.so"
-    subprocess.run(["rt", "staticlib", "exports"], cwd=HOME, check=True, stdout=subprocess.DEVNULL, stderr=subprocess.DEVNULL)
+    subprocess.run(["tests/library.sh"], cwd=HOME, check=True, stdout=subprocess.DEVNULL, stderr=subprocess.DEVNULL)
     subprocess.run(["gcc", "-shared", "-o", shared, "-Wl,--whole-archive", made, "-Wl,--no-whole-archive"], check=True)
     library = ctypes.CDLL(str(shared))
     for call in (library.kalzunbi_value, library.kalzunbi_reduce, library.kalzunbi_check, library.kalzunbi_decide, library.kalzunbi_shorten,

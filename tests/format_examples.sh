@@ -3,7 +3,7 @@
 set -euo pipefail
 cd "$(dirname "$0")/.."
 mkdir -p target
-rt staticlib exports >target/format_examples.log 2>&1 || { cat target/format_examples.log; exit 1; }
+tests/library.sh
 gcc -std=c99 -Wall -Wextra -Werror -pedantic -Iinclude tests/format_examples.c target/staticlib/libexports.a -o target/format_examples
 
 # the lines of the blocks that have a key each, and a document without one answer of each sort has lost its examples

@@ -6,7 +6,7 @@ use native.Mathlib.Omega.{arith}
 use lib.ListN.{length}
 use Rattle.specification.specs.Results.{given}
 use Rattle.specification.specs.Records.{test_terms}
-use Rattle.specification.specs.Text.{refused_at, placed, text_form}
+use Rattle.specification.specs.Text.{refused_at, text_form}
 use Rattle.specification.specs.Lines.{first_line, line_of}
 use Rattle.specification.proofs.Computing.{computing}
 use Rattle.specification.proofs.TextExamples.{computing_text}

@@ -1,16 +1,15 @@
 -- Logs as text, line after line. Assumes nothing.
 use mathlib.Core.Path.{◌≡◌, refl, sym, ◌∙◌, ap, subst}
-use mathlib.Core.Bool.{Bool, true, false, true≢false, not}
+use mathlib.Core.Bool.{Bool, true, false, true≢false}
 use mathlib.Core.List.{List, [], ◌∷◌, ◌++◌, map}
 use Prim.Native.Nat.{ℕ, zero, suc, ◌+◌, ◌-◌, ◌≤◌, ◌<◌}
 use native.Mathlib.Omega.{arith}
 use native.Mathlib.Numerals.{sub-one}
 use borrow.Author.Tests.{eq-eqb, ne_eqb}
-use lib.Dec.{T, ltb, ltb→lt, nltb→le}
-use lib.ListN.{length, take, drop, set, length-set, length-drop, drop_of_length-le}
+use lib.ListN.{length, take, drop, set, length-set, length-drop}
 use Rattle.specification.specs.Results.{when◌then◌else◌}
 use Rattle.specification.specs.Words.{bytes}
-use Rattle.specification.specs.Text.{Placed, refused_at, placed, past_blanks, skip}
+use Rattle.specification.specs.Text.{Placed, refused_at, past_blanks, skip}
 use Rattle.specification.specs.Lines as L
 use Rattle.specification.specs.Lines.{first_line, line_of, next_line, to_line, at_end, Lined, refused_in, lined, in_line, ◌>>>◌, same_bytes, is_word_at}
 use Rattle.specification.specs.Terms as S
@@ -19,7 +18,6 @@ use Rattle.specification.specs.LogTexts.{LogRead, read_form_line, is_step_line, 
 use Rattle.theory.specs.Elements.{All}
 use Rattle.theory.specs.Text.Columns.{refused≢placed}
 use Rattle.terms.specs.Abstraction.{form_of}
-use Rattle.rules.specs.declared.steps.Step.{Step}
 use Rattle.rules.specs.Steps.{step_of, StepValid}
 use Rattle.logs.specs.declared.steps.Steps.{Steps}
 use Rattle.logs.specs.Steps.{steps_of, StepsValid}

@@ -15,7 +15,6 @@ use Rattle.specification.specs.Rules as R
 use Rattle.specification.specs.LogTexts.{mark, read_letters_at, read_step_line}
 use Rattle.theory.specs.Tests.{and_both}
 use Rattle.terms.specs.Abstraction.{term_of}
-use Rattle.rules.specs.declared.steps.Step.{Step}
 use Rattle.rules.specs.Steps.{step_of}
 use Rattle.log_texts.specs.declared.naming.Mark.{Mark}
 use Rattle.log_texts.specs.declared.naming.Letters.{Letters}

@@ -26,7 +26,6 @@ use Rattle.terms.specs.Valid.{Gives}
 use Rattle.letters.specs.Tested.{test_of}
 use Rattle.forms.specs.Written.{FormWritten}
 use Rattle.letters.proofs.LetterTests.{test_refused, test-passed}
-use Rattle.open_log.specs.declared.state.State.{State}
 use Rattle.open_log.specs.declared.state.StateReading.{StateReading}
 use Rattle.open_log.specs.declared.adding.Answer as adding
 use Rattle.open_log.specs.declared.adding.Answer.TheVariants as answer

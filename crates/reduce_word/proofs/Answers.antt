@@ -1,5 +1,5 @@
 -- What is told for an input, from its names and its lines. Assumes nothing.
-use mathlib.Core.Path.{◌≡◌, refl, sym, ◌∙◌, ap, subst}
+use mathlib.Core.Path.{◌≡◌, sym, ◌∙◌, ap, subst}
 use mathlib.Core.List.{List, []}
 use Prim.Native.Nat.{ℕ, ◌≤◌}
 use lib.ListN.{length, take}
@@ -8,7 +8,7 @@ use Rattle.specification.specs.Lines.{line_of, Lined, refused_in, lined, ◌>>>�
 use Rattle.specification.specs.Commands.{refusal_text, answer_text, reduce_lines, reduce_input}
 use Rattle.telling.specs.Told.{Told}
 use Rattle.theory.specs.Text.LineColumns.{reduce-within, told-within}
-use Rattle.lines.specs.Places.{place_of, Inside}
+use Rattle.lines.specs.Places.{place_of}
 use Rattle.declarations.specs.Names.{HeaderRead}
 use Rattle.declarations.specs.declared.Header.{Header}
 use Rattle.reduce_word.specs.declared.Lines.{Lines}

@@ -1,8 +1,8 @@
 -- The forms of lines, told one behind the other. Assumes nothing.
 use mathlib.Core.Path.{◌≡◌, refl, sym, ◌∙◌, ap, subst}
-use mathlib.Core.Bool.{Bool, true, false}
+use mathlib.Core.Bool.{Bool}
 use mathlib.Core.List.{List, [], ◌∷◌, ◌++◌, append_assoc}
-use Prim.Native.Nat.{ℕ, zero, suc, ◌+◌, ◌-◌, ◌≤◌, ◌<◌}
+use Prim.Native.Nat.{ℕ, zero, suc, ◌-◌, ◌≤◌, ◌<◌}
 use native.Mathlib.Omega.{arith}
 use native.Mathlib.Numerals.{sub-one}
 use borrow.Author.Tests.{eq-eqb, ne_eqb}
@@ -16,7 +16,6 @@ use Rattle.specification.specs.Text.{Placed, refused_at, placed, text_form}
 use Rattle.specification.specs.Lines as L
 use Rattle.specification.specs.Lines.{line_of, next_line, to_line, at_end, Lined, refused_in, lined, in_line, ◌>>>◌}
 use Rattle.specification.specs.Commands.{reduce_lines}
-use Rattle.terms.specs.declared.types.Form.{Form}
 use Rattle.terms.specs.Abstraction.{form_of}
 use Rattle.lines.specs.declared.places.Place.{Place}
 use Rattle.lines.specs.Places.{place_of, Inside, Reached}
@@ -24,7 +23,6 @@ use Rattle.formula_call.specs.declared.TextForm.{TextForm}
 use Rattle.formula_call.specs.Texts.{text_form_of, TextGives}
 use Rattle.telling.specs.Told.{Told, Tells}
 use Rattle.telling.proofs.Pieces.{told-nothing}
-use Rattle.reduce_word.specs.declared.Lines.{Lines}
 use Rattle.reduce_word.specs.Told.{LinesTold}
 
 -- ════ a text in front of lent bytes

@@ -1,5 +1,5 @@
 -- What is told for `value`, from the names, the formula and the assignment. Assumes nothing.
-use mathlib.Core.Path.{◌≡◌, refl, sym, ◌∙◌, ap, subst}
+use mathlib.Core.Path.{◌≡◌, sym, ◌∙◌, ap, subst}
 use mathlib.Core.Bool.{true}
 use mathlib.Core.List.{List, [], ◌∷◌, ◌++◌}
 use Prim.Native.Nat.{ℕ, ◌*◌, ◌≤◌, ◌<◌}
@@ -12,11 +12,11 @@ use Rattle.specification.specs.Values.{Vec}
 use Rattle.specification.specs.Lists.{all}
 use Rattle.specification.specs.Evaluation.{value, assignment, six_or_less}
 use Rattle.specification.specs.Words.{bytes}
-use Rattle.specification.specs.Text.{Placed, refused_at, placed, skip, text_form}
+use Rattle.specification.specs.Text.{Placed, text_form}
 use Rattle.specification.specs.Lines as L
 use Rattle.specification.specs.Lines.{first_line, line_of, next_line, to_line, at_end, Lined, refused_in, lined, in_line, ◌>>>◌, read_header}
 use Rattle.specification.specs.LogTexts.{nothing_left}
-use Rattle.specification.specs.AssignmentTexts.{none_yet, read_assigned}
+use Rattle.specification.specs.AssignmentTexts.{none_yet}
 use Rattle.specification.specs.Commands.{refusal_text, answer_text, value_text, value_input}
 use Rattle.theory.specs.Text.LineColumns.{Within, then-within, line-within, formula_within, told-within}
 use Rattle.theory.specs.Text.PartColumns.{end-within}

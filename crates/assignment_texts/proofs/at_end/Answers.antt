@@ -1,6 +1,4 @@
 -- `assignment_texts::at_end` meets its contract. Assumes nothing.
-use Rattle.std.proofs.Common.{rules}
-use borrow.Author.Tests.{not-true, not-false}
 use Rattle.assignment_texts.proofs.Turns.{end-missing, end_given}
 use Rattle.assignment_texts.proofs.at_end.Goals as goal
 

@@ -1,5 +1,4 @@
 -- `assignment_texts::one_assigned` meets its contract: the name, its equals sign, its value. Assumes nothing.
-use Rattle.std.proofs.Common.{rules}
 use native.Mathlib.Omega.{arith}
 use Rattle.assignment_texts.proofs.Turns.{turn-unnamed, turn-unequal, turn_unvalued, turn-put}
 use Rattle.assignment_texts.proofs.one_assigned.Goals as goal

@@ -1,10 +1,7 @@
 -- `assignment_texts::read_assigned` meets its contract. The loop's invariant: what is left to be read is the whole (`AssignedFrom`). Assumes nothing.
-use Rattle.std.proofs.Common.{rules}
-use mathlib.Core.Path.{◌≡◌, sym, ◌∙◌}
-use Prim.Native.Nat.{◌*◌}
+use mathlib.Core.Path.{sym, ◌∙◌}
 use native.Mathlib.Omega.{arith}
-use lib.ListN.{length}
-use Rattle.assignment_texts.proofs.Turns.{AssignedFrom, assigned-begins, assigned-torn, assigned_refused, assigned-ends, assigned_uncut, assigned_more}
+use Rattle.assignment_texts.proofs.Turns.{assigned-begins, assigned-torn, assigned_refused, assigned-ends, assigned_uncut, assigned_more}
 use Rattle.assignment_texts.proofs.Stores.{none_yet_lem}
 use Rattle.assignment_texts.proofs.read_assigned.Goals as goal
 

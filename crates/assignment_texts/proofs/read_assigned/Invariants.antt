@@ -1,10 +1,8 @@
 -- `assignment_texts::read_assigned` meets its contract. The loop's invariant: what is left to be read is the whole (`AssignedFrom`). Assumes nothing.
-use mathlib.Core.Path.{◌≡◌, sym, ◌∙◌}
+use mathlib.Core.Path.{◌≡◌}
 use Prim.Native.Nat.{◌*◌}
-use native.Mathlib.Omega.{arith}
 use lib.ListN.{length}
-use Rattle.assignment_texts.proofs.Turns.{AssignedFrom, assigned-begins, assigned-torn, assigned_refused, assigned-ends, assigned_uncut, assigned_more}
-use Rattle.assignment_texts.proofs.Stores.{none_yet_lem}
+use Rattle.assignment_texts.proofs.Turns.{AssignedFrom}
 use Rattle.assignment_texts.proofs.read_assigned.Given as goal
 
 abbrev pub invariant-loop-left : goal.invariant-loop-left

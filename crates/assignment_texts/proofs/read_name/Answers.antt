@@ -1,6 +1,4 @@
 -- `assignment_texts::read_name` meets its contract, by what stands there. Assumes nothing.
-use Rattle.std.proofs.Common.{rules}
-use borrow.Author.Tests.{not-true, not-false}
 use Rattle.texts.proofs.Standing.{letter-inside}
 use Rattle.assignment_texts.proofs.Turns.{name-torn, name-unknown, name-twice, name_new}
 use Rattle.assignment_texts.proofs.read_name.Goals as goal

@@ -1,5 +1,4 @@
 -- `decision_telling::says_differs` meets its contract. Assumes nothing.
-use Rattle.std.proofs.Common.{rules}
 use mathlib.Core.Path.{sym, ap}
 use Rattle.decision.specs.Answers.{decision_of}
 use Rattle.decision.specs.declared.Decision.{Decision}

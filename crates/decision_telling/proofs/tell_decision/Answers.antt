@@ -1,5 +1,4 @@
 -- `decision_telling::tell_decision` meets its contract. Assumes nothing.
-use Rattle.std.proofs.Common.{rules}
 use Prim.Native.Nat.{ℕ}
 use lib.ListN.{length-replicate, get_or-replicate}
 use Rattle.specification.specs.Commands.{decision_text}
@@ -12,21 +11,15 @@ use Rattle.decision_telling.proofs.tell_decision.Goals as goal
 
 pub settle-d-requires : goal.settle-d-requires
 settle-d-requires c =
-    let c2 = c in
-    let c6 = c in
-    (decidable _ _ _ _ _ _ c6.requires (length-replicate {A = ℕ} 72 0) (length-replicate {A = ℕ} 55296 0), c2.components-m.ensures)
+    (decidable _ _ _ _ _ _ c.requires (length-replicate {A = ℕ} 72 0) (length-replicate {A = ℕ} 55296 0), c.components-m.ensures)
 
 pub tell_difference-requires : goal.tell_difference-requires
 tell_difference-requires c =
-    let c2 = c in
-    let c3 = c in
-    let c6 = c in
-    let c13 = c in
-    let a = c13.args in
-    let h = c13.requires in
+    let a = c.args in
+    let h = c.requires in
     let n = names-few _ _ _ _ h in (
       assignment-small a.names.now a.table.now (form_of a.f) (form_of a.g) _ _ _ _ _ _
-          c3.says_differs.ensures c6.settle-d.ensures c2.if-says_differs.true
+          c.says_differs.ensures c.settle-d.ensures c.if-says_differs.true
           (good_short _ h.good.table_good) (length-replicate {A = ℕ} 72 0) (λ i l. get_or-replicate {A = ℕ} 72 i 0 0 l),
       h.valid_first,
       h.valid_second,
@@ -36,23 +29,13 @@ tell_difference-requires c =
 
 pub returns-then-says_differs : goal.returns-then-says_differs
 returns-then-says_differs c =
-    let c2 = c in
-    let c5 = c in
-    let c6 = c in
-    let c9 = c in
-    let c16 = c in
-    let a = c16.args in
+    let a = c.args in
     told-differs a.names.now a.table.now (form_of a.f) (form_of a.g) _ _ _ _ _ _
-    c6.says_differs.ensures c9.settle-d.ensures c5.if-says_differs.true _ _ c2.tell_difference.ensures
+    c.says_differs.ensures c.settle-d.ensures c.if-says_differs.true _ _ c.tell_difference.ensures
 
 pub returns : goal.returns
 unfolding decision_text bytes
 returns c =
-    let c2 = c in
-    let c5 = c in
-    let c6 = c in
-    let c9 = c in
-    let c16 = c in
-    let a = c16.args in
+    let a = c.args in
     told-holds a.names.now a.table.now (form_of a.f) (form_of a.g) _ _ _ _ _ _
-    c6.says_differs.ensures c9.settle-d.ensures c5.if-says_differs.false _ _ (told_first c2.put.ensures)
+    c.says_differs.ensures c.settle-d.ensures c.if-says_differs.false _ _ (told_first c.put.ensures)

@@ -1,5 +1,4 @@
 -- `formula_lines::form_at` meets its contract. Assumes nothing.
-use Rattle.std.proofs.Common.{rules}
 use Rattle.formula_call.specs.Texts.{TextGives}
 use Rattle.lines.proofs.Ends.{line_at}
 use Rattle.specification.specs.Text.{text_form}

@@ -1,6 +1,4 @@
 -- `named_printing::print_named` meets its contract: the tests in order, the form taken, its text. Assumes nothing.
-use Rattle.std.proofs.Common.{rules}
-use borrow.Author.Tests.{not-true, not-false}
 use Rattle.printer_call.specs.Answers.{printing_of}
 use Rattle.named_printing.proofs.Calls.{table_refused, names_refused, out_refused, form_refused, form-printable, form-printed}
 use Rattle.named_printing.proofs.print_named.Goals as goal

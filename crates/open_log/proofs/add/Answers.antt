@@ -1,5 +1,4 @@
 -- `open_log::add` meets its contract. Assumes nothing.
-use Rattle.std.proofs.Common.{rules}
 use borrow.Author.Tests.{not-true, not-false}
 use Rattle.open_log.proofs.OpenCalls.{add-unread, add_short, add-fails, add-writes}
 use Rattle.open_log.proofs.add.Goals as goal

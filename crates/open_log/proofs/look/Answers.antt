@@ -1,5 +1,4 @@
 -- `open_log::look` meets its contract. Assumes nothing.
-use Rattle.std.proofs.Common.{rules}
 use native.Mathlib.Omega.{arith}
 use borrow.Author.Tests.{not-true, not-false}
 use Rattle.open_log.proofs.OpenCalls.{look-unread, look-short, look-writes}

@@ -1,5 +1,4 @@
 -- `open_log::open` meets its contract. Assumes nothing.
-use Rattle.std.proofs.Common.{rules}
 use Rattle.open_log.proofs.OpenCalls.{table_short, open-bad, open_short, open-not_taken, open-writes}
 use Rattle.open_log.proofs.open.Goals as goal
 

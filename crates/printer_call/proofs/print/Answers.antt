@@ -1,4 +1,3 @@
-use Rattle.std.proofs.Common.{rules}
 use Rattle.printer_call.specs.Answers.{printing_of}
 use Rattle.printer_call.proofs.Answers.{answer_refused, answer-printed}
 use Rattle.printer_call.proofs.print.Goals as goal

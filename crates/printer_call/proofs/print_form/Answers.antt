@@ -1,5 +1,4 @@
 -- `printer_call::print_form` meets its contract, test by test. Assumes nothing.
-use Rattle.std.proofs.Common.{rules}
 use native.Mathlib.Omega.{arith}
 use Rattle.printer_call.proofs.Answers.{table_refused, expression_refused, form-printable, form-printed}
 use Rattle.printer_call.proofs.print_form.Goals as goal

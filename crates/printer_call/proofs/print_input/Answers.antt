@@ -1,4 +1,3 @@
-use Rattle.std.proofs.Common.{rules}
 use native.Mathlib.Omega.{arith}
 use Rattle.printer_call.proofs.Answers.{nothing_there, table-cut, parts-printed}
 use Rattle.printer_call.proofs.print_input.Goals as goal

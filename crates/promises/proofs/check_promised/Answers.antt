@@ -1,4 +1,3 @@
-use Rattle.std.proofs.Common.{rules}
 use Prim.Native.Nat.{ℕ}
 use Rattle.forms.proofs.Takers.{bytes_all}
 use Rattle.checker.proofs.AcceptedLogs.{log-promise}

@@ -1,4 +1,3 @@
-use Rattle.std.proofs.Common.{rules}
 use Rattle.decision.proofs.Told.{decision_promise}
 use Rattle.promises.proofs.decide_promised.Goals as goal
 

@@ -1,4 +1,3 @@
-use Rattle.std.proofs.Common.{rules}
 use Rattle.reduction.proofs.KeptValue.{keeps_value}
 use Rattle.promises.proofs.reduce_kept.Goals as goal
 

@@ -1,13 +1,8 @@
 -- `reduce_word::reduce_lines` meets its contract. The loop's invariant: what is left to be told is the whole (`LinesFrom`). Assumes nothing.
-use Rattle.std.proofs.Common.{rules}
-use Rattle.lines.specs.Places.{place_of}
-use Rattle.specification.specs.Commands.{reduce_lines}
-use lib.ListN.{length}
-use mathlib.Core.List.{[]}
-use mathlib.Core.Path.{◌≡◌, refl, ◌∙◌}
+use mathlib.Core.Path.{refl, ◌∙◌}
 use native.Mathlib.Omega.{arith}
 use Rattle.formula_lines.proofs.Forms.{text-printable}
-use Rattle.reduce_word.proofs.Forms.{LinesFrom, lines-begin, lines_end, lines-done, lines_refused, lines_more}
+use Rattle.reduce_word.proofs.Forms.{lines-begin, lines_end, lines-done, lines_refused, lines_more}
 use Rattle.reduce_word.proofs.reduce_lines.Goals as goal
 
 pub loop-left-init : goal.loop-left-init
@@ -28,19 +23,11 @@ shape_of-out-then-r-ne0 c = c.loop-left.invariant.1
 
 pub returns-then-r-ne0 : goal.returns-then-r-ne0
 returns-then-r-ne0 c =
-    let c2 = c in
-    let c3 = c in
-    let c5 = c in
-    let c6 = c in
-    let c11 = c in
-    lines_refused c11.args.s.now _ _ _ _ _ _ _ c6.loop-left.invariant.0 c5.loop-left-test.true c3.if-q-n.false _ c2.form_at-r.ensures _ c.if-r-ne0.true
+    lines_refused c.args.s.now _ _ _ _ _ _ _ c.loop-left.invariant.0 c.loop-left-test.true c.if-q-n.false _ c.form_at-r.ensures _ c.if-r-ne0.true
 
 pub tell_form-end-requires : goal.tell_form-end-requires
 tell_form-end-requires c =
-    let c2 = c in
-    let c4 = c in
-    let c13 = c in
-    text-printable _ _ c13.requires.0 _ _ c4.form_at-r.ensures c2.if-r-ne0.false
+    text-printable _ _ c.requires.0 _ _ c.form_at-r.ensures c.if-r-ne0.false
 
 pub line_behind-q-requires : goal.line_behind-q-requires
 line_behind-q-requires c =
@@ -56,17 +43,10 @@ loop-left-smaller c =
 
 pub loop-left-preserved : goal.loop-left-preserved
 loop-left-preserved c =
-    let c3 = c in
-    let c6 = c in
-    let c8 = c in
-    let c9 = c in
-    let c11 = c in
-    let c12 = c in
-    let c17 = c in
-    let i = c12.loop-left.invariant in (
-      lines_more (c17).args.s.now _ _ _ _ _ _ _ i.0 c11.loop-left-test.true c9.if-q-n.false _ c8.form_at-r.ensures _ _ _ c6.if-r-ne0.false
-          c3.tell_form-end.ensures c.line_behind-q.ensures,
-      c3.tell_form-end.auto.out ∙ i.1,
+    let i = c.loop-left.invariant in (
+      lines_more c.args.s.now _ _ _ _ _ _ _ i.0 c.loop-left-test.true c.if-q-n.false _ c.form_at-r.ensures _ _ _ c.if-r-ne0.false
+          c.tell_form-end.ensures c.line_behind-q.ensures,
+      c.tell_form-end.auto.out ∙ i.1,
     )
 
 pub shape_of-out : goal.shape_of-out

@@ -3,10 +3,8 @@ use Rattle.lines.specs.Places.{place_of}
 use Rattle.specification.specs.Commands.{reduce_lines}
 use lib.ListN.{length}
 use mathlib.Core.List.{[]}
-use mathlib.Core.Path.{◌≡◌, refl, ◌∙◌}
-use native.Mathlib.Omega.{arith}
-use Rattle.formula_lines.proofs.Forms.{text-printable}
-use Rattle.reduce_word.proofs.Forms.{LinesFrom, lines-begin, lines_end, lines-done, lines_refused, lines_more}
+use mathlib.Core.Path.{◌≡◌}
+use Rattle.reduce_word.proofs.Forms.{LinesFrom}
 use Rattle.reduce_word.proofs.reduce_lines.Given as goal
 
 abbrev pub invariant-loop-left : goal.invariant-loop-left

@@ -1,5 +1,4 @@
 -- `reduce_word::tell_form` meets its contract. Assumes nothing.
-use Rattle.std.proofs.Common.{rules}
 use lib.Seq.{length-take-le}
 use mathlib.Core.Path.{sym}
 use Rattle.telling.proofs.Pieces.{tells-then, tells_as}
@@ -14,7 +13,4 @@ slice_bounds-put-end c = sym (length-take-le _ _ (text-within _ _ _ _ c.print_fo
 
 pub returns : goal.returns
 returns c =
-    let c2 = c in
-    let c6 = c in
-    let c10 = c in
-    tells-then (tells_as _ (text_taken _ _ _ _ c10.print_form-n.ensures) c6.put-next.ensures) c2.put_byte.ensures
+    tells-then (tells_as _ (text_taken _ _ _ _ c.print_form-n.ensures) c.put-next.ensures) c.put_byte.ensures

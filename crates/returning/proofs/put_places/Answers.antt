@@ -1,5 +1,4 @@
 -- `returning::put_places` meets its contract: three stores put the three places in front. Assumes nothing.
-use Rattle.std.proofs.Common.{rules}
 use native.Mathlib.Omega.{arith}
 use lib.ListN.{length-set}
 use Rattle.returning.proofs.Numbers.{place-stores}

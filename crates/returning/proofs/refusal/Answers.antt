@@ -1,5 +1,4 @@
 -- `returning::refusal` meets its contract: a byte fits, and so does its negative. Assumes nothing.
-use Rattle.std.proofs.Common.{rules}
 use mathlib.Core.Path.{◌∙◌}
 use native.Mathlib.Omega.{arith}
 use Rattle.integers.proofs.Machine.{back_is}

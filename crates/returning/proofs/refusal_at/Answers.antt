@@ -1,5 +1,4 @@
 -- `returning::refusal_at` meets its contract: number and step fit, and so does their negative. Assumes nothing.
-use Rattle.std.proofs.Common.{rules}
 use mathlib.Core.Path.{◌∙◌}
 use Prim.Native.Nat.{◌+◌, ◌*◌}
 use native.Mathlib.Omega.{arith}

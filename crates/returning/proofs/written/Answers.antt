@@ -1,5 +1,4 @@
 -- `returning::written` meets its contract: a length fits. Assumes nothing.
-use Rattle.std.proofs.Common.{rules}
 use Rattle.returning.proofs.Numbers.{cast-length}
 use Rattle.returning.proofs.written.Goals as goal
 

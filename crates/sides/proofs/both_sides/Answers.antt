@@ -1,5 +1,4 @@
 -- `sides::both_sides` meets its contract. Assumes nothing.
-use Rattle.std.proofs.Common.{rules}
 use mathlib.Core.Path.{sym}
 use native.Mathlib.Omega.{arith}
 use lib.Seq.{length-take-le}
@@ -36,7 +35,6 @@ overflow_add-behind-then-u-ne0 c =
       arith,
       column_inside a.names.now a.table.now a.line.now a.at _ c7.form_of_text-t.ensures c5.if-t-ne0.false _
           c3.form_of_text-u.ensures c12.requires.1 c1.if-u-ne0.true,
-      (search rules),
     )
 
 pub returns-then-u-ne0 : goal.returns-then-u-ne0

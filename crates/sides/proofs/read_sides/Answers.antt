@@ -1,5 +1,4 @@
 -- `sides::read_sides` meets its contract. Assumes nothing.
-use Rattle.std.proofs.Common.{rules}
 use Rattle.sides.proofs.Lines.{sign-there, sign-missing}
 use Rattle.sides.proofs.read_sides.Goals as goal
 

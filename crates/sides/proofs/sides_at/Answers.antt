@@ -1,5 +1,4 @@
 -- `sides::sides_at` meets its contract. Assumes nothing.
-use Rattle.std.proofs.Common.{rules}
 use mathlib.Core.Path.{ap}
 use Rattle.specification.specs.Commands.{read_sides}
 use Rattle.lines.proofs.Ends.{line_at}

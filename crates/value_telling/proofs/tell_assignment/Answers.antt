@@ -1,10 +1,7 @@
 -- `value_telling::tell_assignment` meets its contract. The loop's invariant: the names so far are told, and those left follow (`EntriesTold`). Assumes nothing.
-use Rattle.std.proofs.Common.{rules}
-use mathlib.Core.Path.{◌≡◌, refl, ◌∙◌}
-use Prim.Native.Nat.{◌-◌}
+use mathlib.Core.Path.{refl, ◌∙◌}
 use native.Mathlib.Omega.{arith}
-use lib.ListN.{length}
-use Rattle.value_telling.proofs.Entries.{EntriesTold, entries-begin, entries-more, entries-end}
+use Rattle.value_telling.proofs.Entries.{entries-begin, entries-more, entries-end}
 use Rattle.value_telling.proofs.Values.{letter-small}
 use Rattle.value_telling.proofs.tell_assignment.Goals as goal
 

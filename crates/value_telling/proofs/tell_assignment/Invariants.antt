@@ -1,10 +1,8 @@
 -- `value_telling::tell_assignment` meets its contract. The loop's invariant: the names so far are told, and those left follow (`EntriesTold`). Assumes nothing.
-use mathlib.Core.Path.{◌≡◌, refl, ◌∙◌}
+use mathlib.Core.Path.{◌≡◌}
 use Prim.Native.Nat.{◌-◌}
-use native.Mathlib.Omega.{arith}
 use lib.ListN.{length}
-use Rattle.value_telling.proofs.Entries.{EntriesTold, entries-begin, entries-more, entries-end}
-use Rattle.value_telling.proofs.Values.{letter-small}
+use Rattle.value_telling.proofs.Entries.{EntriesTold}
 use Rattle.value_telling.proofs.tell_assignment.Given as goal
 
 abbrev pub invariant-loop-i : goal.invariant-loop-i

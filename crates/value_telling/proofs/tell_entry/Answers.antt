@@ -1,5 +1,4 @@
 -- `value_telling::tell_entry` meets its contract, piece by piece. Assumes nothing.
-use Rattle.std.proofs.Common.{rules}
 use Rattle.specification.specs.Words.{bytes}
 use Rattle.telling.proofs.Pieces.{tells-then, tells_as, tells-nothing}
 use Rattle.value_telling.proofs.Entries.{entry-last, entry_before}

@@ -1,5 +1,4 @@
 -- `value_telling::tell_value` meets its contract. Assumes nothing.
-use Rattle.std.proofs.Common.{rules}
 use Rattle.evaluation.specs.Vectors.{vec_of}
 use Rattle.value_telling.proofs.Values.{size-told, number-told, value_scalar, value_vector}
 use Rattle.value_telling.proofs.tell_value.Goals as goal

@@ -1,5 +1,4 @@
 -- `value_telling::tell_vector` meets its contract, piece by piece. Assumes nothing.
-use Rattle.std.proofs.Common.{rules}
 use mathlib.Core.Path.{◌∙◌}
 use Rattle.specification.specs.Commands.{value_text}
 use Rattle.specification.specs.Words.{bytes}

@@ -1,5 +1,4 @@
 -- `verdicts::tell_checked` meets its contract. Assumes nothing.
-use Rattle.std.proofs.Common.{rules}
 use Rattle.verdicts.proofs.Words.{refused_told, accepted-told}
 use Rattle.verdicts.proofs.tell_checked.Goals as goal
 

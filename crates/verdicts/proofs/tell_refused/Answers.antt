@@ -1,5 +1,4 @@
 -- `verdicts::tell_refused` meets its contract. Assumes nothing.
-use Rattle.std.proofs.Common.{rules}
 use Rattle.telling.proofs.Pieces.{told_first}
 use Rattle.verdicts.proofs.tell_refused.Goals as goal
 

@@ -1,5 +1,4 @@
 -- `verdicts::tell_step_reason` meets its contract, number by number. Assumes nothing.
-use Rattle.std.proofs.Common.{rules}
 use Rattle.verdicts.proofs.Words.{reason-else}
 use Rattle.telling.proofs.Pieces.{tells_as}
 use mathlib.Core.Path.{sym, ap}
@@ -42,14 +41,5 @@ returns-then-n-eq14 c = tells_as _ (ap step_reason (sym c.if-n-eq14.true)) c.put
 pub returns : goal.returns
 unfolding bytes
 returns c =
-    let c2 = c in
-    let c5 = c in
-    let c6 = c in
-    let c7 = c in
-    let c8 = c in
-    let c9 = c in
-    let c10 = c in
-    let c11 = c in
-    let c12 = c in
-    tells_as _ (reason-else _ c12.if-n-eq5.false c11.if-n-eq6.false c10.if-n-eq8.false c9.if-n-eq9.false c8.if-n-eq10.false c7.if-n-eq11.false c6.if-n-eq13.false c5.if-n-eq14.false)
-    c2.put-2.ensures
+    tells_as _ (reason-else _ c.if-n-eq5.false c.if-n-eq6.false c.if-n-eq8.false c.if-n-eq9.false c.if-n-eq10.false c.if-n-eq11.false c.if-n-eq13.false c.if-n-eq14.false)
+    c.put-2.ensures

@@ -1,5 +1,4 @@
 -- `assignment_texts::numbers::digit_at` meets its contract, by what stands there. Assumes nothing.
-use Rattle.std.proofs.Common.{rules}
 use Rattle.assignment_texts.proofs.Components.{minus-inside, digit-behind, digit-here}
 use Rattle.assignment_texts.proofs.numbers.digit_at.Goals as goal
 

@@ -1,7 +1,5 @@
 -- `assignment_texts::numbers::read_component` meets its contract, by its digit and the byte behind it. Assumes nothing.
-use Rattle.std.proofs.Common.{rules}
 use native.Mathlib.Omega.{arith}
-use borrow.Author.Tests.{not-true, not-false}
 use Rattle.assignment_texts.proofs.Components.{component-torn, digit-inside, digit-least, component-beyond, component-long, component-there}
 use Rattle.assignment_texts.proofs.numbers.read_component.Goals as goal
 

@@ -1,5 +1,4 @@
 -- `assignment_texts::numbers::read_led` meets its contract: the byte, then the component. Assumes nothing.
-use Rattle.std.proofs.Common.{rules}
 use Rattle.assignment_texts.proofs.Values.{led-torn, led_by_lem}
 use Rattle.assignment_texts.proofs.numbers.read_led.Goals as goal
 

@@ -1,5 +1,4 @@
 -- `assignment_texts::numbers::read_three` meets its contract: one number after the other. Assumes nothing.
-use Rattle.std.proofs.Common.{rules}
 use Rattle.assignment_texts.proofs.Values.{three_first, three-second, three_third, three-open, three-there}
 use Rattle.assignment_texts.proofs.numbers.read_three.Goals as goal
 

@@ -1,5 +1,4 @@
 -- `assignment_texts::numbers::read_value` meets its contract, by the kind. Assumes nothing.
-use Rattle.std.proofs.Common.{rules}
 use Rattle.assignment_texts.proofs.Values.{value_vector, value_torn, value_scalar}
 use Rattle.assignment_texts.proofs.numbers.read_value.Goals as goal
 

@@ -1,6 +1,4 @@
 -- `assignment_texts::numbers::signed_byte` meets its contract, by the sign and the size. Assumes nothing.
-use Rattle.std.proofs.Common.{rules}
-use borrow.Author.Tests.{not-true, not-false}
 use Rattle.assignment_texts.proofs.Components.{byte-plain, byte_zero, byte_below}
 use Rattle.assignment_texts.proofs.numbers.signed_byte.Goals as goal
 

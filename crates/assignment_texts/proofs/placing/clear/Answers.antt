@@ -1,9 +1,7 @@
 -- `assignment_texts::placing::clear` meets its contract: the bytes before i are 127. Assumes nothing.
-use Rattle.std.proofs.Common.{rules}
-use mathlib.Core.Path.{◌≡◌, refl, ◌∙◌}
-use Prim.Native.Nat.{◌-◌, ◌≤◌}
+use mathlib.Core.Path.{refl, ◌∙◌}
 use native.Mathlib.Omega.{arith}
-use lib.ListN.{length, take, replicate, length-set}
+use lib.ListN.{length-set}
 use Rattle.assignment_texts.proofs.Stores.{cleared_more, cleared_all}
 use Rattle.assignment_texts.proofs.placing.clear.Goals as goal
 

@@ -1,9 +1,7 @@
 -- `assignment_texts::placing::clear` meets its contract: the bytes before i are 127. Assumes nothing.
-use mathlib.Core.Path.{◌≡◌, refl, ◌∙◌}
+use mathlib.Core.Path.{◌≡◌}
 use Prim.Native.Nat.{◌-◌, ◌≤◌}
-use native.Mathlib.Omega.{arith}
-use lib.ListN.{length, take, replicate, length-set}
-use Rattle.assignment_texts.proofs.Stores.{cleared_more, cleared_all}
+use lib.ListN.{length, take, replicate}
 use Rattle.assignment_texts.proofs.placing.clear.Given as goal
 
 abbrev pub invariant-loop-i : goal.invariant-loop-i

@@ -1,5 +1,4 @@
 -- `assignment_texts::placing::put_three` meets its contract: three stores. Assumes nothing.
-use Rattle.std.proofs.Common.{rules}
 use Prim.Native.Nat.{◌+◌, ◌*◌}
 use native.Mathlib.Omega.{arith}
 use lib.ListN.{set, length-set}

@@ -1,4 +1,4 @@
--- `formulas::joining::goes_on_lem` meets its contract by the level. Assumes nothing.
+-- `formulas::joining::goes_on` meets its contract by the level. Assumes nothing.
 use Rattle.formulas.proofs.Marks.{on_wedge, on_dot, on_product, on_sum}
 use Rattle.formulas.proofs.joining.goes_on.Goals as goal
 

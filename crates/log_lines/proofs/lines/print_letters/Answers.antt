@@ -2,15 +2,15 @@
 use Rattle.std.proofs.Common.{rules}
 use mathlib.Core.Path.{◌≡◌, refl, ap, sym}
 use mathlib.Core.List.{List, [], ◌∷◌}
-use Prim.Native.Nat.{ℕ, ◌+◌, ◌-◌, ◌*◌, ◌≤◌, ◌<◌}
+use Prim.Native.Nat.{ℕ, ◌+◌, ◌≤◌, ◌<◌}
 use native.Mathlib.Omega.{arith}
 use native.Mathlib.Numerals.{towards_suc}
 use lib.ListN.{length, length-set, get_or}
 use Rattle.specification.specs.Printing.{name_of}
 use Rattle.terms.proofs.Arrays.{all-at}
 use Rattle.record_writing.proofs.Writes.{written_stores}
-use Rattle.symbols.proofs.Progress.{UnderWay, begins, goes_on_lem, ended}
-use Rattle.log_lines.proofs.Texts.{letters_from, letter_next, letters-end}
+use Rattle.symbols.proofs.Progress.{begins, goes_on_lem, ended}
+use Rattle.log_lines.proofs.Texts.{letter_next, letters-end}
 use Rattle.log_lines.proofs.lines.print_letters.Goals.{Start}
 use Rattle.log_lines.proofs.lines.print_letters.Goals as goal
 

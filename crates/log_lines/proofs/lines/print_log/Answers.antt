@@ -1,5 +1,4 @@
 -- `log_lines::lines::print_log` meets its contract: the line of the form, those of the steps and that of the last form in a row. Assumes nothing.
-use Rattle.std.proofs.Common.{rules}
 use mathlib.Core.Path.{◌≡◌, ◌∙◌}
 use Prim.Native.Nat.{◌+◌, ◌-◌, ◌*◌, ◌≤◌}
 use native.Mathlib.Omega.{arith}
@@ -32,7 +31,8 @@ end c =
     let q = s.args.q in
     omega (
       arith,
-      first_end_lem c.before.before.before.before,
+      c.print_line-a.ensures.ends,
+      line_short s.args.names.now (form_of s.args.f) s.requires.0.valid.in_shape,
       c.print_steps-b.ensures.ends,
       steps_short s.args.names.now (take q.count q.steps) s.requires.1.steps,
       taken_few q.count q.steps,

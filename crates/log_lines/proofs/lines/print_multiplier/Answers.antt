@@ -1,5 +1,4 @@
 -- `log_lines::lines::print_multiplier` meets its contract: the mark, the term and a newline. Assumes nothing.
-use Rattle.std.proofs.Common.{rules}
 use mathlib.Core.Path.{◌≡◌, refl, ◌∙◌}
 use mathlib.Core.List.{[], ◌∷◌}
 use Prim.Native.Nat.{◌+◌, ◌<◌}

@@ -1,5 +1,4 @@
 -- `log_lines::lines::print_rule` meets its contract: seven stores. Assumes nothing.
-use Rattle.std.proofs.Common.{rules}
 use mathlib.Core.Path.{refl}
 use Prim.Native.Nat.{◌+◌}
 use mathlib.Core.List.{[], ◌∷◌}

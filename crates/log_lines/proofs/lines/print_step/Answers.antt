@@ -1,5 +1,4 @@
 -- `log_lines::lines::print_step` meets its contract: the rule, its letters and M stand one behind the other. Assumes nothing.
-use Rattle.std.proofs.Common.{rules}
 use mathlib.Core.Path.{◌≡◌, ap, ◌∙◌}
 use Prim.Native.Nat.{◌+◌, ◌≤◌}
 use native.Mathlib.Omega.{arith}
@@ -14,7 +13,7 @@ small c = rule-small c.args.s.rule c.requires.0.valid.rule
 
 -- the rule takes seven bytes
 rule_end : (c : After-print_rule-first) → c.print_rule-first.result ≡ c.args.at + 7
-rule_end c = let s = c in omega (arith, c.print_rule-first.ensures.ends, ap length (rule_is s.args.s.rule (small s)))
+rule_end c = omega (arith, c.print_rule-first.ensures.ends, ap length (rule_is c.args.s.rule (rule-small c.args.s.rule c.requires.0.valid.rule)))
 
 -- each call keeps the length
 letters-kept : (c : After-print_letters-behind) → length c.print_letters-behind.new.out ≡ length c.args.out.now

@@ -1,13 +1,8 @@
 -- `log_lines::lines::print_steps` meets its contract: before each turn the steps from i on are left, with 55 bytes of room for each. Assumes nothing.
 use Prim.Native.Nat.{◌+◌, ◌-◌, ◌*◌, ◌≤◌}
-use native.Mathlib.Omega.{arith}
-use lib.ListN.{length, get_or}
-use Rattle.terms.proofs.Arrays.{all-at}
-use Rattle.logs.proofs.StepRecords.{no_step}
-use Rattle.logs.specs.Steps.{steps_of}
-use Rattle.symbols.proofs.Progress.{UnderWay, begins, goes_on_lem, ended}
-use Rattle.log_lines.specs.Printed.{StepPrintable}
-use Rattle.log_lines.proofs.Texts.{steps_from, step_text_short, step-next, steps-end}
+use lib.ListN.{length}
+use Rattle.symbols.proofs.Progress.{UnderWay}
+use Rattle.log_lines.proofs.Texts.{steps_from}
 use Rattle.log_lines.proofs.lines.print_steps.Given as goal
 
 abbrev pub invariant-loop-i : goal.invariant-loop-i

@@ -1,7 +1,7 @@
 -- `log_texts::kinds::of_kind` meets its contract. Assumes nothing.
 use Rattle.std.proofs.Common.{rules}
-use mathlib.Core.Path.{◌≡◌, sym, ◌∙◌}
-use lib.ListN.{length, length-map}
+use mathlib.Core.Path.{◌≡◌}
+use lib.ListN.{length}
 use Rattle.log_texts.proofs.Told.{kind-told, kind-other, kind_same}
 use Rattle.log_texts.proofs.kinds.of_kind.Goals.{Start}
 use Rattle.log_texts.proofs.kinds.of_kind.Goals as goal
@@ -15,18 +15,18 @@ returns-then-f-eq0 c =
     let c1 = c in
     let c3 = c in
     let a = c3.args in
-    kind-told a.kind a.at a.f c3.requires.0 (places (c3)) c3.requires.1 c1.if-f-eq0.true
+    kind-told a.kind a.at a.f c3.requires.0 (places (goal.at.returns-then-f-eq0 c).Start) c3.requires.1 c1.if-f-eq0.true
 
 pub returns-then-f-kind : goal.returns-then-f-kind
 returns-then-f-kind c =
     let c2 = c in
     let c4 = c in
     let a = c4.args in
-    kind-other a.kind a.at a.f c4.requires.0 (places (c4)) c2.if-f-eq0.false c.if-f-kind.true
+    kind-other a.kind a.at a.f c4.requires.0 (places (goal.at.returns-then-f-kind c).Start) c2.if-f-eq0.false c.if-f-kind.true
 
 pub returns : goal.returns
 returns c =
     let c2 = c in
     let c4 = c in
     let a = c4.args in
-    kind_same a.kind a.at a.f c4.requires.0 (places (c4)) c2.if-f-eq0.false c.if-f-kind.false
+    kind_same a.kind a.at a.f c4.requires.0 (places (goal.at.returns c).Start) c2.if-f-eq0.false c.if-f-kind.false

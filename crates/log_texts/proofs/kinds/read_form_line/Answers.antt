@@ -1,5 +1,4 @@
 -- `log_texts::kinds::read_form_line` meets its contract, by its first word. Assumes nothing.
-use Rattle.std.proofs.Common.{rules}
 use mathlib.Core.Path.{sym, ◌∙◌}
 use Prim.Native.Nat.{◌+◌}
 use native.Mathlib.Omega.{arith}

@@ -1,5 +1,4 @@
 -- `log_texts::kinds::read_multiplier` meets its contract. Assumes nothing.
-use Rattle.std.proofs.Common.{rules}
 use native.Mathlib.Omega.{arith}
 use Rattle.log_texts.proofs.Told.{column_inside, multiplier_refused, multiplier-by}
 use Rattle.log_texts.proofs.kinds.read_multiplier.Goals as goal
@@ -13,7 +12,6 @@ overflow_add-at c =
     omega (
       arith,
       column_inside a.names.now a.table.now a.line.now a.at _ c3.form_of_text-t.ensures c8.requires.1 c1.if-t-ne0.true,
-      (search rules),
     )
 
 pub returns-then-t-ne0 : goal.returns-then-t-ne0

@@ -1,7 +1,5 @@
 -- `log_texts::naming::one_letter` meets its contract, by what stands there. Assumes nothing.
-use Rattle.std.proofs.Common.{rules}
 use native.Mathlib.Omega.{arith}
-use borrow.Author.Tests.{not-true, not-false}
 use Rattle.texts.proofs.Standing.{letter-inside}
 use Rattle.log_texts.proofs.Marks.{letter_none, letter-unknown, letter_known}
 use Rattle.log_texts.proofs.naming.one_letter.Goals as goal

@@ -1,9 +1,7 @@
 -- `log_texts::naming::read_letters` meets its contract. The loop's invariant: what is left to be read is the whole (`LettersFrom`). Assumes nothing.
-use mathlib.Core.Path.{refl}
 use Prim.Native.Nat.{◌-◌}
-use native.Mathlib.Omega.{arith}
 use Rattle.specification.specs.LogTexts.{read_letters_at}
-use Rattle.log_texts.proofs.Marks.{LettersFrom, letters-begin, letters_refused, letters_more, letters-done}
+use Rattle.log_texts.proofs.Marks.{LettersFrom}
 use Rattle.log_texts.proofs.naming.read_letters.Given as goal
 
 abbrev pub invariant-loop-i : goal.invariant-loop-i

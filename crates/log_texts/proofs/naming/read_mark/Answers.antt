@@ -1,5 +1,4 @@
 -- `log_texts::naming::read_mark` meets its contract: the byte stands, or another. Assumes nothing.
-use Rattle.std.proofs.Common.{rules}
 use Rattle.log_texts.proofs.Marks.{mark-other, mark-inside, mark-there}
 use Rattle.log_texts.proofs.naming.read_mark.Goals as goal
 

@@ -1,5 +1,4 @@
 -- `log_texts::naming::to_formula` meets its contract: one byte after the other. Assumes nothing.
-use Rattle.std.proofs.Common.{rules}
 use Rattle.log_texts.proofs.Marks.{no_comma, no_m, formula_at}
 use Rattle.log_texts.proofs.naming.to_formula.Goals as goal
 

@@ -1,5 +1,4 @@
 -- `log_texts::reading::read_log_lines` meets its contract, line after line. Assumes nothing.
-use Rattle.std.proofs.Common.{rules}
 use Rattle.log_texts.proofs.Lines.{form-inside, first_refused, middle_refused, last_refused, something-left, log_read}
 use Rattle.log_texts.proofs.reading.read_log_lines.Goals as goal
 

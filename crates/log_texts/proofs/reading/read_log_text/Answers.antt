@@ -1,5 +1,4 @@
 -- `log_texts::reading::read_log_text` meets its contract: the names, then the lines. Assumes nothing.
-use Rattle.std.proofs.Common.{rules}
 use mathlib.Core.Path.{sym}
 use native.Mathlib.Omega.{arith}
 use lib.Seq.{length-take-le}

@@ -1,11 +1,9 @@
 -- `log_texts::reading::read_step_lines` meets its contract. The loop's invariant: what is left to be read is the whole (`StepsFrom`). Assumes nothing.
 use mathlib.Core.List.{[]}
 use Prim.Native.Nat.{◌-◌}
-use native.Mathlib.Omega.{arith}
-use borrow.Author.Tests.{not-true, not-false}
 use Rattle.specification.specs.LogTexts.{read_step_lines}
 use Rattle.lines.specs.Places.{place_of}
-use Rattle.log_texts.proofs.Lines.{step-inside, StepsFrom, steps-begin, steps-stop, steps_refused, steps_more, steps-many, steps-done}
+use Rattle.log_texts.proofs.Lines.{StepsFrom}
 use Rattle.log_texts.proofs.reading.read_step_lines.Given as goal
 
 abbrev pub invariant-loop-i : goal.invariant-loop-i

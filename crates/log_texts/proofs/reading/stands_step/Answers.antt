@@ -1,5 +1,4 @@
 -- `log_texts::reading::stands_step` meets its contract. Assumes nothing.
-use Rattle.std.proofs.Common.{rules}
 use mathlib.Core.Path.{ap, ◌∙◌}
 use Rattle.specification.specs.LogTexts.{is_step_line}
 use Rattle.lines.proofs.Ends.{line_at}

@@ -1,5 +1,4 @@
 -- `log_texts::steps::read_rule` meets its contract: the digit, then the colon. Assumes nothing.
-use Rattle.std.proofs.Common.{rules}
 use native.Mathlib.Omega.{arith}
 use Rattle.log_texts.proofs.StepLines.{rule-below, rule-above, rule-inside, rule-torn, rule_read}
 use Rattle.theory.specs.Text.Bounds.{skip_within}

@@ -1,5 +1,4 @@
 -- `log_texts::steps::read_step_line` meets its contract, part by part. Assumes nothing.
-use Rattle.std.proofs.Common.{rules}
 use native.Mathlib.Omega.{arith}
 use Rattle.log_texts.proofs.StepLines.{step_unruled, step_unlettered, step-unmarked, step_unmultiplied, step_read}
 use Rattle.log_texts.proofs.steps.read_step_line.Goals as goal

@@ -1,5 +1,4 @@
 -- `open_log::adding::step_from` meets its contract. Assumes nothing.
-use Rattle.std.proofs.Common.{rules}
 use mathlib.Core.Path.{refl}
 use borrow.Author.Tests.{not-true, not-false}
 use Rattle.open_log.proofs.Additions.{no_step_lem, left_over_lem, step_refused_lem, step_taken}

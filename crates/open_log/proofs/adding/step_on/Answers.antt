@@ -1,5 +1,4 @@
 -- `open_log::adding::step_on` meets its contract. Assumes nothing.
-use Rattle.std.proofs.Common.{rules}
 use mathlib.Core.Path.{ap}
 use native.Mathlib.Omega.{arith}
 use Rattle.specification.specs.Rules.{step_at}

@@ -1,5 +1,4 @@
 -- `open_log::closing::is_reached` meets its contract. Assumes nothing.
-use Rattle.std.proofs.Common.{rules}
 use mathlib.Core.Path.{◌∙◌, ap}
 use Rattle.specification.specs.Logs.{same_form}
 use Rattle.terms.specs.Abstraction.{form_of}

@@ -1,5 +1,4 @@
 -- `open_log::state::read_state` meets its contract. Assumes nothing.
-use Rattle.std.proofs.Common.{rules}
 use native.Mathlib.Omega.{arith}
 use Rattle.open_log.proofs.StateBytes.{refused_as_lem, short_of_none, too_short, bad-table, part_short, too_many_taken, bad-form, state-is}
 use Rattle.open_log.proofs.state.read_state.Goals as goal

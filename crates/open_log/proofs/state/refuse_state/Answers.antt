@@ -1,5 +1,4 @@
 -- `open_log::state::refuse_state` meets its contract. Assumes nothing.
-use Rattle.std.proofs.Common.{rules}
 use mathlib.Core.Bool.{true≢false}
 use mathlib.Core.Path.{refl, sym}
 use Rattle.open_log.specs.States.{state_read_of}

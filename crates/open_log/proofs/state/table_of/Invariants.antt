@@ -1,10 +1,7 @@
 -- `open_log::state::table_of` meets its contract: so many letters are copied as turns were made. Assumes nothing.
-use mathlib.Core.Path.{◌≡◌, refl, subst, ◌∙◌}
-use Prim.Native.Nat.{ℕ, ◌-◌, ◌≤◌}
-use native.Mathlib.Omega.{arith}
-use lib.ListN.{length, length-set, take}
-use lib.Seq.{take-length}
-use Rattle.terms.proofs.Arrays.{copied_more}
+use mathlib.Core.Path.{◌≡◌}
+use Prim.Native.Nat.{◌-◌, ◌≤◌}
+use lib.ListN.{length, take}
 use Rattle.open_log.proofs.state.table_of.Given as goal
 
 abbrev pub invariant-loop-i : goal.invariant-loop-i
