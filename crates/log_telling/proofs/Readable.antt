@@ -7,7 +7,7 @@ use lib.ListN.{length, take}
 use Rattle.theory.specs.Elements.{All}
 use Rattle.theory.specs.Shape.Letters.{term_known}
 use Rattle.theory.specs.Text.Names.{names_count}
-use Rattle.terms.specs.Abstraction.{term_of, form_of}
+use Rattle.terms.specs.Abstraction.{term_of}
 use Rattle.rules.specs.declared.steps.Step.{Step}
 use Rattle.rules.specs.Steps.{step_of, StepValid}
 use Rattle.logs.specs.Steps.{steps_of}

@@ -1,5 +1,4 @@
 -- `exports::kalzunbi_audit` meets its contract: 1, 2, then what the audit says; that they do not agree never comes. Assumes nothing.
-use Rattle.std.proofs.Common.{rules}
 use mathlib.Core.Path.{◌∙◌}
 use native.Mathlib.Omega.{arith}
 use Rattle.integers.proofs.Machine.{back_is}
@@ -33,7 +32,6 @@ written-requires c =
     omega (
       arith,
       h,
-      (search rules),
     )
 
 pub returns-in-Agreed : goal.returns-in-Agreed

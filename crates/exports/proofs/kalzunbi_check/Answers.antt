@@ -1,5 +1,4 @@
 -- `exports::kalzunbi_check` meets its contract: 1, then 2, then what the checker says. Assumes nothing.
-use Rattle.std.proofs.Common.{rules}
 use mathlib.Core.Path.{◌∙◌}
 use Rattle.integers.proofs.Machine.{back_is}
 use Rattle.exports.proofs.Returning.{table_refused, places_short, log_refused, log-accepted}

@@ -1,5 +1,4 @@
 -- `exports::kalzunbi_close` meets its contract. Assumes nothing.
-use Rattle.std.proofs.Common.{rules}
 use mathlib.Core.Path.{◌∙◌}
 use Rattle.integers.proofs.Machine.{back_is}
 use Rattle.exports.proofs.ReturnedOpenLogs.{close-accepted, close_refused}

@@ -1,5 +1,4 @@
 -- `exports::kalzunbi_insert` meets its contract: what the insertion call says is returned. Assumes nothing.
-use Rattle.std.proofs.Common.{rules}
 use native.Mathlib.Omega.{arith}
 use Prim.Native.Nat.{ℕ}
 use mathlib.Core.Path.{◌∙◌}

@@ -1,5 +1,4 @@
 -- `exports::kalzunbi_look` meets its contract. Assumes nothing.
-use Rattle.std.proofs.Common.{rules}
 use mathlib.Core.Path.{◌∙◌}
 use Prim.Native.Nat.{ℕ}
 use Rattle.specification.specs.Returns.{look_returned}

@@ -1,5 +1,4 @@
 -- `exports::kalzunbi_print` meets its contract: what the call that prints a form says is returned. Assumes nothing.
-use Rattle.std.proofs.Common.{rules}
 use mathlib.Core.Path.{◌∙◌}
 use native.Mathlib.Omega.{arith}
 use Rattle.integers.proofs.Machine.{back_is}
@@ -14,7 +13,6 @@ written-requires c =
       arith,
       h,
       c.print_named-r.auto.out,
-      (search rules),
     )
 
 pub returns-in-Printed : goal.returns-in-Printed

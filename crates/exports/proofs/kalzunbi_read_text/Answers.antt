@@ -1,5 +1,4 @@
 -- `exports::kalzunbi_read_text` meets its contract: what the call that reads a text says is returned. Assumes nothing.
-use Rattle.std.proofs.Common.{rules}
 use mathlib.Core.Path.{◌∙◌}
 use native.Mathlib.Omega.{arith}
 use Rattle.integers.proofs.Machine.{back_is}
@@ -14,7 +13,6 @@ written-requires c =
       arith,
       h,
       c.read_formula-r.auto.out,
-      (search rules),
     )
 
 pub returns-in-Written : goal.returns-in-Written

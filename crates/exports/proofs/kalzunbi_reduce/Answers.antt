@@ -1,5 +1,4 @@
 -- `exports::kalzunbi_reduce` meets its contract: what the reduction call says is returned. Assumes nothing.
-use Rattle.std.proofs.Common.{rules}
 use native.Mathlib.Omega.{arith}
 use mathlib.Core.Path.{◌∙◌}
 use Rattle.integers.proofs.Machine.{back_is}

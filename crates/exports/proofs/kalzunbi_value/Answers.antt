@@ -1,5 +1,4 @@
 -- `exports::kalzunbi_value` meets its contract: 1, then 2, then what the value call says. Assumes nothing.
-use Rattle.std.proofs.Common.{rules}
 use mathlib.Core.Path.{◌∙◌}
 use Rattle.integers.proofs.Machine.{back_is}
 use Rattle.exports.proofs.Returning.{table-returned, short_returned, value_refused, value_returned_lem}

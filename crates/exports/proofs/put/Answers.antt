@@ -1,5 +1,4 @@
 -- `exports::put` meets its contract: three stores put the three numbers in front. Assumes nothing.
-use Rattle.std.proofs.Common.{rules}
 use native.Mathlib.Omega.{arith}
 use lib.ListN.{length-set}
 use Rattle.integers.proofs.Machine.{back_is}

@@ -1,5 +1,4 @@
 -- `exports::returned_of` meets its contract. Assumes nothing.
-use Rattle.std.proofs.Common.{rules}
 use mathlib.Core.Path.{◌∙◌, sym, ap}
 use Rattle.specification.specs.Returns.{returned}
 use Rattle.integers.proofs.Machine.{back_is}

@@ -1,9 +1,8 @@
 -- `log_telling::tell_names` meets its contract. The loop's invariant: the names so far are told, and those that are left follow (`NamesTold`). Assumes nothing.
-use mathlib.Core.Path.{◌≡◌, refl, ◌∙◌}
+use mathlib.Core.Path.{◌≡◌}
 use Prim.Native.Nat.{◌-◌}
-use native.Mathlib.Omega.{arith}
 use lib.ListN.{length}
-use Rattle.log_telling.proofs.Pieces.{NamesTold, names-begin, names_more, names-end}
+use Rattle.log_telling.proofs.Pieces.{NamesTold}
 use Rattle.log_telling.proofs.tell_names.Given as goal
 
 abbrev pub invariant-loop-i : goal.invariant-loop-i
