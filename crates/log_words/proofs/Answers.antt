@@ -1,28 +1,23 @@
 -- What is told for a log as text, from what was read. Assumes nothing.
 use mathlib.Core.Path.{◌≡◌, refl, sym, ◌∙◌, ap, subst}
 use mathlib.Core.List.{List, [], ◌∷◌, ◌++◌}
-use Prim.Native.Nat.{ℕ, ◌+◌, ◌*◌, ◌≤◌}
+use Prim.Native.Nat.{ℕ, ◌≤◌}
 use native.Mathlib.Omega.{arith}
-use borrow.Author.Tests.{ne_eqb, eq-eqb}
 use lib.ListN.{length, take, drop, length-append}
 use lib.Seq.{length-take-le, take-append_seam}
-use Rattle.specification.specs.Records.{form_bytes, write_into}
-use Rattle.specification.specs.Words.{bytes}
+use Rattle.specification.specs.Records.{write_into}
 use Rattle.specification.specs.Rules.{Step}
 use Rattle.specification.specs.Terms as S
 use Rattle.specification.specs.Logs as C
-use Rattle.specification.specs.Lines.{line_of, Lined, refused_in, lined, ◌>>>◌}
+use Rattle.specification.specs.Lines.{line_of, Lined, lined, ◌>>>◌}
 use Rattle.specification.specs.LogTexts.{LogRead, read_log_text, log_bytes_of}
-use Rattle.specification.specs.Commands.{step_reason, count_text, checked_text, refusal_text, answer_text, check_input, pack_input, numeral}
+use Rattle.specification.specs.Commands.{checked_text, refusal_text, answer_text, check_input, pack_input}
 use Rattle.telling.specs.Told.{Told}
 use Rattle.theory.specs.Text.LineColumns.{told-within}
 use Rattle.terms.specs.Abstraction.{form_of}
 use Rattle.logs.specs.Steps.{steps_of}
 use Rattle.logs.specs.Writing.{LogWritten}
 use Rattle.lines.specs.Places.{place_of}
-use Rattle.checker.specs.declared.Checked.{Checked}
-use Rattle.checker.specs.declared.Checked.TheVariants.{Accepted, Refused}
-use Rattle.checker.specs.Answers.{checked_of}
 use Rattle.log_texts.specs.Logs.{log_of, LogTextRead}
 use Rattle.log_texts.specs.declared.reading.LogText.{LogText}
 use Rattle.theory.specs.Text.LogColumns.{log_within}

@@ -1,5 +1,4 @@
 -- `log_words::check_text` meets its contract. Assumes nothing.
-use Rattle.std.proofs.Common.{rules}
 use Rattle.log_words.proofs.Answers.{log_within-bytes, log-column, check_refused, check_given}
 use lib.Seq.{length-take-le}
 use native.Mathlib.Omega.{arith}
@@ -8,16 +7,11 @@ use Rattle.log_words.proofs.check_text.Goals as goal
 
 pub tell_line-requires : goal.tell_line-requires
 tell_line-requires c =
-    let c2 = c in
-    let c6 = c in
-    (c6.read_log_text-l.ensures.inside, log-column _ _ _ _ c6.read_log_text-l.ensures c2.if-l-ne0.true)
+    (c.read_log_text-l.ensures.inside, log-column _ _ _ _ c.read_log_text-l.ensures c.if-l-ne0.true)
 
 pub returns-then-l-ne0 : goal.returns-then-l-ne0
 returns-then-l-ne0 c =
-    let c2 = c in
-    let c5 = c in
-    let c9 = c in
-    check_refused _ _ _ _ c9.read_log_text-l.ensures c5.if-l-ne0.true _ _ c2.tell_line.ensures
+    check_refused _ _ _ _ c.read_log_text-l.ensures c.if-l-ne0.true _ _ c.tell_line.ensures
 
 pub count_terms-first-requires : goal.count_terms-first-requires
 count_terms-first-requires c = c.read_log_text-l.ensures.first c.if-l-ne0.false
@@ -33,15 +27,11 @@ write_log-m-requires c =
 
 pub slice_bounds-table-end : goal.slice_bounds-table-end
 slice_bounds-table-end c =
-    let c8 = c in
-    let c12 = c in
-    omega (arith, c12.read_log_text-l.ensures.few c8.if-l-ne0.false, c12.read_log_text-l.auto.table)
+    omega (arith, c.read_log_text-l.ensures.few c.if-l-ne0.false, c.read_log_text-l.auto.table)
 
 pub slice_bounds-check-end : goal.slice_bounds-check-end
 slice_bounds-check-end c =
-    let c9 = c in
-    let c13 = c in
-    sym (length-take-le _ _ (omega (arith, c13.read_log_text-l.ensures.few c9.if-l-ne0.false, c13.read_log_text-l.auto.table)))
+    sym (length-take-le _ _ (omega (arith, c.read_log_text-l.ensures.few c.if-l-ne0.false, c.read_log_text-l.auto.table)))
 
 pub slice_bounds-log-end : goal.slice_bounds-log-end
 slice_bounds-log-end c = log_within-bytes _ _ _ _ _ _ c.write_log-m.ensures
@@ -51,12 +41,5 @@ slice_bounds-check-end-2 c = sym (length-take-le _ _ (log_within-bytes _ _ _ _ _
 
 pub returns : goal.returns
 returns c =
-    let c2 = c in
-    let c4 = c in
-    let c8 = c in
-    let c10 = c in
-    let c11 = c in
-    let c15 = c in
-    let c19 = c in
-    check_given _ _ _ _ c19.read_log_text-l.ensures c15.if-l-ne0.false _ _ _ c8.write_log-m.ensures _ _ _ _ _ c11.count_terms-first.ensures
-    c10.count_terms-last.ensures c4.check-c.ensures c2.tell_checked.ensures
+    check_given _ _ _ _ c.read_log_text-l.ensures c.if-l-ne0.false _ _ _ c.write_log-m.ensures _ _ _ _ _ c.count_terms-first.ensures
+    c.count_terms-last.ensures c.check-c.ensures c.tell_checked.ensures

@@ -2,8 +2,8 @@
 use Rattle.std.proofs.Common.{rules}
 use Rattle.replaying.proofs.Replays.{form-length}
 use native.Mathlib.Omega.{arith}
-use lib.ListN.{length, length-map}
-use mathlib.Core.Path.{◌≡◌, sym, ◌∙◌}
+use lib.ListN.{length}
+use mathlib.Core.Path.{◌≡◌, sym}
 use Rattle.log_words.proofs.count_terms.Goals as goal
 
 pub returns : goal.returns
