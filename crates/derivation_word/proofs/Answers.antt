@@ -2,10 +2,10 @@
 use mathlib.Core.Path.{◌≡◌, refl, sym, ◌∙◌, ap, subst}
 use mathlib.Core.Bool.{Bool, true, false, true≢false}
 use mathlib.Core.List.{List, [], ◌∷◌, ◌++◌, map}
-use Prim.Native.Nat.{ℕ, zero, suc, ◌+◌, ◌≤◌, ◌<◌}
+use Prim.Native.Nat.{ℕ, ◌+◌, ◌≤◌, ◌<◌}
 use native.Mathlib.Omega.{arith}
 use borrow.Author.Tests.{ne_eqb, le-leb, lt-leb}
-use lib.Dec.{T, eqb, ltb, leb, ltb→lt}
+use lib.Dec.{T, ltb, ltb→lt}
 use lib.ListN.{length, take, drop, set, length-set, length-map}
 use lib.Seq.{length-take-le, take_at}
 use Rattle.specification.specs.Results.{Result, refused, given, when◌then◌else◌}
@@ -48,7 +48,6 @@ use Rattle.declarations.specs.declared.Names.{Names}
 use Rattle.declarations.specs.Names.{named_of, NamesRead}
 use Rattle.log_texts.specs.declared.steps.StepLine.{StepLine}
 use Rattle.log_texts.specs.Steps.{StepLineRead}
-use Rattle.open_log.specs.declared.state.State.{State}
 use Rattle.open_log.specs.declared.adding.Answer as adding
 use Rattle.open_log.specs.declared.adding.Answer.TheVariants.{Taken, Refused}
 use Rattle.open_log.specs.declared.adding.Added.{Added}
@@ -58,8 +57,7 @@ use Rattle.open_log.proofs.Additions.{stood_refused, stood_given}
 use Rattle.telling.specs.Told.{Tells}
 use Rattle.telling.proofs.Pieces.{tells-nothing}
 use Rattle.derivation_word.specs.declared.reading.Derivation.{Derivation}
-use Rattle.derivation_word.specs.declared.reading.Answered.{Answered}
-use Rattle.derivation_word.specs.Derivations.{names_of, kinds_of, derivation_of, Whole, DerivationValid, LineTold, StepTyped, StepAdded}
+use Rattle.derivation_word.specs.Derivations.{names_of, kinds_of, derivation_of, DerivationValid, LineTold, StepTyped, StepAdded}
 
 -- ════ a derivation by its parts
 

@@ -10,7 +10,7 @@ use Rattle.specification.specs.Results.{when◌then◌else◌}
 use Rattle.specification.specs.Words.{bytes}
 use Rattle.specification.specs.Lines.{first_line, behind_line, lines_of, next_line, is_empty_line, is_word_at, is_declaration, declared}
 use Rattle.specification.specs.LogTexts.{is_step_line, log_text}
-use Rattle.specification.specs.Commands.{Derivation, unopened, underway, line_read, names_answer, read_first, first_answer, read_one_step, step_refused, step_answer}
+use Rattle.specification.specs.Commands.{unopened, underway, line_read, names_answer, read_first, first_answer, read_one_step, step_refused, step_answer}
 use Rattle.specification.specs.Commands.{checked_text, answer_line, pass_line, answer_lines, end_text, derivation_input}
 use Rattle.specification.specs.OpenLogs.{add_to}
 use Rattle.specification.specs.Logs.{write_step}
@@ -19,7 +19,7 @@ use Rattle.specification.specs.Lines as L
 use Rattle.specification.proofs.Computing.{computing}
 use Rattle.specification.proofs.TextExamples.{computing_text}
 use Rattle.specification.proofs.LogTextExamples.{computing_lines}
-use Rattle.theory.proofs.Text.Derivations.{lines-first, start-goes}
+use Rattle.theory.proofs.Text.Derivations.{lines-first}
 use Rattle.terms.specs.Abstraction.{form_of}
 use Rattle.logs.specs.Steps.{steps_of}
 use Rattle.lines.specs.declared.places.Place.{Place}

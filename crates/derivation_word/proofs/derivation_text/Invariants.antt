@@ -1,9 +1,8 @@
 -- `derivation_word::derivation_text` meets its contract. Assumes nothing.
-use mathlib.Core.Path.{◌≡◌, refl, ◌∙◌}
+use mathlib.Core.Path.{◌≡◌}
 use Prim.Native.Nat.{◌-◌}
-use native.Mathlib.Omega.{arith}
 use lib.ListN.{length}
-use Rattle.derivation_word.proofs.Turns.{AnsweredTo, answered_none, next_less, answered_more, answered_all}
+use Rattle.derivation_word.proofs.Turns.{AnsweredTo}
 use Rattle.derivation_word.proofs.derivation_text.Given as goal
 
 abbrev pub invariant-loop-p : goal.invariant-loop-p

@@ -1,4 +1,3 @@
-use Rattle.std.proofs.Common.{rules}
 use native.Mathlib.Omega.{arith}
 use Rattle.shorten_call.proofs.Calls.{nothing_there, table-cut, parts-printed}
 use Rattle.shorten_call.proofs.print_input.Goals as goal

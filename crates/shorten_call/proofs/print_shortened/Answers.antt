@@ -1,17 +1,8 @@
 -- `shorten_call::print_shortened` meets its contract, test by test. Assumes nothing.
 use Rattle.std.proofs.Common.{rules}
-use mathlib.Core.Path.{◌≡◌, sym, ◌∙◌}
 use native.Mathlib.Omega.{arith}
-use lib.ListN.{length, length-map}
 use Rattle.shorten_call.proofs.Calls.{table_refused, expression_refused, log-printable, log-printed}
-use Rattle.shorten_call.proofs.print_shortened.Goals.{After-derive-d, After-form_of-w}
 use Rattle.shorten_call.proofs.print_shortened.Goals as goal
-
-form-places : (c : After-form_of-w) → length c.form_of-w.result.form.terms ≡ 48
-form-places c = sym (length-map c.form_of-w.result.form.terms _) ∙ c.form_of-w.type_inv.1.1.1.0.1.1.1.1.0.1.0.1
-
-last_places : (c : After-derive-d) → length c.derive-d.result.last.terms ≡ 48
-last_places c = sym (length-map c.derive-d.result.last.terms _) ∙ c.derive-d.type_inv.1.1.1.0.1.1.1.1.0.1.0.1
 
 pub returns-then-c-ne0 : goal.returns-then-c-ne0
 returns-then-c-ne0 c =
@@ -20,9 +11,7 @@ returns-then-c-ne0 c =
 
 pub returns-then-n-ne0 : goal.returns-then-n-ne0
 returns-then-n-ne0 c =
-    let w = c in
-    let v = c in
-    expression_refused _ _ _ v.check_table-c.ensures _ _ _ v.if-c-ne0.false _ w.form_of-w.ensures w.if-n-ne0.true
+    expression_refused _ _ _ c.check_table-c.ensures _ _ _ c.if-c-ne0.false _ c.form_of-w.ensures c.if-n-ne0.true
     c.print_refusal-then-n-ne0.ensures
 
 pub derive-d-requires : goal.derive-d-requires
@@ -30,16 +19,10 @@ derive-d-requires c = c.form_of-w.ensures.valid c.if-n-ne0.false
 
 pub print_log-requires : goal.print_log-requires
 print_log-requires c =
-    let u = c in
-    let w = c in
-    let v = c in
-    let p = log-printable _ _ _ v.check_table-c.ensures v.if-c-ne0.false _ w.form_of-w.ensures w.if-n-ne0.false _ u.derive-d.ensures in
-    (p.0, p.1, p.2, omega (arith, u.derive-d.ensures.valid.few, v.requires))
+    let p = log-printable _ _ _ c.check_table-c.ensures c.if-c-ne0.false _ c.form_of-w.ensures c.if-n-ne0.false _ c.derive-d.ensures in
+    (p.0, p.1, p.2, omega (arith, c.derive-d.ensures.valid.few, c.requires))
 
 pub returns : goal.returns
 returns c =
-    let u = c in
-    let w = c in
-    let v = c in
-    log-printed _ _ _ v.check_table-c.ensures _ _ _ v.if-c-ne0.false _ w.form_of-w.ensures w.if-n-ne0.false _ u.derive-d.ensures
-    (form-places (goal.at.returns c).After-form_of-w) (last_places (goal.at.returns c).After-derive-d) c.print_log.ensures
+    log-printed _ _ _ c.check_table-c.ensures _ _ _ c.if-c-ne0.false _ c.form_of-w.ensures c.if-n-ne0.false _ c.derive-d.ensures
+    (search rules) (search rules) c.print_log.ensures

@@ -1,4 +1,3 @@
-use Rattle.std.proofs.Common.{rules}
 use Rattle.printer_call.specs.Answers.{printing_of}
 use Rattle.shorten_call.proofs.Calls.{answer_refused, answer-printed}
 use Rattle.shorten_call.proofs.print_shortening.Goals as goal

@@ -1,6 +1,4 @@
 -- `derivation_word::answering::is_one_too_many` meets its contract. Assumes nothing.
-use Rattle.std.proofs.Common.{rules}
-use borrow.Author.Tests.{not-true, not-false}
 use Rattle.derivation_word.proofs.Turns.{no-and, some_and}
 use Rattle.derivation_word.proofs.answering.is_one_too_many.Goals as goal
 

@@ -1,5 +1,4 @@
 -- `derivation_word::answering::start` meets its contract. Assumes nothing.
-use Rattle.std.proofs.Common.{rules}
 use mathlib.Core.Bool.{true≢false}
 use mathlib.Core.Path.{refl, sym}
 use native.Mathlib.Omega.{arith}
