@@ -1,5 +1,5 @@
 -- What is told for a table and a log's bytes. Assumes nothing.
-use mathlib.Core.Path.{◌≡◌, refl, sym, ◌∙◌, ap, subst}
+use mathlib.Core.Path.{◌≡◌, sym, ◌∙◌, ap, subst}
 use mathlib.Core.List.{List}
 use Prim.Native.Nat.{ℕ, ◌+◌, ◌-◌, ◌≤◌, ◌<◌}
 use native.Mathlib.Omega.{arith}
@@ -11,7 +11,7 @@ use Rattle.specification.specs.Results.{refused, given}
 use Rattle.specification.specs.Letters.{good_table, test_table}
 use Rattle.specification.specs.Records.{test_terms}
 use Rattle.specification.specs.Logs.{Log, Checked, refused_at, accepted, at_step, read_log, steps_letters}
-use Rattle.specification.specs.Printing.{alphabet, input_table}
+use Rattle.specification.specs.Printing.{alphabet}
 use Rattle.specification.specs.LogTexts.{log_text}
 use Rattle.specification.specs.Commands.{checked_text, tested_log, tested_text, unpacked_text, unpack_log, unpack_input}
 use Rattle.theory.specs.Shape.Letters.{table_good_lem, good_short}

@@ -1,5 +1,4 @@
 -- `unpack_word::test_log` meets its contract, test by test. Assumes nothing.
-use Rattle.std.proofs.Common.{rules}
 use native.Mathlib.Omega.{arith}
 use Rattle.logs.proofs.StepRecords.{steps-long}
 use Rattle.unpack_word.proofs.Tests.{first_found, steps-found, last_found}
@@ -27,10 +26,5 @@ test_terms-last-requires c =
 
 pub returns : goal.returns
 returns c =
-    let c1 = c in
-    let c3 = c in
-    let c5 = c in
-    let c6 = c in
-    let c8 = c in
-    last_found _ _ _ _ _ c6.test_terms-first.ensures c5.if-first-ne0.false _ c3.test_steps-found.ensures c1.if-found-ne0.false _ (steps-long _ c8.requires.1) _
+    last_found _ _ _ _ _ c.test_terms-first.ensures c.if-first-ne0.false _ c.test_steps-found.ensures c.if-found-ne0.false _ (steps-long _ c.requires.1) _
     c.test_terms-last.ensures

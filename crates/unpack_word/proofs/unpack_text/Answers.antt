@@ -1,5 +1,4 @@
 -- `unpack_word::unpack_text` meets its contract. Assumes nothing.
-use Rattle.std.proofs.Common.{rules}
 use native.Mathlib.Omega.{arith}
 use Rattle.unpack_word.proofs.Texts.{nothing-told, cut-told, parts-told}
 use Rattle.unpack_word.proofs.unpack_text.Goals as goal
