@@ -4,14 +4,10 @@ use Rattle.assignment_texts.proofs.at_end.Goals as goal
 
 pub returns-then-not-good_assignment : goal.returns-then-not-good_assignment
 returns-then-not-good_assignment c =
-    let c1 = c in
-    let c4 = c in
-    let a = c4.args in
-    end-missing a.table.now a.at a.so.now _ c1.good_assignment.ensures c.if-not-good_assignment.true
+    let a = c.args in
+    end-missing a.table.now a.at a.so.now _ c.good_assignment.ensures c.if-not-good_assignment.true
 
 pub returns : goal.returns
 returns c =
-    let c1 = c in
-    let c4 = c in
-    let a = c4.args in
-    end_given a.table.now a.at a.so.now _ c1.good_assignment.ensures c.if-not-good_assignment.false
+    let a = c.args in
+    end_given a.table.now a.at a.so.now _ c.good_assignment.ensures c.if-not-good_assignment.false

@@ -22,14 +22,10 @@ returns-then-n-ne0 c =
 
 pub print_line-requires : goal.print_line-requires
 print_line-requires c =
-    let w = c in
-    let v = c in
-    let p = form-printable _ _ _ _ v.check_table-c.ensures v.if-c-ne0.false w.form_of-w.ensures w.if-n-ne0.false in
-    (p, v.requires)
+    let p = form-printable _ _ _ _ c.check_table-c.ensures c.if-c-ne0.false c.form_of-w.ensures c.if-n-ne0.false in
+    (p, c.requires)
 
 pub returns : goal.returns
 returns c =
-    let w = c in
-    let v = c in
-    form-printed _ _ _ v.check_table-c.ensures _ _ _ v.if-c-ne0.false _ w.form_of-w.ensures w.if-n-ne0.false
+    form-printed _ _ _ c.check_table-c.ensures _ _ _ c.if-c-ne0.false _ c.form_of-w.ensures c.if-n-ne0.false
     c.print_line.ensures

@@ -8,7 +8,9 @@ use Rattle.reduce_word.proofs.Forms.{LinesFrom}
 use Rattle.reduce_word.proofs.reduce_lines.Given as goal
 
 abbrev pub invariant-loop-left : goal.invariant-loop-left
-invariant-loop-left l = LinesFrom l.s (reduce_lines (length l.s) l.names l.table (place_of l.s l.initial.q) []) l.names l.table l.out l.left l.q l.end × (length l.out ≡ length l.initial.out)
+invariant-loop-left l =
+    LinesFrom l.s (reduce_lines (length l.s) l.names l.table (place_of l.s l.initial.q) []) l.names l.table l.out l.left l.q l.end
+    × (length l.out ≡ length l.initial.out)
 
 abbrev pub decreases-loop-left : goal.decreases-loop-left
 decreases-loop-left l = l.left

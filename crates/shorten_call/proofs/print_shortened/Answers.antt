@@ -1,8 +1,17 @@
 -- `shorten_call::print_shortened` meets its contract, test by test. Assumes nothing.
 use Rattle.std.proofs.Common.{rules}
+use mathlib.Core.Path.{◌≡◌}
 use native.Mathlib.Omega.{arith}
+use lib.ListN.{length}
 use Rattle.shorten_call.proofs.Calls.{table_refused, expression_refused, log-printable, log-printed}
+use Rattle.shorten_call.proofs.print_shortened.Goals.{After-derive-d, After-form_of-w}
 use Rattle.shorten_call.proofs.print_shortened.Goals as goal
+
+form-places : (c : After-form_of-w) → length c.form_of-w.result.form.terms ≡ 48
+form-places c = search rules
+
+last_places : (c : After-derive-d) → length c.derive-d.result.last.terms ≡ 48
+last_places c = search rules
 
 pub returns-then-c-ne0 : goal.returns-then-c-ne0
 returns-then-c-ne0 c =
@@ -25,4 +34,4 @@ print_log-requires c =
 pub returns : goal.returns
 returns c =
     log-printed _ _ _ c.check_table-c.ensures _ _ _ c.if-c-ne0.false _ c.form_of-w.ensures c.if-n-ne0.false _ c.derive-d.ensures
-    (search rules) (search rules) c.print_log.ensures
+    (form-places (goal.at.returns c).After-form_of-w) (last_places (goal.at.returns c).After-derive-d) c.print_log.ensures

@@ -2,13 +2,21 @@
 use Rattle.std.proofs.Common.{rules}
 use mathlib.Core.List.{[]}
 use native.Mathlib.Omega.{arith}
-use mathlib.Core.Path.{sym}
+use mathlib.Core.Path.{◌≡◌, sym}
 use lib.Seq.{length-take-le}
+use lib.ListN.{length}
 use Rattle.telling.proofs.Pieces.{told_first}
 use Rattle.formula_lines.proofs.Forms.{text-inside}
 use Rattle.formula_lines.proofs.OneLine.{header-column, header-table}
 use Rattle.shorten_word.proofs.Answers.{names-told, formula_column, formula_told, more_told, log_tellable, names_fit, log-told}
+use Rattle.shorten_word.proofs.shorten_text.Goals.{After-derive-d, After-form_at-r}
 use Rattle.shorten_word.proofs.shorten_text.Goals as goal
+
+form-places : (c : After-form_at-r) → length c.form_at-r.result.form.terms ≡ 48
+form-places c = search rules
+
+last_places : (c : After-derive-d) → length c.derive-d.result.last.terms ≡ 48
+last_places c = search rules
 
 pub tell_line-requires : goal.tell_line-requires
 tell_line-requires c =
@@ -90,4 +98,4 @@ tell_log-requires c =
 pub returns : goal.returns
 returns c =
     log-told _ _ _ _ _ _ c.read_header-h.ensures c.if-h-ne0.false _ c.form_at-r.ensures c.if-r-ne0.false _ c.line_behind-q.ensures _
-    c.derive-d.ensures c.if-q-s.false (search rules) (search rules) (told_first c.tell_log.ensures)
+    c.derive-d.ensures c.if-q-s.false (form-places (goal.at.returns c).After-form_at-r) (last_places (goal.at.returns c).After-derive-d) (told_first c.tell_log.ensures)

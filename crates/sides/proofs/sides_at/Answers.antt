@@ -7,7 +7,5 @@ use Rattle.sides.proofs.sides_at.Goals as goal
 
 pub returns : goal.returns
 returns c =
-    let c2 = c in
-    let c6 = c in
-    let a = c6.args in
-    sides_as _ _ _ _ (ap (read_sides a.names.now a.table.now) (line_at a.s.now a.p _ c2.line_end-end.ensures)) c.read_sides.ensures
+    let a = c.args in
+    sides_as _ _ _ _ (ap (read_sides a.names.now a.table.now) (line_at a.s.now a.p _ c.line_end-end.ensures)) c.read_sides.ensures

@@ -19,9 +19,7 @@ bounds-names-i c = omega (arith, c.loop-i-test.true)
 
 pub bounds-table-i : goal.bounds-table-i
 bounds-table-i c =
-    let c4 = c in
-    let c10 = c in
-    omega (arith, c4.loop-i-test.true, c10.requires.0)
+    omega (arith, c.loop-i-test.true, c.requires.0)
 
 pub overflow_sub-n : goal.overflow_sub-n
 overflow_sub-n c = omega (arith, c.loop-i-test.true)
@@ -40,16 +38,11 @@ loop-i-smaller c = omega (arith, c.loop-i-test.true)
 
 pub loop-i-preserved : goal.loop-i-preserved
 loop-i-preserved c =
-    let c2 = c in
-    let c6 = c in
-    let c7 = c in
-    let c8 = c in
-    let c13 = c in
-    let a = c13.args in
-    let v = c8.loop-i in (
+    let a = c.args in
+    let v = c.loop-i in (
       entries-more a.names.now a.table.now a.s.now _ v.invariant.0 _
-          c7.loop-i-test.true c13.requires.0 c6.vector_of-v.ensures c2.tell_entry-next.ensures,
-      c2.tell_entry-next.auto.out ∙ v.invariant.1,
+          c.loop-i-test.true c.requires.0 c.vector_of-v.ensures c.tell_entry-next.ensures,
+      c.tell_entry-next.auto.out ∙ v.invariant.1,
     )
 
 pub shape_of-out : goal.shape_of-out

@@ -7,19 +7,11 @@ use Rattle.value_telling.proofs.tell_entry.Goals as goal
 pub returns-then-left-eq0 : goal.returns-then-left-eq0
 unfolding bytes
 returns-then-left-eq0 c =
-    let c3 = c in
-    let c7 = c in
-    let c12 = c in
     tells_as _ (entry-last _ _ _ _ c.if-left-eq0.true)
-    (tells-then (tells-then (tells-then c12.put_byte-a.ensures c7.put-b.ensures) c3.tell_value-c.ensures) (tells-nothing _ _))
+    (tells-then (tells-then (tells-then c.put_byte-a.ensures c.put-b.ensures) c.tell_value-c.ensures) (tells-nothing _ _))
 
 pub returns : goal.returns
 unfolding bytes
 returns c =
-    let c2 = c in
-    let c5 = c in
-    let c8 = c in
-    let c12 = c in
-    let c17 = c in
-    tells_as _ (entry_before _ _ _ _ c5.if-left-eq0.false)
-    (tells-then (tells-then (tells-then c17.put_byte-a.ensures c12.put-b.ensures) c8.tell_value-c.ensures) c2.put.ensures)
+    tells_as _ (entry_before _ _ _ _ c.if-left-eq0.false)
+    (tells-then (tells-then (tells-then c.put_byte-a.ensures c.put-b.ensures) c.tell_value-c.ensures) c.put.ensures)

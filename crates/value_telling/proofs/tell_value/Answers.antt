@@ -5,15 +5,12 @@ use Rattle.value_telling.proofs.tell_value.Goals as goal
 
 pub put_signed-requires : goal.put_signed-requires
 unfolding vec_of
-put_signed-requires c = let w = c in size-told w.args.v.x w.requires.x
+put_signed-requires c = size-told c.args.v.x c.requires.x
 
 pub returns-then-kind-eq0 : goal.returns-then-kind-eq0
 unfolding vec_of
 returns-then-kind-eq0 c =
-    let c2 = c in
-    let c5 = c in
-    let c7 = c in
-    let w = c7 in value_scalar _ _ c5.if-kind-eq0.true (number-told w.args.v.x w.requires.x c2.put_signed.ensures)
+    value_scalar _ _ c.if-kind-eq0.true (number-told c.args.v.x c.requires.x c.put_signed.ensures)
 
 pub returns : goal.returns
 returns c = value_vector _ _ c.if-kind-eq0.false c.tell_vector.ensures

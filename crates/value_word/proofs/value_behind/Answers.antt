@@ -22,8 +22,10 @@ assigned_at-a-requires c =
     (names-named _ _ c.requires.0, c.line_behind-q.ensures.inside, c.requires.2)
 
 pub tell_line-requires-then-a-ne0 : goal.tell_line-requires-then-a-ne0
-tell_line-requires-then-a-ne0 c =
-    (c.line_behind-q.ensures.inside, assigned-column _ _ _ c.args.p _ c.form_at-r.ensures c.if-r-ne0.false _ c.line_behind-q.ensures _ _ c.assigned_at-a.ensures c.if-a-ne0.true)
+tell_line-requires-then-a-ne0 c = (
+  c.line_behind-q.ensures.inside,
+  assigned-column _ _ _ c.args.p _ c.form_at-r.ensures c.if-r-ne0.false _ c.line_behind-q.ensures _ _ c.assigned_at-a.ensures c.if-a-ne0.true,
+)
 
 pub returns-then-a-ne0 : goal.returns-then-a-ne0
 returns-then-a-ne0 c =

@@ -41,5 +41,6 @@ returns-then-n-eq14 c = tells_as _ (ap step_reason (sym c.if-n-eq14.true)) c.put
 pub returns : goal.returns
 unfolding bytes
 returns c =
-    tells_as _ (reason-else _ c.if-n-eq5.false c.if-n-eq6.false c.if-n-eq8.false c.if-n-eq9.false c.if-n-eq10.false c.if-n-eq11.false c.if-n-eq13.false c.if-n-eq14.false)
+    tells_as _ (reason-else _ c.if-n-eq5.false c.if-n-eq6.false c.if-n-eq8.false c.if-n-eq9.false c.if-n-eq10.false
+    c.if-n-eq11.false c.if-n-eq13.false c.if-n-eq14.false)
     c.put-2.ensures

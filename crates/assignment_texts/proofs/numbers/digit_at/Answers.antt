@@ -4,22 +4,15 @@ use Rattle.assignment_texts.proofs.numbers.digit_at.Goals as goal
 
 pub behind-requires : goal.behind-requires
 behind-requires c =
-    let c1 = c in
-    let c3 = c in
-    let a = c3.args in
-    minus-inside a.line.now a.at _ c1.byte_at.ensures c.if-byte_at-eq45.true
+    let a = c.args in
+    minus-inside a.line.now a.at _ c.byte_at.ensures c.if-byte_at-eq45.true
 
 pub returns-then-byte_at-eq45 : goal.returns-then-byte_at-eq45
 returns-then-byte_at-eq45 c =
-    let c1 = c in
-    let c2 = c in
-    let c4 = c in
-    let a = c4.args in
-    digit-behind a.line.now a.at _ c2.byte_at.ensures _ c1.if-byte_at-eq45.true c.behind.ensures
+    let a = c.args in
+    digit-behind a.line.now a.at _ c.byte_at.ensures _ c.if-byte_at-eq45.true c.behind.ensures
 
 pub returns : goal.returns
 returns c =
-    let c1 = c in
-    let c3 = c in
-    let a = c3.args in
-    digit-here a.line.now a.at _ c1.byte_at.ensures c.if-byte_at-eq45.false
+    let a = c.args in
+    digit-here a.line.now a.at _ c.byte_at.ensures c.if-byte_at-eq45.false

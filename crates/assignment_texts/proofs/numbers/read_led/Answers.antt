@@ -4,16 +4,10 @@ use Rattle.assignment_texts.proofs.numbers.read_led.Goals as goal
 
 pub returns-then-lead-ne0 : goal.returns-then-lead-ne0
 returns-then-lead-ne0 c =
-    let c1 = c in
-    let c3 = c in
-    let c5 = c in
-    let a = c5.args in
-    led-torn a.b a.line.now a.at _ c3.read_mark-lead.ensures _ c1.if-lead-ne0.true c.no_component.ensures
+    let a = c.args in
+    led-torn a.b a.line.now a.at _ c.read_mark-lead.ensures _ c.if-lead-ne0.true c.no_component.ensures
 
 pub returns : goal.returns
 returns c =
-    let c1 = c in
-    let c3 = c in
-    let c5 = c in
-    let a = c5.args in
-    led_by_lem a.b a.line.now a.at _ c3.read_mark-lead.ensures _ c1.if-lead-ne0.false c.read_component.ensures
+    let a = c.args in
+    led_by_lem a.b a.line.now a.at _ c.read_mark-lead.ensures _ c.if-lead-ne0.false c.read_component.ensures

@@ -4,20 +4,15 @@ use Rattle.assignment_texts.proofs.numbers.signed_byte.Goals as goal
 
 pub returns-then-not-minus : goal.returns-then-not-minus
 returns-then-not-minus c =
-    let c1 = c in
-    let a = c1.args in
+    let a = c.args in
     byte-plain a.minus a.size c.if-not-minus.true
 
 pub returns-then-size-lt1 : goal.returns-then-size-lt1
 returns-then-size-lt1 c =
-    let c1 = c in
-    let c2 = c in
-    let a = c2.args in
-    byte_zero a.minus a.size c1.if-not-minus.false c.if-size-lt1.true
+    let a = c.args in
+    byte_zero a.minus a.size c.if-not-minus.false c.if-size-lt1.true
 
 pub returns : goal.returns
 returns c =
-    let c1 = c in
-    let c2 = c in
-    let a = c2.args in
-    byte_below a.minus a.size c1.if-not-minus.false c.if-size-lt1.false c2.requires
+    let a = c.args in
+    byte_below a.minus a.size c.if-not-minus.false c.if-size-lt1.false c.requires

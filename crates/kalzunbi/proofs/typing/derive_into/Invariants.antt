@@ -11,7 +11,7 @@ use Rattle.kalzunbi.proofs.Texts.{in_more, in_front_lem}
 use Rattle.kalzunbi.proofs.typing.derive_into.Given as goal
 
 abbrev pub invariant-loop-n : goal.invariant-loop-n
-invariant-loop-n l = (length l.input ≡ length l.initial.input) × (l.n ≤ length l.input) × InText l.n l.p
+invariant-loop-n g l = (length l.input ≡ length l.initial.input) × (l.n ≤ length l.input) × InText l.n l.p
 
 abbrev pub decreases-loop-n : goal.decreases-loop-n
-decreases-loop-n l = length l.input - l.n
+decreases-loop-n g l = length l.input - l.n

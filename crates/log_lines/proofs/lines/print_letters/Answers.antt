@@ -33,31 +33,28 @@ bounds-letters-i c = omega (arith, c.requires.0)
 
 pub letter-requires : goal.letter-requires
 letter-requires c =
-    let s = c in
-    all-at (λ (k : ℕ). k < length s.args.names.now) s.args.letters s.args.n _ 0 (few (goal.at.letter-requires c).Start) c.loop-i-test.true s.requires.1
+    all-at (λ (k : ℕ). k < length c.args.names.now) c.args.letters c.args.n _ 0 (few (goal.at.letter-requires c).Start) c.loop-i-test.true c.requires.1
 
 pub overflow_add-out : goal.overflow_add-out
-overflow_add-out c = let l = c in omega (arith, l.loop-i.invariant.0, l.loop-i.invariant.1.kept)
+overflow_add-out c = omega (arith, c.loop-i.invariant.0, c.loop-i.invariant.1.kept)
 
 pub bounds-out-next-in-loop-i : goal.bounds-out-next-in-loop-i
 bounds-out-next-in-loop-i c = simp length-set (omega (arith, c.loop-i.invariant.0))
 
 pub overflow_add-next : goal.overflow_add-next
-overflow_add-next c = let l = c in omega (arith, l.loop-i.invariant.0, l.loop-i.invariant.1.kept)
+overflow_add-next c = omega (arith, c.loop-i.invariant.0, c.loop-i.invariant.1.kept)
 
 pub overflow_add-i : goal.overflow_add-i
 overflow_add-i c = omega (arith, c.requires.0)
 
 pub loop-i-preserved : goal.loop-i-preserved
 loop-i-preserved c =
-    let l = c in
-    let s = c in
     let i = c.loop-i-test.true in
-    let r : l.loop-i.next + 2 ≤ length l.loop-i.out = omega (arith, l.loop-i.invariant.0, i) in
-    let two : List ℕ = 32 ∷ name_of s.args.names.now (get_or s.args.letters l.loop-i.i 0) ∷ [] in
+    let r : c.loop-i.next + 2 ≤ length c.loop-i.out = omega (arith, c.loop-i.invariant.0, i) in
+    let two : List ℕ = 32 ∷ name_of c.args.names.now (get_or c.args.letters c.loop-i.i 0) ∷ [] in
     let e : two ≡ 32 ∷ c.letter.result ∷ [] = ap (λ (x : ℕ). 32 ∷ x ∷ []) (sym c.letter.ensures) in (
-      simp length-set (omega (arith, l.loop-i.invariant.0, i)),
-      goes_on_lem _ _ _ _ _ _ _ _ _ _ (letter_next _ _ _ _ (few (goal.at.loop-i-preserved c).Start) i) r l.loop-i.invariant.1
+      simp length-set (omega (arith, c.loop-i.invariant.0, i)),
+      goes_on_lem _ _ _ _ _ _ _ _ _ _ (letter_next _ _ _ _ (few (goal.at.loop-i-preserved c).Start) i) r c.loop-i.invariant.1
           (written_stores _ _ _ _ (32 ∷ c.letter.result ∷ []) two e r refl (simp towards_suc)),
     )
 

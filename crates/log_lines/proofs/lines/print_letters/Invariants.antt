@@ -6,7 +6,9 @@ use Rattle.log_lines.proofs.Texts.{letters_from}
 use Rattle.log_lines.proofs.lines.print_letters.Given as goal
 
 abbrev pub invariant-loop-i : goal.invariant-loop-i
-invariant-loop-i l = (l.next + 2 * (l.n - l.i) ≤ length l.out) × UnderWay l.initial.out l.out l.at l.next (letters_from l.names l.letters l.n 0) (letters_from l.names l.letters l.n l.i)
+invariant-loop-i l =
+    (l.next + 2 * (l.n - l.i) ≤ length l.out)
+    × UnderWay l.initial.out l.out l.at l.next (letters_from l.names l.letters l.n 0) (letters_from l.names l.letters l.n l.i)
 
 abbrev pub decreases-loop-i : goal.decreases-loop-i
 decreases-loop-i l = l.n - l.i

@@ -16,8 +16,7 @@ use Rattle.log_lines.proofs.lines.print_log.Goals as goal
 -- the line of the first form ends within the bytes of a line
 first_end_lem : (c : After-print_line-a) → c.print_line-a.result ≤ line_bytes
 first_end_lem c =
-    let s = c in
-    omega (arith, c.print_line-a.ensures.ends, line_short s.args.names.now (form_of s.args.f) s.requires.0.valid.in_shape)
+    omega (arith, c.print_line-a.ensures.ends, line_short c.args.names.now (form_of c.args.f) c.requires.0.valid.in_shape)
 
 -- neither call changes the length
 steps-kept : (c : After-print_steps-b) → length c.print_steps-b.new.out ≡ length c.args.out.now
@@ -27,14 +26,13 @@ steps-kept c = c.print_steps-b.auto.out ∙ c.print_line-a.auto.out
 end : (c : After-print_steps-b) → c.print_steps-b.result ≤ line_bytes + 55 * c.args.q.count
 unfolding steps_of
 end c =
-    let s = c in
-    let q = s.args.q in
+    let q = c.args.q in
     omega (
       arith,
       c.print_line-a.ensures.ends,
-      line_short s.args.names.now (form_of s.args.f) s.requires.0.valid.in_shape,
+      line_short c.args.names.now (form_of c.args.f) c.requires.0.valid.in_shape,
       c.print_steps-b.ensures.ends,
-      steps_short s.args.names.now (take q.count q.steps) s.requires.1.steps,
+      steps_short c.args.names.now (take q.count q.steps) c.requires.1.steps,
       taken_few q.count q.steps,
     )
 
@@ -43,13 +41,12 @@ room : (c : After-print_steps-b) → c.print_steps-b.result + line_bytes ≤ len
 room c = omega (arith, end c, steps-kept c, c.requires.3)
 
 pub print_line-a-requires : goal.print_line-a-requires
-print_line-a-requires c = let s = c in (s.requires.0, omega (arith, s.requires.3))
+print_line-a-requires c = (c.requires.0, omega (arith, c.requires.3))
 
 pub print_steps-b-requires : goal.print_steps-b-requires
 print_steps-b-requires c =
-    let w = c in
-    let s = w in
-    (s.requires.1, omega (arith, first_end_lem (goal.at.print_steps-b-requires c).After-print_line-a, w.print_line-a.auto.out, s.requires.1.valid.few, s.requires.3))
+    let e = first_end_lem (goal.at.print_steps-b-requires c).After-print_line-a in
+    (c.requires.1, omega (arith, e, c.print_line-a.auto.out, c.requires.1.valid.few, c.requires.3))
 
 pub slice_bounds-print_line-count : goal.slice_bounds-print_line-count
 slice_bounds-print_line-count c = omega (arith, room (goal.at.slice_bounds-print_line-count c).After-print_steps-b)
@@ -59,26 +56,21 @@ slice_bounds-print_line-start c = omega (arith, room (goal.at.slice_bounds-print
 
 pub print_line-requires : goal.print_line-requires
 print_line-requires c =
-    let w = c in
-    let o = w.print_steps-b.new.out in
-    (w.requires.2, omega (arith, room (goal.at.print_line-requires c).After-print_steps-b, mid_len w.print_steps-b.result (length o) o (omega arith)))
+    let o = c.print_steps-b.new.out in
+    (c.requires.2, omega (arith, room (goal.at.print_line-requires c).After-print_steps-b, mid_len c.print_steps-b.result (length o) o (omega arith)))
 
 pub overflow_add-result : goal.overflow_add-result
 overflow_add-result c =
-    let w = c in
-    let s = w in
-    let h = line_short s.args.names.now (form_of s.args.g) s.requires.2.valid.in_shape in
-    omega (arith, c.print_line.ensures.ends, h, end (goal.at.overflow_add-result c).After-print_steps-b, s.requires.1.valid.few)
+    let h = line_short c.args.names.now (form_of c.args.g) c.requires.2.valid.in_shape in
+    omega (arith, c.print_line.ensures.ends, h, end (goal.at.overflow_add-result c).After-print_steps-b, c.requires.1.valid.few)
 
 pub shape_of-out : goal.shape_of-out
 shape_of-out c =
-    let w = c in
-    let o = w.print_steps-b.new.out in
+    let o = c.print_steps-b.new.out in
     let p = c.print_line in
-    same_len_mid w.print_steps-b.result (length o - w.print_steps-b.result) o p.new.out p.auto.out ∙ steps-kept (goal.at.shape_of-out c).After-print_steps-b
+    same_len_mid c.print_steps-b.result (length o - c.print_steps-b.result) o p.new.out p.auto.out ∙ steps-kept (goal.at.shape_of-out c).After-print_steps-b
 
 pub returns : goal.returns
 returns c =
-    let w = c in
-    log_written _ _ _ _ _ _ _ _ _ _ w.print_line-a.ensures w.print_steps-b.ensures (omega (arith, room (goal.at.returns c).After-print_steps-b))
+    log_written _ _ _ _ _ _ _ _ _ _ c.print_line-a.ensures c.print_steps-b.ensures (omega (arith, room (goal.at.returns c).After-print_steps-b))
     c.print_line.ensures

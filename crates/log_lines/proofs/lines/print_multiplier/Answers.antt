@@ -45,13 +45,14 @@ pub bounds-out-at-6 : goal.bounds-out-at-6
 bounds-out-at-6 c = simp length-set (omega arith)
 
 pub print_single-end-requires : goal.print_single-end-requires
-print_single-end-requires c = let s = c in (s.requires.0, simp length-set (omega (arith, s.requires.1)))
+print_single-end-requires c = (c.requires.0, simp length-set (omega (arith, c.requires.1)))
 
 pub bounds-out-end : goal.bounds-out-end
 bounds-out-end c = (written (goal.at.bounds-out-end c).After-print_single-end).0
 
 pub overflow_add-result : goal.overflow_add-result
-overflow_add-result c = omega (arith, (written (goal.at.overflow_add-result c).After-print_single-end).0, kept (goal.at.overflow_add-result c).After-print_single-end)
+overflow_add-result c =
+    let w = (goal.at.overflow_add-result c).After-print_single-end in omega (arith, (written w).0, kept w)
 
 pub shape_of-out : goal.shape_of-out
 shape_of-out c = simp length-set (kept (goal.at.shape_of-out c).After-print_single-end)

@@ -20,24 +20,22 @@ letters-kept : (c : After-print_letters-behind) → length c.print_letters-behin
 letters-kept c = c.print_letters-behind.auto.out ∙ c.print_rule-first.auto.out
 
 pub print_rule-first-requires : goal.print_rule-first-requires
-print_rule-first-requires c = let s = c in (small (goal.at.print_rule-first-requires c).Start, omega (arith, s.requires.1))
+print_rule-first-requires c = (small (goal.at.print_rule-first-requires c).Start, omega (arith, c.requires.1))
 
 pub print_letters-behind-requires : goal.print_letters-behind-requires
 print_letters-behind-requires c =
-    let w = c in
-    let s = w in
-    let n = w.rule_letters-n.ensures in
-    (n.1, rw n.0 s.requires.0.letters, omega (arith, n.1, s.requires.1, rule_end (goal.at.print_letters-behind-requires c).After-print_rule-first, w.print_rule-first.auto.out))
+    let n = c.rule_letters-n.ensures in
+    let e = rule_end (goal.at.print_letters-behind-requires c).After-print_rule-first in
+    (n.1, rw n.0 c.requires.0.letters, omega (arith, n.1, c.requires.1, e, c.print_rule-first.auto.out))
 
 pub print_multiplier-requires : goal.print_multiplier-requires
 print_multiplier-requires c =
-    let v = c in
-    let w = c in
-    let s = w in
-    let n = w.rule_letters-n in
-    let h = letters_short s.args.names.now n.result s.args.s.letters in (
-      record { valid = s.requires.0.valid.m; letters = s.requires.0.m },
-      omega (arith, n.ensures.1, s.requires.1, rule_end (goal.at.print_multiplier-requires c).After-print_rule-first, v.print_letters-behind.ensures.ends, h, letters-kept (goal.at.print_multiplier-requires c).After-print_letters-behind),
+    let n = c.rule_letters-n in
+    let h = letters_short c.args.names.now n.result c.args.s.letters in
+    let e = rule_end (goal.at.print_multiplier-requires c).After-print_rule-first in
+    let k = letters-kept (goal.at.print_multiplier-requires c).After-print_letters-behind in (
+      record { valid = c.requires.0.valid.m; letters = c.requires.0.m },
+      omega (arith, n.ensures.1, c.requires.1, e, c.print_letters-behind.ensures.ends, h, k),
     )
 
 pub shape_of-out : goal.shape_of-out
@@ -45,8 +43,5 @@ shape_of-out c = c.print_multiplier.auto.out ∙ letters-kept (goal.at.shape_of-
 
 pub returns : goal.returns
 returns c =
-    let v = c in
-    let w = c in
-    let s = w in
-    step_written s.args.names.now s.args.s _ _ _ _ _ _ _ _ _ w.rule_letters-n.ensures.0 (omega (arith, s.requires.1))
-    w.print_rule-first.ensures v.print_letters-behind.ensures c.print_multiplier.ensures
+    step_written c.args.names.now c.args.s _ _ _ _ _ _ _ _ _ c.rule_letters-n.ensures.0 (omega (arith, c.requires.1))
+    c.print_rule-first.ensures c.print_letters-behind.ensures c.print_multiplier.ensures

@@ -27,9 +27,11 @@ bounds-q-i c = omega (arith, c.requires.0.valid.few)
 pub print_step-next-requires : goal.print_step-next-requires
 print_step-next-requires c =
     let v = c.loop-i in
-    let s = c in
-    let t = c.loop-i-test.true in
-    (all-at (StepPrintable s.args.names.now) s.args.q.steps s.args.q.count v.i _ (few (goal.at.print_step-next-requires c).Start) t s.requires.0.steps, omega (arith, t, v.invariant.0))
+    let t = c.loop-i-test.true in (
+      all-at (StepPrintable c.args.names.now) c.args.q.steps c.args.q.count v.i _
+          (few (goal.at.print_step-next-requires c).Start) t c.requires.0.steps,
+      omega (arith, t, v.invariant.0),
+    )
 
 pub overflow_add-i : goal.overflow_add-i
 overflow_add-i c = omega (arith, c.requires.0.valid.few)
@@ -37,13 +39,14 @@ overflow_add-i c = omega (arith, c.requires.0.valid.few)
 pub loop-i-preserved : goal.loop-i-preserved
 loop-i-preserved c =
     let v = c.loop-i in
-    let s = c in
     let t = c.loop-i-test.true in
     let w = c.print_step-next in
-    let p = all-at (StepPrintable s.args.names.now) s.args.q.steps s.args.q.count v.i no_step (few (goal.at.loop-i-preserved c).Start) t s.requires.0.steps in
-    let h = step_text_short s.args.names.now (get_or s.args.q.steps v.i no_step) p in (
+    let p = all-at (StepPrintable c.args.names.now) c.args.q.steps c.args.q.count v.i no_step
+    (few (goal.at.loop-i-preserved c).Start) t c.requires.0.steps in
+    let h = step_text_short c.args.names.now (get_or c.args.q.steps v.i no_step) p in (
       omega (arith, t, v.invariant.0, w.ensures.ends, h, w.auto.out),
-      goes_on_lem _ _ _ _ _ _ _ _ _ _ (step-next _ _ _ _ (few (goal.at.loop-i-preserved c).Start) no_step t) (omega (arith, t, v.invariant.0, h)) v.invariant.1 w.ensures,
+      goes_on_lem _ _ _ _ _ _ _ _ _ _ (step-next _ _ _ _ (few (goal.at.loop-i-preserved c).Start) no_step t) (omega (arith, t, v.invariant.0, h))
+          v.invariant.1 w.ensures,
     )
 
 pub shape_of-out : goal.shape_of-out
@@ -52,5 +55,4 @@ shape_of-out c = c.loop-i.invariant.1.kept
 pub returns : goal.returns
 unfolding steps_of
 returns c =
-    let s = c in
-    ended _ _ _ _ _ _ (steps-end _ s.args.q.steps s.args.q.count _ (few (goal.at.returns c).Start) c.loop-i-test.false) c.loop-i.invariant.1
+    ended _ _ _ _ _ _ (steps-end _ c.args.q.steps c.args.q.count _ (few (goal.at.returns c).Start) c.loop-i-test.false) c.loop-i.invariant.1

@@ -5,33 +5,22 @@ use Rattle.log_texts.proofs.kinds.kind_at.Goals as goal
 
 pub overflow_add-result : goal.overflow_add-result
 overflow_add-result c =
-    let c1 = c in
-    let c4 = c in
-    let c9 = c in
-    let a = c9.args in
+    let a = c.args in
     omega (
       arith,
-      column_inside a.names.now a.table.now a.line.now a.at _ c4.form_of_text-t.ensures c9.requires.1 c1.if-t-ne0.true,
+      column_inside a.names.now a.table.now a.line.now a.at _ c.form_of_text-t.ensures c.requires.1 c.if-t-ne0.true,
     )
 
 pub returns-then-t-ne0 : goal.returns-then-t-ne0
 returns-then-t-ne0 c =
-    let c1 = c in
-    let c4 = c in
-    let c9 = c in
-    let a = c9.args in
-    kind_refused a.names.now a.table.now a.line.now a.at _ c4.form_of_text-t.ensures a.kind c1.if-t-ne0.true
+    let a = c.args in
+    kind_refused a.names.now a.table.now a.line.now a.at _ c.form_of_text-t.ensures a.kind c.if-t-ne0.true
 
 pub of_kind-requires : goal.of_kind-requires
 of_kind-requires c =
-    let c3 = c in
-    let c8 = c in
-    (c3.form_of_text-t.ensures.valid c.if-t-ne0.false, c8.requires.2)
+    (c.form_of_text-t.ensures.valid c.if-t-ne0.false, c.requires.2)
 
 pub returns : goal.returns
 returns c =
-    let c1 = c in
-    let c4 = c in
-    let c9 = c in
-    let a = c9.args in
-    kind_given a.names.now a.table.now a.line.now a.at _ c4.form_of_text-t.ensures a.kind _ c1.if-t-ne0.false c.of_kind.ensures
+    let a = c.args in
+    kind_given a.names.now a.table.now a.line.now a.at _ c.form_of_text-t.ensures a.kind _ c.if-t-ne0.false c.of_kind.ensures

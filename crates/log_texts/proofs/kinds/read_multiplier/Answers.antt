@@ -5,22 +5,16 @@ use Rattle.log_texts.proofs.kinds.read_multiplier.Goals as goal
 
 pub overflow_add-at : goal.overflow_add-at
 overflow_add-at c =
-    let c1 = c in
-    let c3 = c in
-    let c8 = c in
-    let a = c8.args in
+    let a = c.args in
     omega (
       arith,
-      column_inside a.names.now a.table.now a.line.now a.at _ c3.form_of_text-t.ensures c8.requires.1 c1.if-t-ne0.true,
+      column_inside a.names.now a.table.now a.line.now a.at _ c.form_of_text-t.ensures c.requires.1 c.if-t-ne0.true,
     )
 
 pub returns-then-t-ne0 : goal.returns-then-t-ne0
 returns-then-t-ne0 c =
-    let c2 = c in
-    let c4 = c in
-    let c9 = c in
-    let a = c9.args in
-    multiplier_refused a.names.now a.table.now a.line.now a.at _ c4.form_of_text-t.ensures _ c2.if-t-ne0.true
+    let a = c.args in
+    multiplier_refused a.names.now a.table.now a.line.now a.at _ c.form_of_text-t.ensures _ c.if-t-ne0.true
     c.no_multiplier.ensures
 
 pub one_term-requires : goal.one_term-requires
@@ -28,8 +22,5 @@ one_term-requires c = c.form_of_text-t.ensures.valid c.if-t-ne0.false
 
 pub returns : goal.returns
 returns c =
-    let c2 = c in
-    let c4 = c in
-    let c9 = c in
-    let a = c9.args in
-    multiplier-by a.names.now a.table.now a.line.now a.at _ c4.form_of_text-t.ensures c2.if-t-ne0.false _ c.one_term.ensures
+    let a = c.args in
+    multiplier-by a.names.now a.table.now a.line.now a.at _ c.form_of_text-t.ensures c.if-t-ne0.false _ c.one_term.ensures

@@ -9,43 +9,29 @@ loop-i-init c = let a = c.args in letters-begin a.names.now a.line.now a.at a.n 
 
 pub one_letter-q-requires : goal.one_letter-q-requires
 one_letter-q-requires c =
-    let c4 = c in
-    c4.requires.1
+    c.requires.1
 
 pub returns-then-q-ne0 : goal.returns-then-q-ne0
 returns-then-q-ne0 c =
-    let c2 = c in
-    let c3 = c in
-    let c4 = c in
-    let c7 = c in
-    let v = c4.loop-i in
-    letters_refused _ c7.args.names.now c7.args.line.now _ _ _ _ v.invariant c3.loop-i-test.true c7.requires.0 _ c2.one_letter-q.ensures
+    let v = c.loop-i in
+    letters_refused _ c.args.names.now c.args.line.now _ _ _ _ v.invariant c.loop-i-test.true c.requires.0 _ c.one_letter-q.ensures
     c.if-q-ne0.true
 
 pub bounds-letters-i : goal.bounds-letters-i
 bounds-letters-i c =
-    let c3 = c in
-    let c4 = c in
-    let c7 = c in
-    omega (arith, c3.loop-i-test.true, c7.requires.0, c4.loop-i.invariant.six)
+    omega (arith, c.loop-i-test.true, c.requires.0, c.loop-i.invariant.six)
 
 pub overflow_add-i : goal.overflow_add-i
 overflow_add-i c =
-    let c3 = c in
-    let c7 = c in
-    omega (arith, c3.loop-i-test.true, c7.requires.0)
+    omega (arith, c.loop-i-test.true, c.requires.0)
 
 pub loop-i-smaller : goal.loop-i-smaller
 loop-i-smaller c = omega (arith, c.loop-i-test.true)
 
 pub loop-i-preserved : goal.loop-i-preserved
 loop-i-preserved c =
-    let c2 = c in
-    let c3 = c in
-    let c4 = c in
-    let c7 = c in
-    let v = c4.loop-i in
-    letters_more _ c7.args.names.now c7.args.line.now _ _ _ _ v.invariant c3.loop-i-test.true c7.requires.0 _ c2.one_letter-q.ensures
+    let v = c.loop-i in
+    letters_more _ c.args.names.now c.args.line.now _ _ _ _ v.invariant c.loop-i-test.true c.requires.0 _ c.one_letter-q.ensures
     c.if-q-ne0.false
 
 pub returns : goal.returns

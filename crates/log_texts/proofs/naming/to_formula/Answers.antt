@@ -4,26 +4,15 @@ use Rattle.log_texts.proofs.naming.to_formula.Goals as goal
 
 pub returns-then-comma-ne0 : goal.returns-then-comma-ne0
 returns-then-comma-ne0 c =
-    let c2 = c in
-    let c4 = c in
-    let a = c4.args in
-    no_comma a.line.now a.at _ c2.read_mark-comma.ensures c.if-comma-ne0.true
+    let a = c.args in
+    no_comma a.line.now a.at _ c.read_mark-comma.ensures c.if-comma-ne0.true
 
 pub returns-then-letter-ne0 : goal.returns-then-letter-ne0
 returns-then-letter-ne0 c =
-    let c2 = c in
-    let c3 = c in
-    let c5 = c in
-    let c7 = c in
-    let a = c7.args in
-    no_m a.line.now a.at _ c5.read_mark-comma.ensures c3.if-comma-ne0.false _ c2.read_mark-letter.ensures c.if-letter-ne0.true
+    let a = c.args in
+    no_m a.line.now a.at _ c.read_mark-comma.ensures c.if-comma-ne0.false _ c.read_mark-letter.ensures c.if-letter-ne0.true
 
 pub returns : goal.returns
 returns c =
-    let c1 = c in
-    let c3 = c in
-    let c4 = c in
-    let c6 = c in
-    let c8 = c in
-    let a = c8.args in
-    formula_at a.line.now a.at _ c6.read_mark-comma.ensures c4.if-comma-ne0.false _ c3.read_mark-letter.ensures c1.if-letter-ne0.false _ c.read_mark.ensures
+    let a = c.args in
+    formula_at a.line.now a.at _ c.read_mark-comma.ensures c.if-comma-ne0.false _ c.read_mark-letter.ensures c.if-letter-ne0.false _ c.read_mark.ensures

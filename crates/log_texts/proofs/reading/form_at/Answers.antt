@@ -7,8 +7,6 @@ use Rattle.log_texts.proofs.reading.form_at.Goals as goal
 
 pub returns : goal.returns
 returns c =
-    let c2 = c in
-    let c6 = c in
-    let a = c6.args in
-    gives_as _ _ _ (ap (read_form_line a.names.now a.table.now) (line_at a.s.now a.p _ c2.line_end-end.ensures))
+    let a = c.args in
+    gives_as _ _ _ (ap (read_form_line a.names.now a.table.now) (line_at a.s.now a.p _ c.line_end-end.ensures))
     c.read_form_line.ensures

@@ -8,6 +8,4 @@ use Rattle.log_texts.proofs.reading.is_step_line.Goals as goal
 pub returns : goal.returns
 unfolding is_step_line bytes
 returns c =
-    let c2 = c in
-    let c4 = c in
-    c.is_word_at.ensures ∙ ap (is_word_at (bytes "rule") c4.args.line.now) c2.past_blanks-at.ensures
+    c.is_word_at.ensures ∙ ap (is_word_at (bytes "rule") c.args.line.now) c.past_blanks-at.ensures

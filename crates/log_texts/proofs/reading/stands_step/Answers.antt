@@ -6,6 +6,4 @@ use Rattle.log_texts.proofs.reading.stands_step.Goals as goal
 
 pub returns : goal.returns
 returns c =
-    let c2 = c in
-    let c4 = c in
-    c.is_step_line.ensures ∙ ap is_step_line (line_at _ c4.args.p _ c2.line_end-end.ensures)
+    c.is_step_line.ensures ∙ ap is_step_line (line_at _ c.args.p _ c.line_end-end.ensures)

@@ -8,8 +8,6 @@ use Rattle.log_texts.proofs.reading.step_at.Goals as goal
 
 pub returns : goal.returns
 returns c =
-    let c2 = c in
-    let c6 = c in
-    let a = c6.args in
+    let a = c.args in
     subst (λ (l : List ℕ). StepLineRead a.names.now a.table.now l c.read_step_line.result)
-    (line_at a.s.now a.p _ c2.line_end-end.ensures) c.read_step_line.ensures
+    (line_at a.s.now a.p _ c.line_end-end.ensures) c.read_step_line.ensures
