@@ -13,7 +13,7 @@ pub loop-at-smaller : goal.loop-at-smaller
 loop-at-smaller c = omega (arith, c.call_at-next.ensures)
 
 pub loop-at-preserved : goal.loop-at-preserved
-loop-at-preserved c = c.call_at-next.auto.1.1.0 ∙ c.loop-at.invariant
+loop-at-preserved c = c.call_at-next.auto.held ∙ c.loop-at.invariant
 
 pub shape_of-held : goal.shape_of-held
 shape_of-held c = c.loop-at.invariant
