@@ -14,9 +14,8 @@ loop-at-smaller c = omega (arith, c.case_at-at.ensures)
 
 pub loop-at-preserved : goal.loop-at-preserved
 loop-at-preserved c =
-    let w = c.case_at-at.auto in
     let i = c.loop-at.invariant in
-    (w.1.1.0 ∙ i.0, w.1.1.1.0 ∙ i.1)
+    (c.case_at-at.auto.buffer ∙ i.0, c.case_at-at.auto.work ∙ i.1)
 
 pub shape_of-buffer : goal.shape_of-buffer
 shape_of-buffer c = c.loop-at.invariant.0
