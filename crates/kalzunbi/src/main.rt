@@ -65,6 +65,9 @@ fn answer_input<R: Read>(word: &[u8], input: &mut R) {
 // The file of a name; what hinders is told on standard error.
 fn opened(rt: &HostRuntime, path: &[u8]) -> Option<File> {
     let Ok(name) = str::from_utf8(path) else {
+        if eprintln!(rt; "the file's name is not UTF-8").is_err() {
+            return None;
+        }
         return None;
     };
     match File::open(rt, name) {
