@@ -12,7 +12,10 @@ use Rattle.specification.specs.Text.{Placed, refused_at, placed, is_digit, next}
 use Rattle.specification.specs.AssignmentTexts.{read_component}
 use Rattle.theory.specs.Text.Bounds.{there}
 use Rattle.texts.proofs.Standing.{digit-from}
-use Rattle.assignment_texts.specs.declared.numbers.Component.{Component}
+use Rattle.std.specs.Prelude.{Ok, Err}
+use Rattle.refusal.specs.declared.Refusal.{Refusal}
+use Rattle.refusal.specs.declared.Refusal.TheVariants.{Torn, WrongAssignment}
+use Rattle.refusal.specs.Numbers.{number_of}
 use Rattle.assignment_texts.specs.Numbers.{ComponentRead}
 
 -- ════ the sign
@@ -60,16 +63,13 @@ module _ (line : List ℕ) (at sign first b : ℕ) (t : Bool) (hs : sign ≡ get
   component_is =
       ap (λ (f : ℕ). component line (get_or line at 0) f (get_or line f 0)) (sym hf) ∙ (λ i. component line (sym hs i) first (sym hb i))
 
-  refused_with : (number : ℕ) (r : Component) → (number ≡ 0 → ⊥) → (r.refusal ≡ number) × (r.column ≡ first)
-      → component line sign first b ≡ refused_at number first → ComponentRead (read_component line at) r
-  refused_with number r z q h = record {
-    refuses = λ _. component_is ∙ h ∙ (λ i. refused_at (sym q.0 i) (sym q.1 i));
-    gives = λ e. absurd (z (sym q.0 ∙ e));
-  }
+  refused_with : (why : Refusal) → component line sign first b ≡ refused_at (number_of why) first
+      → ComponentRead (read_component line at) (Err (record { why = why; column = first }))
+  refused_with why h = record { is = component_is ∙ h }
 
   -- no digit
-  pub component-torn : (r : Component) → t ≡ false → (r.refusal ≡ 4) × (r.column ≡ first) → ComponentRead (read_component line at) r
-  component-torn r e q = refused_with 4 r (λ z. omega (arith, z)) q (rw (sym ht ∙ e))
+  pub component-torn : t ≡ false → ComponentRead (read_component line at) (Err (record { why = Torn; column = first }))
+  component-torn e = refused_with Torn (rw (sym ht ∙ e))
 
   module _ (e : t ≡ true) where
     -- the digit is in the line, and at least 48
@@ -80,10 +80,8 @@ module _ (line : List ℕ) (at sign first b : ℕ) (t : Bool) (hs : sign ≡ get
     digit-least = digit-from b t ht e
 
     -- beyond 6
-    pub component-beyond : (r : Component) → 54 < b → (r.refusal ≡ 12) × (r.column ≡ first) → ComponentRead (read_component line at) r
-    component-beyond r h q =
-        let k : 6 < b - 48 = omega arith in
-        refused_with 12 r (λ z. omega (arith, z)) q (rw (sym ht ∙ e, lt-ltb 6 (b - 48) k))
+    pub component-beyond : 54 < b → ComponentRead (read_component line at) (Err (record { why = WrongAssignment; column = first }))
+    component-beyond h = let k : 6 < b - 48 = omega arith in refused_with WrongAssignment (rw (sym ht ∙ e, lt-ltb 6 (b - 48) k))
 
     module _ (h : b ≤ 54) (w : ℕ) (u : Bool) (hw : w ≡ get_or line (first + 1) 0) (hu : u ≡ is_digit w) where
       small : ltb 6 (b - 48) ≡ false
@@ -93,13 +91,10 @@ module _ (line : List ℕ) (at sign first b : ℕ) (t : Bool) (hs : sign ≡ get
       further = ap is_digit (sym hw) ∙ sym hu
 
       -- a second digit
-      pub component-long : (r : Component) → u ≡ true → (r.refusal ≡ 12) × (r.column ≡ first) → ComponentRead (read_component line at) r
-      component-long r f q = refused_with 12 r (λ z. omega (arith, z)) q (rw (sym ht ∙ e, small, further ∙ f))
+      pub component-long : u ≡ true → ComponentRead (read_component line at) (Err (record { why = WrongAssignment; column = first }))
+      component-long f = refused_with WrongAssignment (rw (sym ht ∙ e, small, further ∙ f))
 
       -- one digit
       pub component-there : (byte after : ℕ) → u ≡ false → byte ≡ (when eqb sign 45 && leb 1 (b - 48) then 256 - (b - 48) else b - 48) → after ≡ next line first
-          → ComponentRead (read_component line at) (record { refusal = 0; column = 0; at = after; byte = byte })
-      component-there byte after f p q = record {
-        refuses = λ z. absurd (z refl);
-        gives = λ _. component_is ∙ rw (sym ht ∙ e, small, further ∙ f) (λ i. placed (sym p i, sym q i));
-      }
+          → ComponentRead (read_component line at) (Ok (record { at = after; byte = byte }))
+      component-there byte after f p q = record { is = component_is ∙ rw (sym ht ∙ e, small, further ∙ f) (λ i. placed (sym p i, sym q i)) }

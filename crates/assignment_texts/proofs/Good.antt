@@ -13,7 +13,7 @@ use Rattle.specification.specs.Evaluation.{six_or_less, rest_is_zero, good_assig
 use Rattle.specification.specs.Text.{Placed, refused_at, placed, ◌>>=◌, is_letter, place_of, skip, next}
 use Rattle.specification.specs.LogTexts.{mark}
 use Rattle.specification.specs.AssignmentTexts.{read_value, put_three, none_yet, read_assigned}
-use Rattle.assignment_texts.specs.declared.Assigned.{Assigned}
+use Rattle.std.specs.Prelude.{Ok}
 use Rattle.assignment_texts.specs.Assigned.{AssignedRead}
 
 -- a refusal gives nothing
@@ -80,11 +80,11 @@ and_right : (a b : Bool) → (a && b) ≡ true → b ≡ true
 and_right true b e = e
 and_right false b e = absurd (true≢false (sym e))
 
-module _ (names table line so : List ℕ) (r : Assigned)
-    (h : AssignedRead (read_assigned (length line) names table line (skip line 0) (none_yet table)) r so) (z : r.refusal ≡ 0) where
+module _ (names table line so : List ℕ) (u : Unit {0})
+    (h : AssignedRead (read_assigned (length line) names table line (skip line 0) (none_yet table)) (Ok u) so) where
   -- the numbers are an assignment of the table
   pub read_good : good_assignment table so ≡ true
-  read_good = assigned_good names table line (length line) (skip line 0) (none_yet table) so (h.gives z)
+  read_good = assigned_good names table line (length line) (skip line 0) (none_yet table) so (h.is)
 
   -- each is from -6 to 6
   pub read_small : all six_or_less so ≡ true
@@ -97,4 +97,4 @@ module _ (names table line so : List ℕ) (r : Assigned)
   pub read_some : line ≡ [] → ⊥
   unfolding read_assigned
   read_some e =
-      nothing 4 (skip [] 0) so (sym (ap (λ (l : List ℕ). read_assigned (length l) names table l (skip l 0) (none_yet table)) e) ∙ h.gives z)
+      nothing 4 (skip [] 0) so (sym (ap (λ (l : List ℕ). read_assigned (length l) names table l (skip l 0) (none_yet table)) e) ∙ h.is)

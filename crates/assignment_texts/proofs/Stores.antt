@@ -24,14 +24,3 @@ three-stored n x y z l h =
     let second : 3 * n + 1 ≡ suc (3 * n) = omega arith in
     let third : 3 * n + 2 ≡ suc (suc (3 * n)) = omega arith in
     (λ i. set (set (set l (3 * n) x) (second i) y) (third i) z) ∙ sets-eq (x ∷ y ∷ z ∷ []) l (3 * n) h
-
--- ════ one byte after the other
-
--- one more
-pub cleared_more : (l : List ℕ) (i : ℕ) → i < length l → take i l ≡ replicate i 127 → take (i + 1) (set l i 127) ≡ replicate (i + 1) 127
-cleared_more l i h e =
-    ap (λ (j : ℕ). take j (set l i 127)) (add-one i) ∙ take-suc-set l i 127 h ∙ ap (λ (s : List ℕ). s ++ 127 ∷ []) e ∙ replicate-append-replicate i 1 127
-
--- all
-pub cleared_all : (l : List ℕ) (i n : ℕ) → length l ≡ n → i ≤ length l → length l ≤ i → take i l ≡ replicate i 127 → l ≡ replicate n 127
-cleared_all l i n q h g e = let k : i ≡ n = omega arith in sym (take_all i l g) ∙ e ∙ ap (λ (j : ℕ). replicate j 127) k

@@ -6,7 +6,9 @@ use borrow.Author.Tests.{eq-eqb, ne_eqb}
 use Rattle.specification.specs.Text.{Placed, refused_at, placed, ◌>>=◌}
 use Rattle.specification.specs.LogTexts.{mark}
 use Rattle.specification.specs.AssignmentTexts.{read_component, read_value}
-use Rattle.log_texts.specs.declared.naming.Mark.{Mark}
+use Rattle.std.specs.Prelude.{Ok, Err}
+use Rattle.std.specs.Prelude as Std
+use Rattle.texts.specs.declared.Unread.{Unread}
 use Rattle.log_texts.specs.Letters.{MarkRead}
 use Rattle.assignment_texts.specs.declared.numbers.Component.{Component}
 use Rattle.assignment_texts.specs.declared.numbers.Numbers.{Numbers}
@@ -14,87 +16,69 @@ use Rattle.assignment_texts.specs.Numbers.{ComponentRead, led_by, LedRead, three
 
 -- ════ a component behind a byte that has to stand
 
-module _ (b : ℕ) (line : List ℕ) (at : ℕ) (m : Mark) (hm : MarkRead line (mark b line at) m) where
+module _ (b : ℕ) (line : List ℕ) (at : ℕ) where
   -- the byte does not stand
-  pub led-torn : (r : Component) → (m.refusal ≡ 0 → ⊥) → (r.refusal ≡ m.refusal) × (r.column ≡ m.column) → LedRead b line at r
+  pub led-torn : (u : Unread) → MarkRead line (mark b line at) (Err u) → LedRead b line at (Err u)
   unfolding led_by
-  led-torn r z q = record {
-    refuses = λ _ rest. rw (hm.refuses z) (λ i. refused_at (sym q.0 i) (sym q.1 i));
-    gives = λ e. absurd (z (sym q.0 ∙ e));
-  }
+  led-torn u h = record { is = λ rest. rw h.is }
 
   -- the component decides
-  pub led_by_lem : (r : Component) → m.refusal ≡ 0 → ComponentRead (read_component line m.at) r → LedRead b line at r
+  pub led_by_lem : (m : ℕ) → MarkRead line (mark b line at) (Ok m) → (r : Std.Result Component Unread) → ComponentRead (read_component line m) r → LedRead b line at r
   unfolding led_by
-  led_by_lem r z h = record {
-    refuses = λ y rest. rw (hm.gives z, h.refuses y);
-    gives = λ y rest. rw (hm.gives z, h.gives y);
-  }
+  led_by_lem m hm r h = record { is = λ rest. rw (hm.is, h.is) }
 
 -- ════ three
 
--- a refusal is handed on
-handed : (x : Placed (List ℕ × ℕ)) (n c : ℕ) (r : Numbers) → (n ≡ 0 → ⊥) → (r.refusal ≡ n) × (r.column ≡ c) → x ≡ refused_at n c → NumbersRead x r
-handed x n c r z q h = record {
-  refuses = λ _. h ∙ (λ i. refused_at (sym q.0 i) (sym q.1 i));
-  gives = λ e. absurd (z (sym q.0 ∙ e));
-}
-
-module _ (line : List ℕ) (at : ℕ) (x : Component) (hx : LedRead 40 line at x) where
+module _ (line : List ℕ) (at : ℕ) where
   -- no first number
-  pub three_first : (r : Numbers) → (x.refusal ≡ 0 → ⊥) → (r.refusal ≡ x.refusal) × (r.column ≡ x.column) → NumbersRead (three_at line at) r
+  pub three_first : (u : Unread) → LedRead 40 line at (Err u) → NumbersRead (three_at line at) (Err u)
   unfolding three_at
-  three_first r z q = handed _ x.refusal x.column r z q (hx.refuses z _)
+  three_first u h = record { is = h.is _ }
 
-  module _ (zx : x.refusal ≡ 0) (y : Component) (hy : LedRead 44 line x.at y) where
+  module _ (x : Component) (hx : LedRead 40 line at (Ok x)) where
     -- no second
-    pub three-second : (r : Numbers) → (y.refusal ≡ 0 → ⊥) → (r.refusal ≡ y.refusal) × (r.column ≡ y.column) → NumbersRead (three_at line at) r
+    pub three-second : (u : Unread) → LedRead 44 line x.at (Err u) → NumbersRead (three_at line at) (Err u)
     unfolding three_at
-    three-second r z q = handed _ y.refusal y.column r z q (hx.gives zx _ ∙ hy.refuses z _)
+    three-second u h = record { is = hx.is _ ∙ h.is _ }
 
-    module _ (zy : y.refusal ≡ 0) (v : Component) (hv : LedRead 44 line y.at v) where
+    module _ (y : Component) (hy : LedRead 44 line x.at (Ok y)) where
       -- no third
-      pub three_third : (r : Numbers) → (v.refusal ≡ 0 → ⊥) → (r.refusal ≡ v.refusal) × (r.column ≡ v.column) → NumbersRead (three_at line at) r
+      pub three_third : (u : Unread) → LedRead 44 line y.at (Err u) → NumbersRead (three_at line at) (Err u)
       unfolding three_at
-      three_third r z q = handed _ v.refusal v.column r z q (hx.gives zx _ ∙ hy.gives zy _ ∙ hv.refuses z _)
+      three_third u h = record { is = hx.is _ ∙ hy.is _ ∙ h.is _ }
 
-      module _ (zv : v.refusal ≡ 0) (m : Mark) (hm : MarkRead line (mark 41 line v.at) m) where
+      module _ (v : Component) (hv : LedRead 44 line y.at (Ok v)) where
         three-end : three_at line at ≡ (mark 41 line v.at >>= λ end. placed (x.byte ∷ y.byte ∷ v.byte ∷ [], end))
         unfolding three_at
-        three-end = hx.gives zx _ ∙ hy.gives zy _ ∙ hv.gives zv _
+        three-end = hx.is _ ∙ hy.is _ ∙ hv.is _
 
         -- no end
-        pub three-open : (r : Numbers) → (m.refusal ≡ 0 → ⊥) → (r.refusal ≡ m.refusal) × (r.column ≡ m.column) → NumbersRead (three_at line at) r
-        three-open r z q = handed _ m.refusal m.column r z q (three-end ∙ rw (hm.refuses z))
+        pub three-open : (u : Unread) → MarkRead line (mark 41 line v.at) (Err u) → NumbersRead (three_at line at) (Err u)
+        three-open u h = record { is = three-end ∙ rw h.is }
 
         -- three
-        pub three-there : m.refusal ≡ 0
-            → NumbersRead (three_at line at) (record { refusal = 0; column = 0; at = m.at; x = x.byte; y = y.byte; z = v.byte })
-        three-there z = record {
-          refuses = λ n. absurd (n refl);
-          gives = λ _. three-end ∙ rw (hm.gives z);
-        }
+        pub three-there : (m : ℕ) → MarkRead line (mark 41 line v.at) (Ok m)
+            → NumbersRead (three_at line at) (Ok (record { at = m; x = x.byte; y = y.byte; z = v.byte }))
+        three-there m h = record { is = three-end ∙ rw h.is }
 
 -- ════ by the kind
 
 module _ (kind : ℕ) (line : List ℕ) (at : ℕ) where
   -- of a vector
-  pub value_vector : (r : Numbers) → (kind ≡ 0 → ⊥) → NumbersRead (three_at line at) r → NumbersRead (read_value kind line at) r
+  pub value_vector : (r : Std.Result Numbers Unread) → (kind ≡ 0 → ⊥) → NumbersRead (three_at line at) r → NumbersRead (read_value kind line at) r
   unfolding read_value three_at led_by
   value_vector r n h = rw (ne_eqb kind 0 n) h
 
-  module _ (e : kind ≡ 0) (x : Component) (hx : ComponentRead (read_component line at) x) where
+  module _ (e : kind ≡ 0) where
     scalar_is : read_value kind line at ≡ (read_component line at >>= λ w. placed (w.0 ∷ 0 ∷ 0 ∷ [], w.1))
     unfolding read_value
     scalar_is = rw (eq-eqb kind 0 e)
 
     -- no number
-    pub value_torn : (r : Numbers) → (x.refusal ≡ 0 → ⊥) → (r.refusal ≡ x.refusal) × (r.column ≡ x.column) → NumbersRead (read_value kind line at) r
-    value_torn r z q = handed _ x.refusal x.column r z q (scalar_is ∙ rw (hx.refuses z))
+    pub value_torn : (u : Unread) → ComponentRead (read_component line at) (Err u) → NumbersRead (read_value kind line at) (Err u)
+    value_torn u h = record { is = scalar_is ∙ rw h.is }
 
     -- of a scalar
-    pub value_scalar : x.refusal ≡ 0 → NumbersRead (read_value kind line at) (record { refusal = 0; column = 0; at = x.at; x = x.byte; y = 0; z = 0 })
-    value_scalar z = record {
-      refuses = λ n. absurd (n refl);
-      gives = λ _. scalar_is ∙ rw (hx.gives z);
-    }
+    pub value_scalar : (x : Component) → ComponentRead (read_component line at) (Ok x)
+        → NumbersRead (read_value kind line at) (Ok (record { at = x.at; x = x.byte; y = 0; z = 0 }))
+    value_scalar x h = record { is = scalar_is ∙ rw h.is }

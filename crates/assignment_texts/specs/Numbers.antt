@@ -1,24 +1,29 @@
 -- The numbers of a letter as they are read. Assumes nothing.
 use Rattle.std.specs.Prelude.{◌≡◌, List, [], ◌∷◌, ℕ}
-use Rattle.specification.specs.Text.{Placed, refused_at, placed, ◌>>=◌}
+use Rattle.std.specs.Prelude as Std
+use Rattle.specification.specs.Text.{Placed, placed, ◌>>=◌}
 use Rattle.specification.specs.LogTexts.{mark}
 use Rattle.specification.specs.AssignmentTexts.{read_component}
+use Rattle.texts.specs.declared.Unread.{Unread}
+use Rattle.texts.specs.Readings.{placed_of}
 use Rattle.assignment_texts.specs.declared.numbers.Component.{Component}
 use Rattle.assignment_texts.specs.declared.numbers.Numbers.{Numbers}
 
+-- a component that was read and the position behind it
+abbrev pub component_of : Std.Result Component Unread → Placed (ℕ × ℕ)
+component_of r = placed_of (λ q. (q.byte, q.at)) r
+
 -- a component and the position behind it, or the refusal at its column
-pub record ComponentRead (x : Placed (ℕ × ℕ)) (r : Component) : Type 0 where
-  pub refuses : (r.refusal ≡ 0 → ⊥) → x ≡ refused_at r.refusal r.column
-  pub gives : r.refusal ≡ 0 → x ≡ placed (r.byte, r.at)
+pub record ComponentRead (x : Placed (ℕ × ℕ)) (r : Std.Result Component Unread) : Type 0 where
+  pub is : x ≡ component_of r
 
 -- a byte that has to stand, a component, and what follows
 unfoldable pub led_by : (b : ℕ) (line : List ℕ) (at : ℕ) (rest : ℕ × ℕ → Placed (List ℕ × ℕ)) → Placed (List ℕ × ℕ)
 led_by b line at rest = mark b line at >>= λ first. read_component line first >>= rest
 
 -- the component behind a byte that has to stand, or the refusal at its column
-pub record LedRead (b : ℕ) (line : List ℕ) (at : ℕ) (r : Component) : Type 0 where
-  pub refuses : (r.refusal ≡ 0 → ⊥) → (rest : ℕ × ℕ → Placed (List ℕ × ℕ)) → led_by b line at rest ≡ refused_at r.refusal r.column
-  pub gives : r.refusal ≡ 0 → (rest : ℕ × ℕ → Placed (List ℕ × ℕ)) → led_by b line at rest ≡ rest (r.byte, r.at)
+pub record LedRead (b : ℕ) (line : List ℕ) (at : ℕ) (r : Std.Result Component Unread) : Type 0 where
+  pub is : (rest : ℕ × ℕ → Placed (List ℕ × ℕ)) → led_by b line at rest ≡ (component_of r >>= rest)
 
 -- the numbers of a vector and the position behind them
 unfoldable pub three_at : (line : List ℕ) (at : ℕ) → Placed (List ℕ × ℕ)
@@ -29,6 +34,5 @@ three_at line at =
     mark 41 line z.1 >>= λ end. placed (x.0 ∷ y.0 ∷ z.0 ∷ [], end)
 
 -- three numbers and the position behind them, or the refusal at its column
-pub record NumbersRead (x : Placed (List ℕ × ℕ)) (r : Numbers) : Type 0 where
-  pub refuses : (r.refusal ≡ 0 → ⊥) → x ≡ refused_at r.refusal r.column
-  pub gives : r.refusal ≡ 0 → x ≡ placed (r.x ∷ r.y ∷ r.z ∷ [], r.at)
+pub record NumbersRead (x : Placed (List ℕ × ℕ)) (r : Std.Result Numbers Unread) : Type 0 where
+  pub is : x ≡ placed_of (λ q. (q.x ∷ q.y ∷ q.z ∷ [], q.at)) r

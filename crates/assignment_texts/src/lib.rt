@@ -15,156 +15,98 @@ use crate::placing::{clear, put_three};
 use evaluation::assignments::good_assignment;
 use letters::kind_of;
 use log_texts::naming::read_mark;
-use texts::{behind, byte_at, is_letter, past_blanks, place_of};
+use refusal::Refusal;
+use texts::{Unread, behind, byte_at, is_letter, past_blanks, place_of};
 
-// A name that has no numbers yet, its letter and the position behind it; or a refusal with its column.
+// A name that has no numbers yet: its letter, and the position behind it.
 #[derive(Clone, Copy)]
 pub struct Name {
-    pub refusal: u8,
-    pub column: usize,
     pub at: usize,
     pub letter: usize,
 }
 
-// No name.
-fn no_name(n: u8, column: usize) -> Name
-    ensures { (result.refusal ≡ n) × (result.column ≡ column) }
-{
-    Name {
-        refusal: n,
-        column: column,
-        at: 0,
-        letter: 0,
-    }
-}
-
-// The name that stands here: 4 where no letter stands, 5 where it is not declared, 12 where it has its numbers.
-fn read_name(names: &[u8], line: &[u8], at: usize, so: &[u8]) -> Name
+// The name that stands here.
+fn read_name(names: &[u8], line: &[u8], at: usize, so: &[u8]) -> Result<Name, Unread>
     requires { length names.now ≤ 24 }
     ensures { NameRead names.now line.now at so.now result }
 {
     let b = byte_at(line, at);
     if !is_letter(b) {
-        return no_name(4, at);
+        return Err(Unread {
+            why: Refusal::Torn,
+            column: at,
+        });
     }
     let n = place_of(names, b);
     if n >= names.len() {
-        return no_name(5, at);
+        return Err(Unread {
+            why: Refusal::AbsentLetter,
+            column: at,
+        });
     }
     if byte_at(so, 3 * n) != 127 {
-        return no_name(12, at);
+        return Err(Unread {
+            why: Refusal::WrongAssignment,
+            column: at,
+        });
     }
     let next = behind(line, at);
-    Name {
-        refusal: 0,
-        column: 0,
+    Ok(Name {
         at: next,
         letter: n,
-    }
+    })
 }
 
-// The position behind a value whose numbers are put; or a refusal with its column.
-#[derive(Clone, Copy)]
-pub struct Behind {
-    pub refusal: u8,
-    pub column: usize,
-    pub at: usize,
-}
-
-// A name and its value, put at its letter.
-fn one_assigned(names: &[u8], table: &[u8], line: &[u8], at: usize, so: &mut [u8]) -> Behind
+// A name and its value, put at its letter: the position behind the value.
+fn one_assigned(
+    names: &[u8],
+    table: &[u8],
+    line: &[u8],
+    at: usize,
+    so: &mut [u8],
+) -> Result<usize, Unread>
     requires { Named names.now table.now × (length so.old ≡ 3 * length table.now) }
     ensures { AssignedTurn names.now table.now line.now at so.old result so.new }
 {
-    let name = read_name(names, line, at, so);
-    if name.refusal != 0 {
-        return Behind {
-            refusal: name.refusal,
-            column: name.column,
-            at: 0,
-        };
-    }
-    let equals = read_mark(b'=', line, name.at);
-    if equals.refusal != 0 {
-        return Behind {
-            refusal: equals.refusal,
-            column: equals.column,
-            at: 0,
-        };
-    }
+    let name = read_name(names, line, at, so)?;
+    let equals = read_mark(b'=', line, name.at)?;
     let n = name.letter;
-    let v = read_value(kind_of(table, n), line, equals.at);
-    if v.refusal != 0 {
-        return Behind {
-            refusal: v.refusal,
-            column: v.column,
-            at: 0,
-        };
-    }
+    let v = read_value(kind_of(table, n), line, equals)?;
     put_three(so, n, v.x, v.y, v.z);
-    Behind {
-        refusal: 0,
-        column: 0,
-        at: v.at,
-    }
+    Ok(v.at)
 }
 
-// An assignment by names: a refusal with its column, or the numbers of all letters in the bytes lent, three to a letter.
-#[derive(Clone, Copy)]
-pub struct Assigned {
-    pub refusal: u8,
-    pub column: usize,
-}
-
-// The end of the line: 12 where a letter has no numbers.
-fn at_end(table: &[u8], at: usize, so: &[u8]) -> Assigned
+// The end of the line: all letters have their numbers.
+fn at_end(table: &[u8], at: usize, so: &[u8]) -> Result<(), Unread>
     requires { length table.now ≤ 24 }
     ensures { AssignedRead (at_end table.now at so.now) result so.now }
 {
     if !good_assignment(table, so) {
-        return Assigned {
-            refusal: 12,
+        return Err(Unread {
+            why: Refusal::WrongAssignment,
             column: at,
-        };
+        });
     }
-    Assigned {
-        refusal: 0,
-        column: 0,
-    }
+    Ok(())
 }
 
-// `a = (1, 0, -2), m = 3`: each name once, in any order.
-pub fn read_assigned(names: &[u8], table: &[u8], line: &[u8], so: &mut [u8]) -> Assigned
+// `a = (1, 0, -2), m = 3`: each name once, in any order. The numbers of all letters go into the bytes lent, three to a letter.
+pub fn read_assigned(names: &[u8], table: &[u8], line: &[u8], so: &mut [u8]) -> Result<(), Unread>
     requires { Named names.now table.now × (length so.old ≡ 3 * length table.now) }
     ensures { AssignedRead (read_assigned (length line.now) names.now table.now line.now
         (skip line.now 0) (none_yet table.now)) result so.new }
 {
     clear(so);
     let mut at = past_blanks(line, 0);
-    let mut left = line.len();
-    while left > 0 {
-        let r = one_assigned(names, table, line, at, so);
-        if r.refusal != 0 {
-            return Assigned {
-                refusal: r.refusal,
-                column: r.column,
-            };
+    for _ in 0..line.len() {
+        let next = one_assigned(names, table, line, at, so)?;
+        if next >= line.len() {
+            return at_end(table, next, so);
         }
-        if r.at >= line.len() {
-            return at_end(table, r.at, so);
-        }
-        let comma = read_mark(b',', line, r.at);
-        if comma.refusal != 0 {
-            return Assigned {
-                refusal: comma.refusal,
-                column: comma.column,
-            };
-        }
-        at = comma.at;
-        left -= 1;
+        at = read_mark(b',', line, next)?;
     }
-    Assigned {
-        refusal: 4,
+    Err(Unread {
+        why: Refusal::Torn,
         column: at,
-    }
+    })
 }

@@ -6,7 +6,8 @@ ghost use Rattle.specification.specs.AssignmentTexts.{read_component, read_value
 ghost use Rattle.assignment_texts.specs.Numbers.{ComponentRead, LedRead, three_at, NumbersRead};
 
 use log_texts::naming::read_mark;
-use texts::{behind, byte_at, is_digit};
+use refusal::Refusal;
+use texts::{Unread, behind, byte_at, is_digit};
 
 // The position of a component's digit: behind a minus.
 fn digit_at(line: &[u8], at: usize) -> usize
@@ -32,137 +33,89 @@ fn signed_byte(minus: bool, size: u8) -> u8
     255 - size + 1
 }
 
-// A component as its signed byte, and the position behind it; or a refusal with its column.
+// A component as its signed byte, and the position behind it.
 #[derive(Clone, Copy)]
 pub struct Component {
-    pub refusal: u8,
-    pub column: usize,
     pub at: usize,
     pub byte: u8,
 }
 
-// No component.
-fn no_component(n: u8, column: usize) -> Component
-    ensures { (result.refusal ≡ n) × (result.column ≡ column) }
-{
-    Component {
-        refusal: n,
-        column: column,
-        at: 0,
-        byte: 0,
-    }
-}
-
-// A component from -6 to 6: 4 where no digit stands, 12 beyond.
-fn read_component(line: &[u8], at: usize) -> Component
+// A component from -6 to 6.
+fn read_component(line: &[u8], at: usize) -> Result<Component, Unread>
     ensures { ComponentRead (read_component line.now at) result }
 {
     let sign = byte_at(line, at);
     let first = digit_at(line, at);
     let b = byte_at(line, first);
     if !is_digit(b) {
-        return no_component(4, first);
+        return Err(Unread {
+            why: Refusal::Torn,
+            column: first,
+        });
     }
     if b > 54 {
-        return no_component(12, first);
+        return Err(Unread {
+            why: Refusal::WrongAssignment,
+            column: first,
+        });
     }
     if is_digit(byte_at(line, first + 1)) {
-        return no_component(12, first);
+        return Err(Unread {
+            why: Refusal::WrongAssignment,
+            column: first,
+        });
     }
     let byte = signed_byte(sign == b'-', b - 48);
     let next = behind(line, first);
-    Component {
-        refusal: 0,
-        column: 0,
-        at: next,
-        byte: byte,
-    }
+    Ok(Component { at: next, byte })
 }
 
 // A component behind a byte that has to stand.
-fn read_led(b: u8, line: &[u8], at: usize) -> Component
+fn read_led(b: u8, line: &[u8], at: usize) -> Result<Component, Unread>
     requires { 1 ≤ b }
     ensures { LedRead b line.now at result }
 {
-    let lead = read_mark(b, line, at);
-    if lead.refusal != 0 {
-        return no_component(lead.refusal, lead.column);
-    }
-    read_component(line, lead.at)
+    let first = read_mark(b, line, at)?;
+    read_component(line, first)
 }
 
-// Three numbers as signed bytes, and the position behind them; or a refusal with its column.
+// Three numbers as signed bytes, and the position behind them.
 #[derive(Clone, Copy)]
 pub struct Numbers {
-    pub refusal: u8,
-    pub column: usize,
     pub at: usize,
     pub x: u8,
     pub y: u8,
     pub z: u8,
 }
 
-// No numbers.
-fn no_numbers(n: u8, column: usize) -> Numbers
-    ensures { (result.refusal ≡ n) × (result.column ≡ column) }
-{
-    Numbers {
-        refusal: n,
-        column: column,
-        at: 0,
-        x: 0,
-        y: 0,
-        z: 0,
-    }
-}
-
 // `(1, 0, -2)`.
-fn read_three(line: &[u8], at: usize) -> Numbers
+fn read_three(line: &[u8], at: usize) -> Result<Numbers, Unread>
     ensures { NumbersRead (three_at line.now at) result }
 {
-    let x = read_led(b'(', line, at);
-    if x.refusal != 0 {
-        return no_numbers(x.refusal, x.column);
-    }
-    let y = read_led(b',', line, x.at);
-    if y.refusal != 0 {
-        return no_numbers(y.refusal, y.column);
-    }
-    let z = read_led(b',', line, y.at);
-    if z.refusal != 0 {
-        return no_numbers(z.refusal, z.column);
-    }
-    let end = read_mark(b')', line, z.at);
-    if end.refusal != 0 {
-        return no_numbers(end.refusal, end.column);
-    }
-    Numbers {
-        refusal: 0,
-        column: 0,
-        at: end.at,
+    let x = read_led(b'(', line, at)?;
+    let y = read_led(b',', line, x.at)?;
+    let z = read_led(b',', line, y.at)?;
+    let end = read_mark(b')', line, z.at)?;
+    Ok(Numbers {
+        at: end,
         x: x.byte,
         y: y.byte,
         z: z.byte,
-    }
+    })
 }
 
 // The numbers of a letter of a kind: a scalar has one, and 0 twice.
-pub fn read_value(kind: u8, line: &[u8], at: usize) -> Numbers
+pub fn read_value(kind: u8, line: &[u8], at: usize) -> Result<Numbers, Unread>
     ensures { NumbersRead (read_value kind line.now at) result }
 {
     if kind != 0 {
         return read_three(line, at);
     }
-    let x = read_component(line, at);
-    if x.refusal != 0 {
-        return no_numbers(x.refusal, x.column);
-    }
-    Numbers {
-        refusal: 0,
-        column: 0,
+    let x = read_component(line, at)?;
+    Ok(Numbers {
         at: x.at,
         x: x.byte,
         y: 0,
         z: 0,
-    }
+    })
 }

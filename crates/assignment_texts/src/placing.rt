@@ -6,11 +6,7 @@ ghost use Rattle.specification.specs.AssignmentTexts.{put_three};
 pub fn clear(so: &mut [u8])
     ensures { so.new ≡ replicate (length so.old) 127 }
 {
-    let mut i: usize = 0;
-    while i < so.len() {
-        so[i] = 127;
-        i += 1;
-    }
+    so.fill(127);
 }
 
 // Three numbers at the place of a letter.

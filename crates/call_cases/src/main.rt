@@ -36,21 +36,17 @@ fn written(r: i64) -> usize {
 
 // Numbers behind blanks, from a position on.
 fn print_numbers(s: &[u64], from: usize) {
-    let mut i = from;
-    while i < s.len() {
+    for i in from..s.len() {
         print_character(b' ');
         io::print_decimal(1, s[i]);
-        i += 1;
     }
 }
 
 // Signed numbers behind blanks.
 fn print_all_signed(s: &[i64]) {
-    let mut i: usize = 0;
-    while i < s.len() {
+    for &n in s {
         print_character(b' ');
-        print_signed(s[i]);
-        i += 1;
+        print_signed(n);
     }
 }
 

@@ -38,8 +38,7 @@ use Rattle.rules.specs.declared.steps.Step.{Step}
 use Rattle.rules.specs.Steps.{step_of, StepValid, StepFits}
 use Rattle.rules.proofs.Taking.{few-letters}
 use Rattle.picks.specs.declared.choosing.Opening.{Opening}
-use Rattle.picks.specs.declared.choosing.Picked.{Picked}
-use Rattle.candidates.specs.declared.trying.Trial.{Trial}
+use Rattle.std.specs.Prelude.{Option, Some, None}
 use Rattle.candidates.specs.declared.trying.Next.{Next}
 use Rattle.picks.specs.Choosing.{bit_digits, Shut, Opened, OpenedBy, picks, PickedBy}
 use Rattle.marking.specs.Marks.{size_mark, Sized}
@@ -81,23 +80,31 @@ candidate-picks : (a b c d e : Bool) → T (a && b && c && d && e) → T (b && c
 candidate-picks true b c d e h = h
 candidate-picks false b c d e h = absurd h
 
-module _ (marks : List ℕ) (t : Term) (rule : ℕ) (o : Opening) (j : ℕ) (p : Picked) (w : PickedBy (take (rule_letters rule) o.pool) rule j p) where
-  module _ (kind k : ℕ) (opened : Opened kind t k rule o) where
-    pub picked-there : T (is_candidate (term_of t) k rule j) → p.fits ≡ true
-    unfolding is_candidate picks
-    picked-there h =
+-- no pick, no candidate
+pub tried_none : (marks : List ℕ) (t : Term) (rule : ℕ) (o : Opening) (j : ℕ) → PickedBy (take (rule_letters rule) o.pool) rule j None
+    → Tried marks t rule o j None
+unfolding Settled Hopeless is_candidate picks
+tried_none marks t rule o j w = record {
+  is = λ kind k opened hk hj table f c g shape cover q known can ex h. absurd (subst T (sym (there kind k opened can)) tt);
+  counted = tt;
+}
+  where
+    there : (kind k : ℕ) → Opened kind t k rule o → T (is_candidate (term_of t) k rule j) → false ≡ true
+    there kind k opened h =
         let l : List ℕ = pool (term_of t) k rule in
         w.is ∙ ap (λ (v : List ℕ). picks rule v j) opened.letters ∙ is_true _ (candidate-picks (eqb (length l) (rule_letters rule))
         (eqb (length (taken j l)) (block_size rule)) (ascend ltb (taken j l)) (ascend ltb (left_over j l)) (block_is_first rule (taken j l) (left_over j l)) h)
 
-    letters-are : p.fits ≡ true → in_rule_order rule (taken j (pool (term_of t) k rule) ++ left_over j (pool (term_of t) k rule)) ≡ take (rule_letters rule)
-        p.letters
-    letters-are e = ap (λ (v : List ℕ). in_rule_order rule (taken j v ++ left_over j v)) (sym opened.letters) ∙ sym (w.letters e)
+module _ (marks : List ℕ) (t : Term) (rule : ℕ) (o : Opening) (j : ℕ) (ls : List ℕ) (w : PickedBy (take (rule_letters rule) o.pool) rule j (Some ls)) where
+  module _ (kind k : ℕ) (opened : Opened kind t k rule o) where
+    letters-are : in_rule_order rule (taken j (pool (term_of t) k rule) ++ left_over j (pool (term_of t) k rule)) ≡ take (rule_letters rule)
+        ls
+    letters-are = ap (λ (v : List ℕ). in_rule_order rule (taken j v ++ left_over j v)) (sym opened.letters) ∙ sym w.letters
 
     -- with any coefficient
-    step_is : (c : ℤ) → p.fits ≡ true → candidate (term_of t) k rule j c ≡ step_of (record {
+    step_is : (c : ℤ) → candidate (term_of t) k rule j c ≡ step_of (record {
       rule = rule;
-      letters = p.letters;
+      letters = ls;
       m = record {
         coef =
             c;
@@ -107,38 +114,30 @@ module _ (marks : List ℕ) (t : Term) (rule : ℕ) (o : Opening) (j : ℕ) (p :
       };
     })
     unfolding candidate step_of term_of multiplier
-    step_is c e = λ i. record { rule = rule; letters = letters-are e i; m = with_coef c (sym opened.m.is i) }
+    step_is c = λ i. record { rule = rule; letters = letters-are i; m = with_coef c (sym opened.m.is i) }
 
-    gain_is : (g : ℤ) → p.fits ≡ true → g ≡ coeff (monomial (term_of t)) (gather (step_terms (step_of (record {
+    gain_is : (g : ℤ) → g ≡ coeff (monomial (term_of t)) (gather (step_terms (step_of (record {
       rule = rule;
-      letters = p.letters;
+      letters = ls;
       m =
           o.m;
     })))) → g ≡ gain (term_of t) k rule j
     unfolding gain candidate step_of
-    gain_is g e h =
-        h ∙ (λ i. coeff (monomial (term_of t)) (gather (step_terms (record { rule = rule; letters = sym (letters-are e) i; m = opened.m.is i }))))
-
-  -- no pick
-  pub tried_none : (s : Step) → Counted s.m → p.fits ≡ false → Tried marks t rule o j (record { found = false; step = s })
-  unfolding Settled Hopeless
-  tried_none s c e = record {
-    is = λ kind k opened. inl (λ hk hj table f c g shape cover q known can ex h. absurd (subst T (sym (picked-there kind k opened can) ∙ e) tt));
-    counted = c;
-  }
+    gain_is g h =
+        h ∙ (λ i. coeff (monomial (term_of t)) (gather (step_terms (record { rule = rule; letters = sym letters-are i; m = opened.m.is i }))))
 
   -- surely no fewer terms, if M has a coefficient of the size
-  long_hopeless : (size kind k : ℕ) (s : Step) → s ≡ record { rule = rule; letters = p.letters; m = o.m } → Opened kind t k rule o → TermValid t
-      → p.fits ≡ true → NotShorter marks size (step_of s)
+  long_hopeless : (size kind k : ℕ) (s : Step) → s ≡ record { rule = rule; letters = ls; m = o.m } → Opened kind t k rule o → TermValid t
+      → NotShorter marks size (step_of s)
       → ((c : ℤ) → c *ℤ gain (term_of t) k rule j ≡ neg_ℤ t.coef → Sized size c) → Hopeless marks kind (term_of t) k rule j
   unfolding Hopeless NotShorter step_of term_of
-  long_hopeless size kind k s es opened valid fits long sized hk hj table f c g shape cover q known can ex h =
+  long_hopeless size kind k s es opened valid long sized hk hj table f c g shape cover q known can ex h =
       let a = step-admitted table f (candidate (term_of t) k rule j c) g h in
       let reached = within_given f.kind (gather (f.terms ++ step_terms (candidate (term_of t) k rule j c))) g (step_taken f (candidate (term_of t) k rule j c)
       g a.takes).gathers in
       let alive : NonZero c = factor-alive c (gain (term_of t) k rule j) t.coef (term-opens (term_of t) valid.in_shape).nonzero ex in
-      let is : candidate (term_of t) k rule j c ≡ record { rule = rule; letters = take (rule_letters rule) p.letters; m = with_coef c (term_of o.m) } =
-      step_is kind k opened c fits in
+      let is : candidate (term_of t) k rule j c ≡ record { rule = rule; letters = take (rule_letters rule) ls; m = with_coef c (term_of o.m) } =
+      step_is kind k opened c in
       subst (λ (l : List S.Term). length f.terms ≤ length l) (sym (ap (λ (g : S.Form). g.terms) reached.is))
       (subst (λ (u : R.Step). length f.terms ≤ length (gather (f.terms ++ step_terms u))) (sym is)
       (subst (λ (s : Step). length f.terms ≤ length (gather (f.terms ++ step_terms (record {
@@ -148,18 +147,13 @@ module _ (marks : List ℕ) (t : Term) (rule : ℕ) (o : Opening) (j : ℕ) (p :
         m = with_coef c (term_of s.m);
       })))) es (long c alive (sized c ex) f shape cover)))
 
-  pub tried-long : (s : Step) → s ≡ record { rule = rule; letters = p.letters; m = o.m } → Counted s.m → TermValid t → p.fits ≡ true
-      → NotShorter marks 0 (step_of s) → Tried marks t rule o j (record { found = false; step = s })
+  pub tried-long : (s : Step) → s ≡ record { rule = rule; letters = ls; m = o.m } → TermValid t → NotShorter marks 0 (step_of s) → Tried marks t rule o j None
   unfolding Settled Sized
-  tried-long s es counted valid fits long = record {
-    is = λ kind k opened. inl (long_hopeless 0 kind k s es opened valid fits long (λ c ex. inl refl));
-    counted
-        = counted;
-  }
+  tried-long s es valid long = record { is = λ kind k opened. long_hopeless 0 kind k s es opened valid long (λ c ex. inl refl); counted = tt }
 
   -- the quotient decides
-  module _ (q : Quotient) (g c : ℤ) (valid : TermValid t) (fits : p.fits ≡ true) (eg : g ≡ coeff (monomial (term_of t))
-      (gather (step_terms (step_of (record { rule = rule; letters = p.letters; m = o.m })))))
+  module _ (q : Quotient) (g c : ℤ) (valid : TermValid t) (eg : g ≡ coeff (monomial (term_of t))
+      (gather (step_terms (step_of (record { rule = rule; letters = ls; m = o.m })))))
       (ec : c ≡ neg_ℤ t.coef) (d : Divided c g q) where
     alive : NonZero t.coef
     unfolding term_of
@@ -168,7 +162,7 @@ module _ (marks : List ℕ) (t : Term) (rule : ℕ) (o : Opening) (j : ℕ) (p :
     -- no quotient
     none : (kind k : ℕ) → Opened kind t k rule o → q.exact ≡ false → (n : ℤ) → n *ℤ gain (term_of t) k rule j ≡ neg_ℤ t.coef → ⊥
     none kind k opened x n e =
-        let is : g ≡ gain (term_of t) k rule j = gain_is kind k opened g fits eg in
+        let is : g ≡ gain (term_of t) k rule j = gain_is kind k opened g eg in
         let product : n *ℤ g ≡ c = ap (λ (z : ℤ). n *ℤ z) is ∙ e ∙ sym ec in
         ⊎_elim (λ z. alive (neg-zero t.coef (sym e ∙ ap (λ (z : ℤ). n *ℤ z) (sym is ∙ z) ∙ I.*ℤ-zero n)))
         (λ z. subst T (sym (d.found n product z) ∙ x) tt) (zero_or_not g)
@@ -176,51 +170,38 @@ module _ (marks : List ℕ) (t : Term) (rule : ℕ) (o : Opening) (j : ℕ) (p :
     -- one quotient
     one : (kind k : ℕ) → Opened kind t k rule o → q.exact ≡ true → (n : ℤ) → n *ℤ gain (term_of t) k rule j ≡ neg_ℤ t.coef → n ≡ q.value
     one kind k opened x n e =
-        let is : g ≡ gain (term_of t) k rule j = gain_is kind k opened g fits eg in
+        let is : g ≡ gain (term_of t) k rule j = gain_is kind k opened g eg in
         *ℤ_cancel g n q.value (λ z. subst T (sym x ∙ d.by_zero z) tt)
         (I.*ℤ_comm g n ∙ ap (λ (z : ℤ). n *ℤ z) is ∙ e ∙ sym ec ∙ sym (d.product x) ∙ I.*ℤ_comm q.value g)
 
-    -- M's coefficient has the size of the quotient, and with it the step surely leads to no fewer terms
-    pub tried-sized : (s : Step) (size : ℕ) → s ≡ record { rule = rule; letters = p.letters; m = o.m } → Counted s.m → size ≡ size_mark q.value
-        → NotShorter marks size (step_of s)
-        → Tried marks t rule o j (record { found = false; step = s })
-    unfolding Settled Sized
-    tried-sized s size es counted e long = record {
-      is = λ kind k opened. inl (long_hopeless size kind k s es opened valid fits long (sized kind k opened q.exact refl));
-      counted = counted;
-    }
-      where
-        sized : (kind k : ℕ) → Opened kind t k rule o → (b : Bool) → q.exact ≡ b → (n : ℤ) → n *ℤ gain (term_of t) k rule j ≡ neg_ℤ t.coef
-            → (size ≡ 0) ⊎ (size ≡ size_mark n)
-        sized kind k opened true x n ex = inr (e ∙ ap size_mark (sym (one kind k opened x n ex)))
-        sized kind k opened false x n ex = absurd (none kind k opened x n ex)
+    -- there is none
+    pub tried_inexact : q.exact ≡ false → Tried marks t rule o j None
+    unfolding Settled Hopeless term_of
+    tried_inexact x = record { is = λ kind k opened hk hj table f n h shape cover r known can e s. absurd (none kind k opened x n e); counted = tt }
 
-    pub tried-by : (m : Term) → Counted o.m → m ≡ record {
+    -- M's coefficient has the size of the quotient, and with it the step surely leads to no fewer terms
+    pub tried-sized : q.exact ≡ true → (s : Step) (size : ℕ) → s ≡ record { rule = rule; letters = ls; m = o.m } → size ≡ size_mark q.value
+        → NotShorter marks size (step_of s) → Tried marks t rule o j None
+    unfolding Settled Sized
+    tried-sized x s size es e long = record {
+      is = λ kind k opened. long_hopeless size kind k s es opened valid long (λ n ex. inr (e ∙ ap size_mark (sym (one kind k opened x n ex))));
+      counted = tt;
+    }
+
+    pub tried-by : q.exact ≡ true → (m : Term) → Counted o.m → m ≡ record {
       coef = q.value;
       factors = o.m.factors;
       factor_count = o.m.factor_count;
       part =
           o.m.part;
     }
-        → Tried marks t rule o j (record { found = q.exact; step = record { rule = rule; letters = p.letters; m = m } })
-    unfolding Settled Hopeless OnlyStep term_of
-    tried-by m counted em = record {
-      is = λ kind k opened. go kind k opened q.exact refl;
+        → Tried marks t rule o j (Some (record { rule = rule; letters = ls; m = m }))
+    unfolding Settled OnlyStep term_of
+    tried-by x m counted em = record {
+      is = λ kind k opened. inr (λ n can e. ap (candidate (term_of t) k rule j) (one kind k opened x n e) ∙ step_is kind k opened q.value
+          ∙ ap (λ (u : Term). step_of (record { rule = rule; letters = ls; m = u })) (sym em));
       counted = subst Counted (sym em) (record { few = counted.few; small = counted.small });
     }
-      where
-        go : (kind k : ℕ) → Opened kind t k rule o → (b : Bool) → q.exact ≡ b → Settled marks kind (term_of t) k rule j b (record {
-          rule = rule;
-          letters =
-              p.letters;
-          m = m;
-        })
-        go kind k opened true x = inr (
-          refl,
-          λ n can e. ap (candidate (term_of t) k rule j) (one kind k opened x n e) ∙ step_is kind k opened q.value fits
-              ∙ ap (λ (u : Term). step_of (record { rule = rule; letters = p.letters; m = u })) (sym em),
-        )
-        go kind k opened false x = inl (λ hk hj table f n h shape cover r known can e s. absurd (none kind k opened x n e))
 
 -- ════ masks that take no block
 
@@ -267,6 +248,13 @@ module _ (t : Term) (rule : ℕ) (o : Opening) (j kind k : ℕ) (opened : Opened
 
 -- ════ one pick after the other
 
+-- nothing to hope for is settled whatever is found
+pub hopeless-settled : (marks : List ℕ) (kind : ℕ) (t : S.Term) (k rule pick : ℕ) (r : Option Step) → Hopeless marks kind t k rule pick
+    → Settled marks kind t k rule pick r
+unfolding Settled
+hopeless-settled marks kind t k rule pick None h = h
+hopeless-settled marks kind t k rule pick (Some s) h = inl h
+
 -- there is nothing to hope for from those passed
 unfoldable pub PicksPassed : (marks : List ℕ) (t : Term) (rule : ℕ) (o : Opening) (from j : ℕ) → Type 0
 PicksPassed marks t rule o from j = (kind k pick : ℕ) → Opened kind t k rule o → from ≤ pick → pick < j → Hopeless marks kind (term_of t) k rule pick
@@ -289,47 +277,28 @@ module _ (marks : List ℕ) (t : Term) (rule : ℕ) (o : Opening) (from : ℕ) w
             let same : pick ≡ j = omega (arith, ltb-false pick j q) in
             absurd (h kind k op (subst (λ (n : ℕ). n < 2 ^ rule_letters rule) same hj) (subst (λ (n : ℕ). T (is_candidate (term_of t) k rule n)) same can))
 
-    module _ (r : Trial) (v : Tried marks t rule o j r) where
-      -- all up to this one
-      up_to : (kind k pick : ℕ) → Opened kind t k rule o → from ≤ pick → pick < j + 1 → Settled marks kind (term_of t) k rule pick r.found r.step
-      unfolding PicksPassed Settled
-      up_to kind k pick op a b = go (ltb pick j) refl
-        where
-          go : (x : Bool) → ltb pick j ≡ x → Settled marks kind (term_of t) k rule pick r.found r.step
-          go true e = inl (w kind k pick op a (ltb-true pick j e))
-          go false e = let same : j ≡ pick = omega (arith, ltb-false pick j e) in subst (λ (i : ℕ). Settled marks kind (term_of t) k rule i r.found
-              r.step) same (v.is kind k op)
+    -- all up to this one
+    up_to : (r : Option Step) → Tried marks t rule o j r → (kind k pick : ℕ) → Opened kind t k rule o → from ≤ pick → pick < j + 1
+        → Settled marks kind (term_of t) k rule pick r
+    unfolding PicksPassed
+    up_to r v kind k pick op a b = go (ltb pick j) refl
+      where
+        go : (x : Bool) → ltb pick j ≡ x → Settled marks kind (term_of t) k rule pick r
+        go true e = hopeless-settled _ _ _ _ _ _ r (w kind k pick op a (ltb-true pick j e))
+        go false e = let same : j ≡ pick = omega (arith, ltb-false pick j e) in subst (λ (i : ℕ). Settled marks kind (term_of t) k rule i r) same (v.is kind k op)
 
-      pub picks_more : r.found ≡ false → PicksPassed marks t rule o from (j + 1)
-      unfolding PicksPassed Settled
-      picks_more f kind k pick op a b = ⊎_elim (λ x. x) (λ x. absurd (subst T (sym x.0 ∙ f) tt)) (up_to kind k pick op a b)
+    pub picks_more : Tried marks t rule o j None → PicksPassed marks t rule o from (j + 1)
+    unfolding PicksPassed Settled
+    picks_more v = up_to None v
 
-      -- one is worth a trial
-      pub picks-found : r.found ≡ true → j < 64 → NextPick marks t rule o from (record { found = true; next = j + 1; step = r.step })
-      unfolding Settled
-      picks-found f h = record {
-        all = λ kind k pick op a b. ⊎_elim inl (λ x. inr (refl, x.1)) (up_to kind k pick op a b);
-        counted = v.counted;
-        forward = omega arith;
-        inside = omega arith;
-        whole = λ e. absurd (subst T e tt);
-      }
+    -- one is worth a trial
+    pub picks-found : (s : Step) → Tried marks t rule o j (Some s) → j < 64 → NextPick marks t rule o from (Some (record { next = j + 1; step = s }))
+    picks-found s v h = record { all = up_to (Some s) v; counted = v.counted; forward = omega arith; inside = omega arith }
 
     -- none is
-    pub picks-end : (s : Step) → Counted s.m → 2 ^ rule_letters rule ≤ j → from < 64 → NextPick marks t rule o from (record {
-      found = false;
-      next =
-          64;
-      step = s;
-    })
+    pub picks-end : 2 ^ rule_letters rule ≤ j → from < 64 → NextPick marks t rule o from None
     unfolding PicksPassed Settled Hopeless
-    picks-end s c e h = record {
-      all = λ kind k pick op a b. inl (go kind k pick op a (ltb pick j) refl);
-      counted = c;
-      forward = h;
-      inside = omega arith;
-      whole = λ e. refl;
-    }
+    picks-end e h = record { all = λ kind k pick op a b. go kind k pick op a (ltb pick j) refl; counted = tt; forward = h; inside = omega arith }
       where
         go : (kind k pick : ℕ) → Opened kind t k rule o → from ≤ pick → (x : Bool) → ltb pick j ≡ x → Hopeless marks kind (term_of t) k rule pick
         go kind k pick op a true q = w kind k pick op a (ltb-true pick j q)
@@ -347,87 +316,64 @@ unfolding is_rule
 place-rule q h = let k : q + 1 ≤ 5 = omega arith in let g : 1 ≤ q + 1 = omega arith in and_both (leb 1 (q + 1)) (leb (q + 1) 5) (le→leb 1 (q + 1) g)
     (le→leb (q + 1) 5 k)
 
-pub rules_none : (marks : List ℕ) (kind : ℕ) (t : S.Term) (k from : ℕ) → RulesPassed marks kind t k from from
+pub rules_none : (marks : List ℕ) (kind : ℕ) (t : S.Term) (k from : ℕ) → RulesPassed marks kind t k from (from / 64 * 64 + from % 64)
 unfolding RulesPassed
 rules_none marks kind t k from p a b = absurd (N.lt_irrefl from (omega arith))
 
 -- what holds of the places before one and of the picks of its opening holds of all up to the next
-by-opening : (P : (rule pick : ℕ) → Type 0) (from at q next : ℕ) → at / 64 ≡ q → next ≤ (q + 1) * 64
-    → ((p : ℕ) → from ≤ p → p < at → P (p / 64 + 1) (p % 64)) → ((pick : ℕ) → at % 64 ≤ pick → q * 64 + pick < next → P (q + 1) pick)
-    → (p : ℕ) → from ≤ p → p < next → P (p / 64 + 1) (p % 64)
-by-opening P from at q next eq h before f p a b = go (ltb p at) refl
+by-opening : (P : (rule pick : ℕ) → Type 0) (from q at next : ℕ) → next ≤ 64
+    → ((p : ℕ) → from ≤ p → p < q * 64 + at → P (p / 64 + 1) (p % 64)) → ((pick : ℕ) → at ≤ pick → pick < next → P (q + 1) pick)
+    → (p : ℕ) → from ≤ p → p < q * 64 + next → P (p / 64 + 1) (p % 64)
+by-opening P from q at next h before f p a b = go (ltb p (q * 64 + at)) refl
   where
-    go : (x : Bool) → ltb p at ≡ x → P (p / 64 + 1) (p % 64)
-    go true e = before p a (ltb-true p at e)
+    go : (x : Bool) → ltb p (q * 64 + at) ≡ x → P (p / 64 + 1) (p % 64)
+    go true e = before p a (ltb-true p (q * 64 + at) e)
     go false e =
-        let same : q ≡ p / 64 = omega (arith, ltb-false p at e) in
-        let pick : at % 64 ≤ p % 64 = omega (arith, ltb-false p at e) in
-        let inside : q * 64 + p % 64 < next = omega arith in
-        subst (λ (r : ℕ). P (r + 1) (p % 64)) same (f (p % 64) pick inside)
+        let behind : q * 64 + at ≤ p = ltb-false p (q * 64 + at) e in
+        let same : q ≡ p / 64 = omega arith in
+        let here : at ≤ p % 64 = omega arith in
+        let inside : p % 64 < next = omega arith in
+        subst (λ (r : ℕ). P (r + 1) (p % 64)) same (f (p % 64) here inside)
 
-module _ (marks : List ℕ) (kind : ℕ) (t : Term) (k from at q : ℕ) (w : RulesPassed marks kind (term_of t) k from at) (eq : at / 64 ≡ q) where
+module _ (marks : List ℕ) (kind : ℕ) (t : Term) (k from q at : ℕ) (w : RulesPassed marks kind (term_of t) k from (q * 64 + at)) where
   -- nothing to hope for by the rule
-  pub rules-skipped : ((pick : ℕ) → Hopeless marks kind (term_of t) k (q + 1) pick) → RulesPassed marks kind (term_of t) k from ((q + 1) * 64)
+  pub rules-skipped : ((pick : ℕ) → Hopeless marks kind (term_of t) k (q + 1) pick) → RulesPassed marks kind (term_of t) k from ((q + 1) * 64 + 0)
   unfolding RulesPassed
-  rules-skipped h = by-opening (Hopeless marks kind (term_of t) k) from at q ((q + 1) * 64) eq (omega arith) w (λ pick a i. h pick)
+  rules-skipped h p a b = by-opening (Hopeless marks kind (term_of t) k) from q at 64 (omega arith) w (λ pick a i. h pick) p a (omega arith)
 
   -- the mask and the rule leave nothing
-  pub rules-shut : (o : Opening) (b : Bool) → OpenedBy b kind t k (q + 1) o → b ≡ false → RulesPassed marks kind (term_of t) k from ((q + 1) * 64)
+  pub rules-shut : OpenedBy kind t k (q + 1) None → RulesPassed marks kind (term_of t) k from ((q + 1) * 64 + 0)
   unfolding OpenedBy Shut Hopeless
-  rules-shut o b v e = rules-skipped (λ pick hk hj table f c g shape cover x known can ex h. absurd (shut table f pick c g x can h))
-    where
-      shut : Shut kind (term_of t) k (q + 1)
-      shut = subst (λ (b : Bool). OpenedBy b kind t k (q + 1) o) e v
+  rules-shut shut = rules-skipped (λ pick hk hj table f c g shape cover x known can ex h. absurd (shut table f pick c g x can h))
 
-  module _ (o : Opening) (b : Bool) (v : OpenedBy b kind t k (q + 1) o) (e : b ≡ true) where
+  module _ (o : Opening) (opened : OpenedBy kind t k (q + 1) (Some o)) where
     pub opened-there : Opened kind t k (q + 1) o
     unfolding OpenedBy
-    opened-there = subst (λ (b : Bool). OpenedBy b kind t k (q + 1) o) e v
+    opened-there = opened
 
-    module _ (r : Next) (n : NextPick marks t (q + 1) o (at % 64) r) where
-      -- no pick is worth a trial
-      pub rules-passed : r.found ≡ false → RulesPassed marks kind (term_of t) k from ((q + 1) * 64)
-      unfolding RulesPassed Settled
-      rules-passed f =
-          by-opening (Hopeless marks kind (term_of t) k) from at q ((q + 1) * 64) eq (omega arith) w
-          (λ pick a i. ⊎_elim (λ x. x) (λ x. absurd (subst T (sym x.0 ∙ f) tt)) (n.all kind k pick opened-there a (inside pick i)))
-        where
-          inside : (pick : ℕ) → q * 64 + pick < (q + 1) * 64 → pick < r.next
-          inside pick i = omega (arith, n.whole f)
+    -- no pick is worth a trial
+    pub rules-passed : NextPick marks t (q + 1) o at None → RulesPassed marks kind (term_of t) k from ((q + 1) * 64 + 0)
+    unfolding RulesPassed Settled
+    rules-passed n p a b =
+        by-opening (Hopeless marks kind (term_of t) k) from q at 64 (omega arith) w (λ pick a i. n.all kind k pick opened-there a i) p a (omega arith)
 
-      -- one is
-      pub rules-found : from ≤ at → at < 320 → r.found ≡ true → NextOfMask marks kind (term_of t) k from (record {
-        found = true;
-        next =
-            q * 64 + r.next;
-        step = r.step;
-      })
-      unfolding RulesPassed Settled
-      rules-found h i f = record {
-        all = by-opening (λ u j. Settled marks kind (term_of t) k u j true r.step) from at q (q * 64 + r.next) eq (omega (arith, n.inside))
-            (λ p a i. inl (w p a i))
-            (λ pick a i. ⊎_elim inl (λ x. inr (refl, x.1)) (n.all kind k pick opened-there a (inside pick i)));
-        counted = n.counted;
-        forward = omega (arith, n.forward);
-        inside = omega (arith, n.inside);
-        whole = λ z. absurd (subst T z tt);
-      }
-        where
-          inside : (pick : ℕ) → q * 64 + pick < q * 64 + r.next → pick < r.next
-          inside pick i = omega arith
+    -- one is
+    pub rules-found : (m : Next) → NextPick marks t (q + 1) o at (Some m) → from ≤ q * 64 + at → q < 5
+        → NextOfMask marks kind (term_of t) k from (Some (record { next = q * 64 + m.next; step = m.step }))
+    unfolding RulesPassed
+    rules-found m n h i = record {
+      all = by-opening (λ u j. Settled marks kind (term_of t) k u j (Some m.step)) from q at m.next n.inside
+          (λ p a i. hopeless-settled _ _ _ _ _ _ (Some m.step) (w p a i)) (λ pick a i. n.all kind k pick opened-there a i);
+      counted = n.counted;
+      forward = omega (arith, n.forward);
+      inside = omega (arith, n.inside);
+    }
 
 -- all places of the mask passed
-pub rules-end : (marks : List ℕ) (kind : ℕ) (t : S.Term) (k from at : ℕ) (s : Step) → Counted s.m → RulesPassed marks kind t k from at → 320 ≤ at
-    → from < 320
-    → NextOfMask marks kind t k from (record { found = false; next = 320; step = s })
+pub rules-end : (marks : List ℕ) (kind : ℕ) (t : S.Term) (k from q at : ℕ) → RulesPassed marks kind t k from (q * 64 + at) → 5 ≤ q → from < 320
+    → NextOfMask marks kind t k from None
 unfolding RulesPassed Settled
-rules-end marks kind t k from at s counted w h g = record {
-  all = λ p a b. inl (w p a (omega arith));
-  counted = counted;
-  forward = g;
-  inside = omega arith;
-  whole = λ e. refl;
-}
+rules-end marks kind t k from q at w h g = record { all = λ p a b. w p a (omega arith); counted = tt; forward = g; inside = omega arith }
 
 -- ════ one mask after the other
 
@@ -464,38 +410,29 @@ module _ (marks : List ℕ) (kind : ℕ) (t : S.Term) (from k at : ℕ) (w : Pla
   unfolding PlacesPassed
   mask-skipped h p a b = by_mask (Hopeless marks kind t) from k at 320 (omega arith) w (λ p a b. h p b) p a (omega arith)
 
-  module _ (r : Next) (n : NextOfMask marks kind t k at r) where
-    -- nothing of it is worth a trial
-    pub mask-passed : r.found ≡ false → PlacesPassed marks kind t from ((k + 1) * 320 + 0)
-    unfolding PlacesPassed Settled
-    mask-passed f p a b =
-        by_mask (Hopeless marks kind t) from k at 320 (omega arith) w
-        (λ p a b. ⊎_elim (λ x. x) (λ x. absurd (subst T (sym x.0 ∙ f) tt)) (n.all p a (omega (arith, n.whole f)))) p a (omega arith)
+  -- nothing of it is worth a trial
+  pub mask-passed : NextOfMask marks kind t k at None → PlacesPassed marks kind t from ((k + 1) * 320 + 0)
+  unfolding PlacesPassed Settled
+  mask-passed n p a b = by_mask (Hopeless marks kind t) from k at 320 (omega arith) w (λ p a i. n.all p a i) p a (omega arith)
 
-    -- something is
-    pub mask-found : from ≤ k * 320 + at → k < 128 → r.found ≡ true → NextPlace marks kind t from (record {
-      found = true;
-      next = k * 320 + r.next;
-      step =
-          r.step;
-    })
-    unfolding PlacesPassed Settled
-    mask-found h g f = record {
-      all = by_mask (λ m u j. Settled marks kind t m u j true r.step) from k at r.next n.inside (λ p a i. inl (w p a i))
-          (λ p a i. ⊎_elim inl (λ x. inr (refl, x.1)) (n.all p a i));
-      counted = n.counted;
-      forward = omega (arith, n.forward);
-      inside = omega (arith, n.inside);
-    }
+  -- something is
+  pub mask-found : (m : Next) → NextOfMask marks kind t k at (Some m) → from ≤ k * 320 + at → k < 128
+      → NextPlace marks kind t from (Some (record { next = k * 320 + m.next; step = m.step }))
+  unfolding PlacesPassed
+  mask-found m n h g = record {
+    all = by_mask (λ u r j. Settled marks kind t u r j (Some m.step)) from k at m.next n.inside (λ p a i. hopeless-settled _ _ _ _ _ _ (Some m.step) (w p a i)) (λ p a i. n.all p a i);
+    counted = n.counted;
+    forward = omega (arith, n.forward);
+    inside = omega (arith, n.inside);
+  }
 
 -- all places passed
-pub places-end : (marks : List ℕ) (kind : ℕ) (t : Term) (from k at end : ℕ) (s : Step) → Counted s.m
-    → PlacesPassed marks kind (term_of t) from (k * 320 + at) → length (term_of t).factors ≡ t.factor_count
-    → end ≡ 2 ^ t.factor_count → end ≤ k → from < 40960 → NextPlace marks kind (term_of t) from (record { found = false; next = 40960; step = s })
+pub places-end : (marks : List ℕ) (kind : ℕ) (t : Term) (from k at end : ℕ) → PlacesPassed marks kind (term_of t) from (k * 320 + at)
+    → length (term_of t).factors ≡ t.factor_count → end ≡ 2 ^ t.factor_count → end ≤ k → from < 40960 → NextPlace marks kind (term_of t) from None
 unfolding PlacesPassed Settled Hopeless mask_of
-places-end marks kind t from k at end s counted w long e h g = record {
-  all = λ p a b. inl (go p a (ltb p (k * 320 + at)) refl);
-  counted = counted;
+places-end marks kind t from k at end w long e h g = record {
+  all = λ p a b. go p a (ltb p (k * 320 + at)) refl;
+  counted = tt;
   forward = g;
   inside = omega arith;
 }

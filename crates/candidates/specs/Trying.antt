@@ -1,5 +1,5 @@
 -- The candidate of a term, a mask, a rule and a pick, and the next one worth a trial. Assumes nothing.
-use Rattle.std.specs.Prelude.{Bool, true, false, ◌≡◌, ◌⊎◌, List, [], ℕ, ◌+◌, ◌/◌, ◌%◌, ◌^◌, ◌≤◌, ◌<◌, T, eqb, ℤ, neg_ℤ, ◌*ℤ◌, length}
+use Rattle.std.specs.Prelude.{◌≡◌, ◌⊎◌, Option, Some, None, IfSome, List, [], ℕ, ◌+◌, ◌/◌, ◌%◌, ◌^◌, ◌≤◌, ◌<◌, T, eqb, ℤ, neg_ℤ, ◌*ℤ◌, length}
 use Rattle.specification.specs.Results.{given, when◌then◌else◌}
 use Rattle.specification.specs.Letters.{scalar, vector}
 use Rattle.specification.specs.Terms as S
@@ -13,7 +13,6 @@ use Rattle.terms.specs.Abstraction.{term_of, Counted}
 use Rattle.rules.specs.declared.steps.Step.{Step}
 use Rattle.rules.specs.Steps.{step_of}
 use Rattle.picks.specs.declared.choosing.Opening.{Opening}
-use Rattle.candidates.specs.declared.trying.Trial.{Trial}
 use Rattle.candidates.specs.declared.trying.Next.{Next}
 use Rattle.picks.specs.Choosing.{Opened}
 use Rattle.marking.specs.Marks.{Covering}
@@ -35,8 +34,9 @@ unfoldable pub OnlyStep : (t : S.Term) (mask rule pick : ℕ) (s : Step) → Typ
 OnlyStep t k r j s = (c : ℤ) → T (is_candidate t k r j) → c *ℤ gain t k r j ≡ neg_ℤ t.coef → candidate t k r j c ≡ step_of s
 
 -- nothing to hope for, or it is the step found
-unfoldable pub Settled : (marks : List ℕ) (kind : ℕ) (t : S.Term) (mask rule pick : ℕ) (found : Bool) (s : Step) → Type 0
-Settled marks kind t k r j found s = Hopeless marks kind t k r j ⊎ ((found ≡ true) × OnlyStep t k r j s)
+unfoldable pub Settled : (marks : List ℕ) (kind : ℕ) (t : S.Term) (mask rule pick : ℕ) (found : Option Step) → Type 0
+Settled marks kind t k r j None = Hopeless marks kind t k r j
+Settled marks kind t k r j (Some s) = Hopeless marks kind t k r j ⊎ OnlyStep t k r j s
 
 -- an opening of some kind of form and some mask
 pub record SomeOpened (t : Term) (rule : ℕ) (o : Opening) : Type 0 where
@@ -45,19 +45,29 @@ pub record SomeOpened (t : Term) (rule : ℕ) (o : Opening) : Type 0 where
   pub opened : Opened kind t mask rule o
 
 -- what trying a pick gives
-pub record Tried (marks : List ℕ) (t : Term) (rule : ℕ) (o : Opening) (pick : ℕ) (r : Trial) : Type 0 where
-  pub is : (kind mask : ℕ) → Opened kind t mask rule o → Settled marks kind (term_of t) mask rule pick r.found r.step
-  pub counted : Counted r.step.m
+pub record Tried (marks : List ℕ) (t : Term) (rule : ℕ) (o : Opening) (pick : ℕ) (r : Option Step) : Type 0 where
+  pub is : (kind mask : ℕ) → Opened kind t mask rule o → Settled marks kind (term_of t) mask rule pick r
+  pub counted : IfSome r (λ s. Counted s.m)
 
 -- ════ the next
 
+-- the step found
+abbrev pub found_step : (r : Option Next) → Option Step
+found_step None = None
+found_step (Some n) = Some n.step
+
+-- the place behind it; the end of all places where there is none
+abbrev pub place_behind : (end : ℕ) (r : Option Next) → ℕ
+place_behind end None = end
+place_behind end (Some n) = n.next
+
 -- all picks from one on, before the next
-pub record NextPick (marks : List ℕ) (t : Term) (rule : ℕ) (o : Opening) (from : ℕ) (r : Next) : Type 0 where
-  pub all : (kind mask pick : ℕ) → Opened kind t mask rule o → from ≤ pick → pick < r.next → Settled marks kind (term_of t) mask rule pick r.found r.step
-  pub counted : Counted r.step.m
-  pub forward : from < r.next
-  pub inside : r.next ≤ 64
-  pub whole : r.found ≡ false → r.next ≡ 64
+pub record NextPick (marks : List ℕ) (t : Term) (rule : ℕ) (o : Opening) (from : ℕ) (r : Option Next) : Type 0 where
+  pub all : (kind mask pick : ℕ) → Opened kind t mask rule o → from ≤ pick → pick < place_behind 64 r
+      → Settled marks kind (term_of t) mask rule pick (found_step r)
+  pub counted : IfSome r (λ n. Counted n.step.m)
+  pub forward : from < place_behind 64 r
+  pub inside : place_behind 64 r ≤ 64
 
 -- no candidate of the rule at a form of the kind, where the mask leaves so many letters: the rule is one of vectors and the form is not, or it takes another
 -- number
@@ -65,12 +75,11 @@ unfoldable pub RuledOut : (kind left : ℕ) (part : List ℕ) (rule : ℕ) → T
 RuledOut kind n p r = ((kind ≡ scalar) × (rule_kind r ≡ vector)) ⊎ (n + length (when eqb (rule_kind r) vector then p else []) ≡ rule_letters r → ⊥)
 
 -- the rules and the picks of a mask in one row of places, 64 picks for a rule: all from one on, before the next
-pub record NextOfMask (marks : List ℕ) (kind : ℕ) (t : S.Term) (mask from : ℕ) (r : Next) : Type 0 where
-  pub all : (p : ℕ) → from ≤ p → p < r.next → Settled marks kind t mask (p / 64 + 1) (p % 64) r.found r.step
-  pub counted : Counted r.step.m
-  pub forward : from < r.next
-  pub inside : r.next ≤ 320
-  pub whole : r.found ≡ false → r.next ≡ 320
+pub record NextOfMask (marks : List ℕ) (kind : ℕ) (t : S.Term) (mask from : ℕ) (r : Option Next) : Type 0 where
+  pub all : (p : ℕ) → from ≤ p → p < place_behind 320 r → Settled marks kind t mask (p / 64 + 1) (p % 64) (found_step r)
+  pub counted : IfSome r (λ n. Counted n.step.m)
+  pub forward : from < place_behind 320 r
+  pub inside : place_behind 320 r ≤ 320
 
 -- the masks, the rules and the picks in one row of places: 64 picks for a rule, 5 rules for a mask
 unfoldable pub mask_of : (place : ℕ) → ℕ
@@ -83,8 +92,8 @@ unfoldable pub pick_of : (place : ℕ) → ℕ
 pick_of p = p % 64
 
 -- all places from one on, before the next; 128 masks have 40960 places
-pub record NextPlace (marks : List ℕ) (kind : ℕ) (t : S.Term) (from : ℕ) (r : Next) : Type 0 where
-  pub all : (p : ℕ) → from ≤ p → p < r.next → Settled marks kind t (mask_of p) (rule_of p) (pick_of p) r.found r.step
-  pub counted : Counted r.step.m
-  pub forward : from < r.next
-  pub inside : r.next ≤ 40960
+pub record NextPlace (marks : List ℕ) (kind : ℕ) (t : S.Term) (from : ℕ) (r : Option Next) : Type 0 where
+  pub all : (p : ℕ) → from ≤ p → p < place_behind 40960 r → Settled marks kind t (mask_of p) (rule_of p) (pick_of p) (found_step r)
+  pub counted : IfSome r (λ n. Counted n.step.m)
+  pub forward : from < place_behind 40960 r
+  pub inside : place_behind 40960 r ≤ 40960

@@ -9,7 +9,6 @@ ghost use Rattle.picks.specs.Choosing.{LeftBy};
 ghost use Rattle.candidates.specs.Trying.{SomeOpened, Tried, NextPick, RuledOut, NextOfMask, NextPlace};
 
 use integers::{divide, neg};
-use logs::steps::no_step;
 use marking::marking::size_mark;
 use marks::steps::{gain, mark_step, surely_longer};
 use picks::choosing::{Opening, bit_digits, block_size, letters_left, mask_count, open, pick};
@@ -17,17 +16,9 @@ use rules::steps::{Step, rule_kind, rule_letters};
 use terms::shape::part_letters;
 use terms::types::{Part, Term};
 
-// A step worth a trial, if there is one.
-#[derive(Clone, Copy)]
-pub struct Trial {
-    pub found: bool,
-    pub step: Step,
-}
-
-// A step worth a trial, if there is one, and the place behind it.
+// A step worth a trial, and the place behind it.
 #[derive(Clone, Copy)]
 pub struct Next {
-    pub found: bool,
     pub next: usize,
     pub step: Step,
 }
@@ -36,60 +27,34 @@ pub struct Next {
 fn with_coef(c: i64, t: Term) -> Term
     ensures { result ≡ record { coef = c; factors = t.factors; factor_count = t.factor_count; part = t.part } }
 {
-    let f = t.factors;
-    let n = t.factor_count;
-    let p = t.part;
-    Term {
-        coef: c,
-        factors: f,
-        factor_count: n,
-        part: p,
-    }
+    Term { coef: c, ..t }
 }
 
-// The candidate by a pick: its M takes the term away exactly.
-fn try_pick(marks: &[u8; 512], t: Term, rule: u8, o: Opening, j: usize) -> Trial
+// The candidate by a pick, if it is worth a trial: its M takes the term away exactly.
+fn try_pick(marks: &[u8; 512], t: Term, rule: u8, o: Opening, j: usize) -> Option<Step>
     requires { (length marks.now ≡ 512) × TermValid t × T (is_rule rule) × SomeOpened t rule o × (j < 2 ^ rule_letters rule) }
     ensures { Tried marks.now t rule o j result }
 {
+    let letters = pick(&o.pool, rule, j)?;
     let m = o.m;
-    let p = pick(&o.pool, rule, j);
-    let letters = p.letters;
-    let s = Step {
-        rule: rule,
-        letters: letters,
-        m: m,
-    };
-    if !p.fits {
-        return Trial {
-            found: false,
-            step: s,
-        };
-    }
+    let s = Step { rule, letters, m };
     let w = mark_step(s);
     if surely_longer(marks, 0, s, w) {
-        return Trial {
-            found: false,
-            step: s,
-        };
+        return None;
     }
     let q = divide(neg(t.coef), gain(t, s, w));
+    if !q.exact {
+        return None;
+    }
     if surely_longer(marks, size_mark(q.value), s, w) {
-        return Trial {
-            found: false,
-            step: s,
-        };
+        return None;
     }
     let n = with_coef(q.value, m);
-    let e = Step {
-        rule: rule,
-        letters: letters,
+    Some(Step {
+        rule,
+        letters,
         m: n,
-    };
-    Trial {
-        found: q.exact,
-        step: e,
-    }
+    })
 }
 
 // Whether a block can be taken without the first letter: in rule 5, where the block is first, only if the second is the same.
@@ -118,7 +83,7 @@ fn may_take_block(digits: &[u8; 64], block: u8, first: bool, j: usize) -> bool
 }
 
 // The next pick of an opening that is worth a trial.
-fn next_pick(marks: &[u8; 512], t: Term, rule: u8, o: Opening, from: usize) -> Next
+fn next_pick(marks: &[u8; 512], t: Term, rule: u8, o: Opening, from: usize) -> Option<Next>
     requires { (length marks.now ≡ 512) × TermValid t × T (is_rule rule) × SomeOpened t rule o × (from < 64) }
     ensures { NextPick marks.now t rule o from result }
 {
@@ -126,29 +91,15 @@ fn next_pick(marks: &[u8; 512], t: Term, rule: u8, o: Opening, from: usize) -> N
     let block = block_size(rule);
     let digits = bit_digits();
     let first = may_leave_first(&o.pool, rule);
-    let mut j = from;
-    while j < end {
+    for j in from..end {
         if !may_take_block(&digits, block, first, j) {
-            j += 1;
             continue;
         }
-        let r = try_pick(marks, t, rule, o, j);
-        j += 1;
-        if r.found {
-            let s = r.step;
-            return Next {
-                found: true,
-                next: j,
-                step: s,
-            };
+        if let Some(step) = try_pick(marks, t, rule, o, j) {
+            return Some(Next { next: j + 1, step });
         }
     }
-    let s = no_step();
-    Next {
-        found: false,
-        next: 64,
-        step: s,
-    }
+    None
 }
 
 // How many letters of a vector part a rule takes.
@@ -176,71 +127,59 @@ fn is_open(kind: u8, left: usize, p: Part, rule: u8) -> bool
 }
 
 // The next candidate of a term that is worth a trial, by a mask that leaves so many letters.
-fn next_of_mask(marks: &[u8; 512], kind: u8, t: Term, k: usize, left: usize, from: usize) -> Next
+fn next_of_mask(
+    marks: &[u8; 512],
+    kind: u8,
+    t: Term,
+    k: usize,
+    left: usize,
+    from: usize,
+) -> Option<Next>
     requires { (length marks.now ≡ 512) × TermValid t × (k < 2 ^ t.factor_count) × LeftBy (term_of t).factors k left × (from < 320) }
     ensures { NextOfMask marks.now kind (term_of t) k from result }
 {
     let p = t.part;
-    let mut at = from;
-    while at < 320 {
-        let q = at / 64;
+    let mut at = from % 64;
+    for q in from / 64..5 {
+        let start = at;
+        at = 0;
         let rule = (q + 1) as u8;
         if !is_open(kind, left, p, rule) {
-            at = (q + 1) * 64;
             continue;
         }
-        let o = open(kind, t, k, rule);
-        if o.fits {
-            let r = next_pick(marks, t, rule, o, at % 64);
-            if r.found {
-                let s = r.step;
-                let next = q * 64 + r.next;
-                return Next {
-                    found: true,
-                    next: next,
-                    step: s,
-                };
-            }
+        let Some(o) = open(kind, t, k, rule) else {
+            continue;
+        };
+        if let Some(n) = next_pick(marks, t, rule, o, start) {
+            return Some(Next {
+                next: q * 64 + n.next,
+                step: n.step,
+            });
         }
-        at = (q + 1) * 64;
     }
-    let s = no_step();
-    Next {
-        found: false,
-        next: 320,
-        step: s,
-    }
+    None
 }
 
 // The next candidate of a term that is worth a trial.
-pub fn next_candidate(marks: &[u8; 512], kind: u8, t: Term, from: usize) -> Next
+pub fn next_candidate(marks: &[u8; 512], kind: u8, t: Term, from: usize) -> Option<Next>
     requires { (length marks.now ≡ 512) × TermValid t × (from < 40960) }
     ensures { NextPlace marks.now kind (term_of t) from result }
 {
     let end = mask_count(t.factor_count);
-    let mut k = from / 320;
     let mut at = from % 320;
-    while k < end {
-        let left = letters_left(&t.factors, t.factor_count, k);
-        if left <= 6 {
-            let r = next_of_mask(marks, kind, t, k, left, at);
-            if r.found {
-                let s = r.step;
-                let next = k * 320 + r.next;
-                return Next {
-                    found: true,
-                    next: next,
-                    step: s,
-                };
-            }
-        }
-        k += 1;
+    for k in from / 320..end {
+        let start = at;
         at = 0;
+        let left = letters_left(&t.factors, t.factor_count, k);
+        if left > 6 {
+            continue;
+        }
+        if let Some(n) = next_of_mask(marks, kind, t, k, left, start) {
+            return Some(Next {
+                next: k * 320 + n.next,
+                step: n.step,
+            });
+        }
     }
-    let s = no_step();
-    Next {
-        found: false,
-        next: 40960,
-        step: s,
-    }
+    None
 }

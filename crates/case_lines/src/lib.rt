@@ -56,10 +56,8 @@ pub fn print_character(c: u8) {
 
 // Bytes as hexadecimal digits.
 pub fn print_bytes(s: &[u8]) {
-    let mut i: usize = 0;
-    while i < s.len() {
-        io::print_hex(1, s[i] as u64, 2);
-        i += 1;
+    for &b in s {
+        io::print_hex(1, b as u64, 2);
     }
 }
 
@@ -96,25 +94,14 @@ pub fn fill(s: &mut [u8])
     ensures filled { AllFilling s.new }
     ensures same { length s.new ≡ length s.old }
 {
-    let mut i: usize = 0;
-    while i < s.len() {
-        s[i] = FILLING;
-        i += 1;
-    }
+    s.fill(FILLING);
 }
 
 // Whether the bytes are as they were filled.
 fn stands(s: &[u8]) -> bool
     ensures { Stand s.now result }
 {
-    let mut i: usize = 0;
-    while i < s.len() {
-        if s[i] != FILLING {
-            return false;
-        }
-        i += 1;
-    }
-    true
+    s.iter().all(|&b| b == FILLING)
 }
 
 // The word for memory that was changed.
@@ -126,17 +113,7 @@ pub fn print_standing(s: &[u8]) {
 
 // Whether two parts of memory hold the same bytes.
 fn same(s: &[u8], t: &[u8]) -> bool {
-    if s.len() != t.len() {
-        return false;
-    }
-    let mut i: usize = 0;
-    while i < s.len() {
-        if s[i] != t[i] {
-            return false;
-        }
-        i += 1;
-    }
-    true
+    s == t
 }
 
 // The terms that a form's record counts; 255 where it is cut off.

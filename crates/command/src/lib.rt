@@ -4,15 +4,15 @@
 ghost use Rattle.std.specs.Prelude.{◌≡◌, ◌≤◌, length};
 ghost use Rattle.specification.specs.Records.{write_into};
 ghost use Rattle.specification.specs.Commands.{is_command, Commanded, CommandAnswered};
-ghost use Rattle.printer_call.specs.Answers.{printing_of};
+ghost use Rattle.printer_call.specs.Answers.{length_of};
 ghost use Rattle.telling.specs.Told.{AnswerTold};
 
 use decide_word::decide_text;
 use derivation_word::derivation_text;
 use lines::words::same_bytes;
 use log_words::{check_text, pack_text};
-use printer_call::Printing;
 use reduce_word::reduce_text;
+use refusal::Refusal;
 use shorten_word::shorten_text;
 use unpack_word::unpack_text;
 use usage::tell_usage;
@@ -82,25 +82,21 @@ fn copy_front(out: &mut [u8], text: &[u8])
     requires { length text.now ≤ length out.old }
     ensures { out.new ≡ write_into text.now out.old }
 {
-    let mut i: usize = 0;
-    while i < text.len() {
-        out[i] = text[i];
-        i += 1;
-    }
+    out[..text.len()].copy_from_slice(text);
 }
 
-// The answer and its length. One that has more bytes than were lent, or more than 65,536, is refused with 2, and nothing is written.
-pub fn command(word: &[u8], s: &[u8], out: &mut [u8]) -> Printing
-    ensures { CommandAnswered word.now s.now out.old (printing_of result) out.new }
+// The answer and its length. One that has more bytes than were lent, or more than 65,536, is refused, and nothing is written.
+pub fn command(word: &[u8], s: &[u8], out: &mut [u8]) -> Result<usize, Refusal>
+    ensures { CommandAnswered word.now s.now out.old (length_of result) out.new }
 {
     let mut told = io::large_buffer();
     let n = answer(word, s, &mut told);
     if n > told.len() {
-        return Printing::Refused(2);
+        return Err(Refusal::NoRoom);
     }
     if n > out.len() {
-        return Printing::Refused(2);
+        return Err(Refusal::NoRoom);
     }
     copy_front(out, &told[..n]);
-    Printing::Printed(n)
+    Ok(n)
 }

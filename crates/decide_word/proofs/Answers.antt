@@ -11,6 +11,9 @@ use Rattle.terms.specs.Abstraction.{form_of}
 use Rattle.lines.specs.declared.places.Place.{Place}
 use Rattle.lines.specs.Places.{place_of, Reached}
 use Rattle.declarations.specs.declared.Header.{Header}
+use Rattle.lines.specs.declared.places.UnreadLine.{UnreadLine}
+use Rattle.refusal.specs.Numbers.{number_of}
+use Rattle.std.specs.Prelude.{Ok, Err}
 use Rattle.declarations.specs.Names.{HeaderRead}
 use Rattle.formula_lines.proofs.OneLine.{column_of, header-table, names_refused, line_refused, more_refused, line_given}
 use Rattle.sides.specs.declared.Sides.{Sides}
@@ -22,14 +25,14 @@ use Rattle.telling.specs.Told.{Told, AnswerTold}
 abbrev Right : (names table : List ℕ) → S.Form × S.Form → (text : List ℕ) → Type 0
 Right names table r text = DecisionTold names table r.0 r.1 text
 
-module _ (s : List ℕ) (h : Header) (names table : List ℕ) (r : HeaderRead s h names table) where
-  -- the names are refused
-  pub names-told : (h.refusal ≡ 0 → ⊥) → (out : List ℕ) (end : ℕ)
-      → Told out end (refusal_text h.refusal h.place.number h.column (line_of (place_of s h.place))) → AnswerTold (DecideAnswer s) out end
-  unfolding DecideAnswer
-  names-told n out end t = record { text = _; right = names_refused s h names table r read_sides Right n; told = t }
+-- the names are refused
+pub names-told : (s : List ℕ) (e : UnreadLine) (names table : List ℕ) → HeaderRead s (Err e) names table → (n : ℕ) → n ≡ number_of e.why → (out : List ℕ) (end : ℕ)
+    → Told out end (refusal_text n e.place.number e.column (line_of (place_of s e.place))) → AnswerTold (DecideAnswer s) out end
+unfolding DecideAnswer
+names-told s e names table r n q out end t = record { text = _; right = names_refused s e names table r read_sides Right n q; told = t }
 
-  module _ (e : h.refusal ≡ 0) (f : Sides)
+module _ (s : List ℕ) (h : Header) (names table : List ℕ) (r : HeaderRead s (Ok h) names table) where
+  module _ (f : Sides)
       (g : SidesRead (take h.count table) (read_sides (take h.count names) (take h.count table) (line_of (place_of s h.place))) f) where
     -- the line is refused
     module _ (n : f.refusal ≡ 0 → ⊥) where
@@ -41,13 +44,13 @@ module _ (s : List ℕ) (h : Header) (names table : List ℕ) (r : HeaderRead s 
       pub sides-told : (out : List ℕ) (end : ℕ) → Told out end (refusal_text f.refusal h.place.number f.column (line_of (place_of s h.place)))
           → AnswerTold (DecideAnswer s) out end
       unfolding DecideAnswer
-      sides-told out end t = record { text = _; right = line_refused s h names table r read_sides Right e f.refusal f.column (g.refuses n); told = t }
+      sides-told out end t = record { text = _; right = line_refused s h names table r read_sides Right f.refusal f.column (g.refuses n); told = t }
 
     module _ (z : f.refusal ≡ 0) where
       -- what telling the decision asks
       pub comparable : Comparable (take h.count names) (take h.count table) f.first f.second
       comparable = record {
-        good = header-table s h names table r e;
+        good = header-table s h names table r;
         valid_first = g.valid_first z;
         valid_second = g.valid_second z;
         kinds = g.kinds z;
@@ -61,7 +64,7 @@ module _ (s : List ℕ) (h : Header) (names table : List ℕ) (r : HeaderRead s 
         unfolding DecideAnswer
         more_told l out end t = record {
           text = _;
-          right = more_refused s h names table r read_sides Right e (form_of f.first, form_of f.second) (g.gives z) q reached l;
+          right = more_refused s h names table r read_sides Right (form_of f.first, form_of f.second) (g.gives z) q reached l;
           told = t;
         }
 
@@ -71,6 +74,6 @@ module _ (s : List ℕ) (h : Header) (names table : List ℕ) (r : HeaderRead s 
         unfolding DecideAnswer
         decision_told l out end t = record {
           text = t.text;
-          right = line_given s h names table r read_sides Right e (form_of f.first, form_of f.second) (g.gives z) q reached l t.text t.right;
+          right = line_given s h names table r read_sides Right (form_of f.first, form_of f.second) (g.gives z) q reached l t.text t.right;
           told = t.told;
         }

@@ -39,11 +39,9 @@ pub fn settle(table: &[u8], f: Form, g: Form, m: u8, buffer: &mut [u8], work: &m
     ensures { DecidedSo table.now f g buffer.old work.old (decision_of result) buffer.new work.new }
 {
     let mut found = false;
-    let mut i: u8 = 0;
-    while i < m {
+    for i in 0..m {
         let n = compare(work, f, g, i);
         found = keep_first(table, work, n, buffer, found);
-        i += 1;
     }
     if found {
         return Decision::Differs;

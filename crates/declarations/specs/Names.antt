@@ -1,40 +1,51 @@
 -- Names in lent bytes. Assumes nothing.
-use Rattle.std.specs.Prelude.{◌≡◌, List, ℕ, suc, ◌≤◌, length, take}
-use Rattle.specification.specs.Text.{Placed, refused_at, placed}
-use Rattle.specification.specs.Lines.{refused_in, lined, line_of, Named, read_names, read_header}
+use Rattle.std.specs.Prelude.{◌≡◌, Ok, Err, IfOk, MatchResult, List, ℕ, suc, ◌≤◌, length, take}
+use Rattle.std.specs.Prelude as Std
+use Rattle.specification.specs.Text.{Placed, refused_at}
+use Rattle.specification.specs.Lines.{in_line, line_of, Named, read_names, declared, read_header}
+use Rattle.refusal.specs.declared.Refusal.TheVariants.{BadTable}
+use Rattle.refusal.specs.Numbers.{number_of}
+use Rattle.texts.specs.declared.Unread.{Unread}
+use Rattle.texts.specs.Readings.{placed_of}
 use Rattle.lines.specs.declared.places.Place.{Place}
+use Rattle.lines.specs.declared.places.UnreadLine.{UnreadLine}
 use Rattle.lines.specs.Places.{place_of, Inside}
+use Rattle.lines.specs.Readings.{lined_of}
 use Rattle.declarations.specs.declared.NameStep.{NameStep}
-use Rattle.declarations.specs.declared.Names.{Names}
 use Rattle.declarations.specs.declared.Header.{Header}
 
 -- the first so many names, and their kinds
 abbrev pub named_of : (count : ℕ) (names table : List ℕ) → Named
 named_of count names table = (take count names, take count table)
 
+-- what is left to be read behind a turn, or its refusal
+abbrev pub turned : (most : ℕ) (line names table : List ℕ) → Std.Result NameStep Unread → Placed Named
+turned most line names table (Ok q) = read_names most q.kind line q.at (named_of q.count names table)
+turned most line names table (Err e) = refused_at (number_of e.why) e.column
+
 -- one more turn of reading names
-pub record NameTurn (line : List ℕ) (at kind : ℕ) (names table : List ℕ) (count : ℕ) (r : NameStep) (names' table' : List ℕ) : Type 0 where
-  pub refuses : (r.refusal ≡ 0 → ⊥) → (most : ℕ) → read_names (suc most) kind line at (named_of count names table) ≡ refused_at r.refusal r.column
-  pub goes : r.refusal ≡ 0 → (most : ℕ)
-      → read_names (suc most) kind line at (named_of count names table) ≡ read_names most r.kind line r.at (named_of r.count names' table')
-  pub few : r.refusal ≡ 0 → r.count ≤ 24
+pub record NameTurn (line : List ℕ) (p : NameStep) (names table : List ℕ) (r : Std.Result NameStep Unread) (names' table' : List ℕ) : Type 0 where
+  pub is : (most : ℕ) → read_names (suc most) p.kind line p.at (named_of p.count names table) ≡ turned most line names' table' r
+  pub few : IfOk r (λ q. q.count ≤ 24)
 
 -- names read: the refusal with its column, or how many there are then
-pub record NamesRead (x : Placed Named) (r : Names) (names table : List ℕ) : Type 0 where
-  pub refuses : (r.refusal ≡ 0 → ⊥) → x ≡ refused_at r.refusal r.column
-  pub gives : r.refusal ≡ 0 → x ≡ placed (named_of r.count names table)
-  pub few : r.refusal ≡ 0 → r.count ≤ 24
+pub record NamesRead (x : Placed Named) (r : Std.Result ℕ Unread) (names table : List ℕ) : Type 0 where
+  pub is : x ≡ placed_of (λ n. named_of n names table) r
+  pub few : IfOk r (λ n. n ≤ 24)
 
--- names are declared, or 1 at the place
-pub record SomeNames (count : ℕ) (p : Place) (r : Header) : Type 0 where
-  pub place_is : r.place ≡ p
-  pub column_is : r.column ≡ 0
-  pub none : count ≡ 0 → r.refusal ≡ 1
-  pub some : 1 ≤ count → (r.refusal ≡ 0) × (r.count ≡ count)
+-- the names of the line at a place
+pub record LineRead (s : List ℕ) (p : Place) (n : Named) (r : Std.Result ℕ UnreadLine) (names table : List ℕ) : Type 0 where
+  pub is : in_line (place_of s p) (declared (line_of (place_of s p)) n) ≡ lined_of s (λ n. named_of n names table) r
+  pub few : IfOk r (λ n. n ≤ 24)
+  pub here : MatchResult r (λ _. Inside s p) (λ e. e.place ≡ p)
+
+-- names are declared, or none at the place
+pub record SomeNames (count : ℕ) (p : Place) (r : Std.Result Header UnreadLine) : Type 0 where
+  pub none : count ≡ 0 → r ≡ Err (record { why = BadTable; column = 0; place = p })
+  pub some : 1 ≤ count → r ≡ Ok (record { count = count; place = p })
 
 -- the names of a text
-pub record HeaderRead (s : List ℕ) (r : Header) (names table : List ℕ) : Type 0 where
-  pub refuses : (r.refusal ≡ 0 → ⊥) → read_header s ≡ refused_in r.refusal r.place.number r.column (line_of (place_of s r.place))
-  pub gives : r.refusal ≡ 0 → read_header s ≡ lined (named_of r.count names table, place_of s r.place)
-  pub few : r.refusal ≡ 0 → r.count ≤ 24
-  pub inside : Inside s r.place
+pub record HeaderRead (s : List ℕ) (r : Std.Result Header UnreadLine) (names table : List ℕ) : Type 0 where
+  pub is : read_header s ≡ lined_of s (λ h. (named_of h.count names table, place_of s h.place)) r
+  pub few : IfOk r (λ h. h.count ≤ 24)
+  pub inside : MatchResult r (λ h. Inside s h.place) (λ e. Inside s e.place)

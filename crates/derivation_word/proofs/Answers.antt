@@ -44,7 +44,9 @@ use Rattle.formulas.specs.Readings.{Named}
 use Rattle.formula_call.specs.declared.TextForm.{TextForm}
 use Rattle.formula_call.specs.Texts.{text_form_of, TextGives}
 use Rattle.formula_call.proofs.Given.{text_refused, text_given, gives_as}
-use Rattle.declarations.specs.declared.Names.{Names}
+use Rattle.std.specs.Prelude.{Ok, Err}
+use Rattle.refusal.specs.Numbers.{number_of}
+use Rattle.texts.specs.declared.Unread.{Unread}
 use Rattle.declarations.specs.Names.{named_of, NamesRead}
 use Rattle.log_texts.specs.declared.steps.StepLine.{StepLine}
 use Rattle.log_texts.specs.Steps.{StepLineRead}
@@ -137,30 +139,37 @@ refused_line d valid k line before after at x answer n c end e t =
 
 -- ════ names
 
-module _ (d : Derivation) (valid : DerivationValid d) (e : d.begun ≡ false) (k : ℕ) (line : List ℕ) (r : Names) (names table : List ℕ)
-    (read : NamesRead (declared line (names_of d, kinds_of d)) r names table) where
+module _ (d : Derivation) (valid : DerivationValid d) (e : d.begun ≡ false) (k : ℕ) (line : List ℕ) (names table : List ℕ) where
   -- refused
-  pub names-column : (r.refusal ≡ 0 → ⊥) → r.column ≤ length line
-  names-column h = column_in line (declared line (names_of d, kinds_of d)) r.refusal r.column (declared-within line (names_of d, kinds_of d)) (read.refuses h)
+  module _ (r : Unread) (read : NamesRead (declared line (names_of d, kinds_of d)) (Err r) names table) where
+    pub names-column : r.column ≤ length line
+    names-column = column_in line (declared line (names_of d, kinds_of d)) (number_of r.why) r.column (declared-within line (names_of d, kinds_of d)) read.is
+
+    pub names_refused : (n : ℕ) → n ≡ number_of r.why → (before after : List ℕ) (at end : ℕ) → Tells before after at end (refusal_text n k r.column line)
+        → LineTold (line_read k line (derivation_of d) (declared line (names_of d, kinds_of d)) names_answer) before after at (record { derivation = d; end = end })
+    names_refused n q before after at end t =
+        refused_line d valid k line before after at (declared line (names_of d, kinds_of d)) names_answer n r.column end
+        (read.is ∙ ap (λ (m : ℕ). refused_at m r.column) (sym q)) t
 
   -- taken
-  pub names_taken : (out : List ℕ) (at : ℕ) (form first : Form) (steps : Steps) → r.refusal ≡ 0 → length names ≡ 24 → length table ≡ 24
+  pub names_taken : (n : ℕ) → NamesRead (declared line (names_of d, kinds_of d)) (Ok n) names table → (out : List ℕ) (at : ℕ) (form first : Form) (steps : Steps)
+      → length names ≡ 24 → length table ≡ 24
       → LineTold (line_read k line (derivation_of d) (declared line (names_of d, kinds_of d)) names_answer) out out at
       (record {
-        derivation = record { begun = false; names = names; state = record { letters = r.count; table = table; count = 0; form = form }; first = first; steps = steps };
+        derivation = record { begun = false; names = names; state = record { letters = n; table = table; count = 0; form = form }; first = first; steps = steps };
         end = at;
       })
   unfolding line_read names_answer derivation_of names_of kinds_of Going
-  names_taken out at form first steps z long_names long_table =
+  names_taken n read out at form first steps long_names long_table =
       let next : Derivation =
-      record { begun = false; names = names; state = record { letters = r.count; table = table; count = 0; form = form }; first = first; steps = steps } in
-      let q = read.gives z in
-      let g : GoodSoFar (named_of r.count names table) = declared_good line (names_of d, kinds_of d) (named_of r.count names table) (good d valid e) q in
+      record { begun = false; names = names; state = record { letters = n; table = table; count = 0; form = form }; first = first; steps = steps } in
+      let q = read.is in
+      let g : GoodSoFar (named_of n names table) = declared_good line (names_of d, kinds_of d) (named_of n names table) (good d valid e) q in
       subst (λ x. LineTold (line_read k line (derivation_of d) x names_answer) out out at (record { derivation = next; end = at })) (sym q)
       (record {
         is = refl;
         tells = tells-nothing out at;
-        valid = record { few = read.few z; named = long_names; kinds = long_table; going = g; whole = λ t. absurd (true≢false (sym t)) };
+        valid = record { few = read.few; named = long_names; kinds = long_table; going = g; whole = λ t. absurd (true≢false (sym t)) };
       })
 
 -- ════ the first form

@@ -22,7 +22,7 @@ pub fn start() -> Derivation
     let table = [0u8; 24];
     let state = State {
         letters: 0,
-        table: table,
+        table,
         count: 0,
         form: f,
     };
@@ -30,9 +30,9 @@ pub fn start() -> Derivation
     Derivation {
         begun: false,
         names: table,
-        state: state,
+        state,
         first: f,
-        steps: steps,
+        steps,
     }
 }
 
@@ -55,10 +55,7 @@ fn open_line(d: Derivation, k: usize, line: &[u8], out: &mut [u8], at: usize) ->
     let count = state.count;
     if is_one_too_many(count, line) {
         let end = tell_step_refusal(out, at, 14, count + 1);
-        return Answered {
-            derivation: d,
-            end: end,
-        };
+        return Answered { derivation: d, end };
     }
     step_line(d, k, line, out, at)
 }

@@ -51,29 +51,28 @@ pub fn names_line(d: Derivation, k: usize, line: &[u8], out: &mut [u8], at: usiz
     let before = d.state;
     let mut names = d.names;
     let mut table = before.table;
-    let r = declare(line, &mut names, &mut table, before.letters);
-    if r.refusal != 0 {
-        let end = tell_refusal(out, at, r.refusal, k, r.column, line);
-        return Answered {
-            derivation: d,
-            end: end,
-        };
-    }
+    let n = match declare(line, &mut names, &mut table, before.letters) {
+        Ok(n) => n,
+        Err(e) => {
+            let end = tell_refusal(out, at, e.why.number(), k, e.column, line);
+            return Answered { derivation: d, end };
+        }
+    };
     let form = before.form;
     let state = State {
-        letters: r.count,
-        table: table,
+        letters: n,
+        table,
         count: 0,
-        form: form,
+        form,
     };
     let first = d.first;
     let steps = d.steps;
     let next = Derivation {
         begun: false,
-        names: names,
-        state: state,
-        first: first,
-        steps: steps,
+        names,
+        state,
+        first,
+        steps,
     };
     Answered {
         derivation: next,
@@ -104,30 +103,27 @@ pub fn first_line(d: Derivation, k: usize, line: &[u8], out: &mut [u8], at: usiz
     let t = read_first(&names[..n], &table[..n], line);
     if t.refusal != 0 {
         let end = tell_refusal(out, at, t.refusal, k, t.column, line);
-        return Answered {
-            derivation: d,
-            end: end,
-        };
+        return Answered { derivation: d, end };
     }
     let f = t.form;
     let end = tell_form(out, at, &names[..n], f);
     let state = State {
         letters: n,
-        table: table,
+        table,
         count: 0,
         form: f,
     };
     let steps = no_steps();
     let next = Derivation {
         begun: true,
-        names: names,
-        state: state,
+        names,
+        state,
         first: f,
-        steps: steps,
+        steps,
     };
     Answered {
         derivation: next,
-        end: end,
+        end,
     }
 }
 
@@ -167,7 +163,7 @@ fn stepped(d: Derivation, step: Step, f: Form) -> Derivation
     let table = before.table;
     let state = State {
         letters: before.letters,
-        table: table,
+        table,
         count: count + 1,
         form: f,
     };
@@ -175,10 +171,10 @@ fn stepped(d: Derivation, step: Step, f: Form) -> Derivation
     let first = d.first;
     Derivation {
         begun: true,
-        names: names,
-        state: state,
-        first: first,
-        steps: steps,
+        names,
+        state,
+        first,
+        steps,
     }
 }
 
@@ -194,10 +190,7 @@ pub fn step_line(d: Derivation, k: usize, line: &[u8], out: &mut [u8], at: usize
     let q = read_one_step(&names[..n], &table[..n], line);
     if q.refusal != 0 {
         let end = tell_refusal(out, at, q.refusal, k, q.column, line);
-        return Answered {
-            derivation: d,
-            end: end,
-        };
+        return Answered { derivation: d, end };
     }
     let step = q.step;
     let a = add_typed(before, step);
@@ -205,10 +198,7 @@ pub fn step_line(d: Derivation, k: usize, line: &[u8], out: &mut [u8], at: usize
     match answer {
         Answer::Refused(m) => {
             let end = tell_step_refusal(out, at, m, before.count + 1);
-            Answered {
-                derivation: d,
-                end: end,
-            }
+            Answered { derivation: d, end }
         }
         Answer::Taken => {
             let reached = a.state;
@@ -217,7 +207,7 @@ pub fn step_line(d: Derivation, k: usize, line: &[u8], out: &mut [u8], at: usize
             let next = stepped(d, step, f);
             Answered {
                 derivation: next,
-                end: end,
+                end,
             }
         }
     }

@@ -269,8 +269,8 @@ pub first_found : (ms : List Summand) (d most v : ℕ) → v ≤ most → ((u : 
 first_found ms d most v l h e = record { few = l; before = h; found = inl (sym e) }
 
 -- the largest number ends it too
-pub first_last : (ms : List Summand) (d most v : ℕ) → v ≤ most → most ≤ v → ((u : ℕ) → u < v → is_some (substituted d u ms) ≡ false) → FirstNumber ms d most v
-first_last ms d most v l k h = record { few = l; before = h; found = inr (omega arith) }
+pub first_last : (ms : List Summand) (d most v : ℕ) → most ≤ v → ((u : ℕ) → u < v → is_some (substituted d u ms) ≡ false) → FirstNumber ms d most most
+first_last ms d most v k h = record { few = N.le_refl most; before = λ u l. h u (omega arith); found = inr (omega arith) }
 
 -- one more number leaves none
 pub first_on : (ms : List Summand) (d v : ℕ) → ((u : ℕ) → u < v → is_some (substituted d u ms) ≡ false) → is_some (substituted d v ms) ≡ false

@@ -15,11 +15,8 @@ fn expand_form(work: &mut [u8], start: usize, f: Form, i: u8, sign: i64) -> usiz
     ensures { Expanded start (expand_terms i sign (form_of f).terms) result (summands work.old) (summands work.new) }
 {
     let mut n: usize = 0;
-    let mut k: usize = 0;
-    while k < f.count {
-        let t = f.terms[k];
-        n += expand_term(work, start + n, t, i, sign);
-        k += 1;
+    for k in 0..f.count {
+        n += expand_term(work, start + n, f.terms[k], i, sign);
     }
     n
 }

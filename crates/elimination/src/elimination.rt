@@ -20,14 +20,12 @@ fn first_number(work: &[u8], n: usize, d: u64, most: u64) -> u64
     requires { (n ≤ length (summands work.now)) × (most ≤ 6) × ((v : ℕ) → v ≤ most → Substitutable d v (take n (summands work.now))) }
     ensures { FirstNumber (take n (summands work.now)) d most result }
 {
-    let mut v: u64 = 0;
-    while v < most {
+    for v in 0..most {
         if leaves(work, n, d, v) {
             return v;
         }
-        v += 1;
     }
-    v
+    most
 }
 
 // Chooses for each variable of a polynomial that is not 0 the first number that leaves a summand, and writes it into the buffer.
@@ -52,11 +50,7 @@ fn clear(buffer: &mut [u8], n: usize)
     ensures zeros { (x : ℕ) → x < n → get_or buffer.new x 0 ≡ 0 }
     ensures behind { drop n buffer.new ≡ drop n buffer.old }
 {
-    let mut i: usize = 0;
-    while i < n {
-        buffer[i] = 0;
-        i += 1;
-    }
+    buffer[..n].fill(0);
 }
 
 // Writes into the buffer the first numbers under which a polynomial that is not 0 is not 0; a variable that it does not have gets 0.

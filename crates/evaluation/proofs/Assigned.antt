@@ -5,14 +5,14 @@ use mathlib.Core.List.{List, ◌∷◌}
 use Prim.Native.Nat.{ℕ, zero, suc, ◌+◌, ◌-◌, ◌*◌, ◌≤◌, ◌<◌}
 use native.Mathlib.Omega.{arith}
 use native.Mathlib.Numerals.{add-one}
-use lib.Dec.{leb, eqb}
-use lib.IntN.{ℤ, pos, negsuc, ◌-ℤ◌}
+use lib.Dec.{leb, ltb, eqb}
+use lib.IntN.{ℤ, pos, negsuc}
 use lib.ListN.{length, get_or, drop, drop_of_length-le}
 use lib.Seq.{drop-cons}
-use borrow.Author.Tests.{lt-ltb, le-ltb, le-leb, lt-leb, eq-eqb, ne_eqb, eqb-true, eqb-false}
-use mir.Syntax.{w64}
-use mir.Val.{SFits, to_z}
-use mir.ValLaws.{to_z_pos}
+use borrow.Author.Tests.{le-leb, lt-leb, eq-eqb, ne_eqb, eqb-true, eqb-false}
+use mir.Syntax.{w8, w64}
+use mir.Val.{SFits, to_z, sel}
+use Rattle.specification.specs.Results.{when◌then◌else◌}
 use Rattle.specification.specs.Lists.{all, each}
 use Rattle.specification.specs.Letters.{kind_of}
 use Rattle.specification.specs.Evaluation.{signed_byte, six_or_less, rest_is_zero, good_assignment, assignment}
@@ -22,25 +22,14 @@ use Rattle.evaluation.specs.Vectors.{vec_of}
 
 -- ════ bytes
 
--- below 128 a byte is its own number
-pub low_byte : {b : ℕ} → b < 128 → to_z w64 b ≡ signed_byte b
+-- a byte's bits as a signed number
+pub byte_signed : (b : ℕ) → to_z w8 b ≡ signed_byte b
 unfolding signed_byte
-low_byte {b} h = rw (to_z_pos w64 b (omega arith), lt-ltb b 128 h)
-
--- from 128 on
-module _ {b : ℕ} (g : 128 ≤ b) (h : b < 256) where
-  -- the byte less 256
-  minus : to_z w64 b -ℤ pos 256 ≡ negsuc (255 - b)
-  minus = let e : 256 - suc b ≡ 255 - b = omega arith in rw (to_z_pos w64 b (omega arith), lt-ltb b 256 h, e)
-
-  -- fits
-  pub high_byte-asks : SFits w64 (to_z w64 b -ℤ pos 256)
-  high_byte-asks = rw minus (record { sfits = omega arith })
-
-  -- and is its number
-  pub high_byte : back (to_z w64 b -ℤ pos 256) ≡ signed_byte b
-  unfolding signed_byte
-  high_byte = back_is high_byte-asks ∙ rw (minus, le-ltb b 128 g)
+byte_signed b = go (ltb b 128)
+  where
+    go : (c : Bool) → sel c (pos b) (negsuc (256 - suc b)) ≡ (when c then pos b else negsuc (255 - b))
+    go true = refl
+    go false = ap negsuc (omega arith)
 
 -- ════ the vector of a letter
 

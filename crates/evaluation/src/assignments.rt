@@ -21,7 +21,7 @@ fn byte(s: &[u8], i: usize) -> u8
 fn signed(b: u8) -> i64
     ensures { result ≡ signed_byte b }
 {
-    if b < 128 { b as i64 } else { b as i64 - 256 }
+    i64::from(b.cast_signed())
 }
 
 // The signed number at a position.
@@ -39,7 +39,7 @@ pub fn vector_of(s: &[u8], letter: u8) -> Vector
     let x = component(s, i);
     let y = component(s, i + 1);
     let z = component(s, i + 2);
-    Vector { x: x, y: y, z: z }
+    Vector { x, y, z }
 }
 
 // A byte is from −6 to 6.
@@ -56,12 +56,10 @@ fn six_or_less(b: u8) -> bool
 fn all_small(s: &[u8]) -> bool
     ensures { result ≡ all six_or_less s.now }
 {
-    let mut i: usize = 0;
-    while i < s.len() {
-        if !six_or_less(s[i]) {
+    for &b in s {
+        if !six_or_less(b) {
             return false;
         }
-        i += 1;
     }
     true
 }
@@ -85,12 +83,10 @@ fn all_rest_zero(table: &[u8], s: &[u8]) -> bool
     requires { length table.now ≤ 24 }
     ensures { result ≡ each (length table.now) (rest_is_zero table.now s.now) }
 {
-    let mut n: usize = 0;
-    while n < table.len() {
+    for n in 0..table.len() {
         if !rest_is_zero(table, s, n) {
             return false;
         }
-        n += 1;
     }
     true
 }

@@ -19,8 +19,7 @@ fn factor_value(s: &[u8], k: u32) -> i64
     requires { (all six_or_less s.now ≡ true) × (k < 16843008) }
     ensures { result ≡ factor_value (assignment s.now) (letters_of k) }
 {
-    let f = letters_of(k);
-    match f {
+    match letters_of(k) {
         Factor::Scalar(x) => component(s, 3 * x as usize),
         Factor::Dot(x, y) => dot(vector_of(s, x), vector_of(s, y)),
         Factor::Triple(x, y, z) => triple(vector_of(s, x), vector_of(s, y), vector_of(s, z)),
@@ -32,10 +31,8 @@ fn factors_value(s: &[u8], t: Term) -> i64
     requires { (all six_or_less s.now ≡ true) × TermValid t }
     ensures { result ≡ factors_value (assignment s.now) (term_of t).factors }
 {
-    let mut i = t.factor_count as usize;
     let mut v: i64 = 1;
-    while i > 0 {
-        i -= 1;
+    for i in (0..t.factor_count as usize).rev() {
         v = mul(factor_value(s, t.factors[i]), v);
     }
     v
@@ -58,10 +55,8 @@ fn term_value(s: &[u8], t: Term) -> Vector
     requires { (all six_or_less s.now ≡ true) × TermValid t }
     ensures { vec_of result ≡ term_value (assignment s.now) (term_of t) }
 {
-    let c = t.coef;
-    let p = t.part;
-    let k = mul(c, factors_value(s, t));
-    times(k, part_value(s, p))
+    let k = mul(t.coef, factors_value(s, t));
+    times(k, part_value(s, t.part))
 }
 
 // A form, from its last term to its first.
@@ -69,12 +64,9 @@ pub fn form_value(s: &[u8], f: Form) -> Vector
     requires { (all six_or_less s.now ≡ true) × FormValid f }
     ensures { vec_of result ≡ S.value (assignment s.now) (form_of f) }
 {
-    let mut n = f.count;
     let mut v = Vector { x: 0, y: 0, z: 0 };
-    while n > 0 {
-        n -= 1;
-        let t = f.terms[n];
-        v = plus(term_value(s, t), v);
+    for n in (0..f.count).rev() {
+        v = plus(term_value(s, f.terms[n]), v);
     }
     v
 }

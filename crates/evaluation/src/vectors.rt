@@ -22,7 +22,7 @@ pub fn plus(a: Vector, b: Vector) -> Vector
     let x = add(a.x, b.x);
     let y = add(a.y, b.y);
     let z = add(a.z, b.z);
-    Vector { x: x, y: y, z: z }
+    Vector { x, y, z }
 }
 
 // A number times a vector.
@@ -33,7 +33,7 @@ pub fn times(k: i64, a: Vector) -> Vector
     let x = mul(k, a.x);
     let y = mul(k, a.y);
     let z = mul(k, a.z);
-    Vector { x: x, y: y, z: z }
+    Vector { x, y, z }
 }
 
 // A dot.
@@ -63,7 +63,7 @@ pub fn wedge(a: Vector, b: Vector) -> Vector
     let x = cross(a.y, b.z, a.z, b.y);
     let y = cross(a.z, b.x, a.x, b.z);
     let z = cross(a.x, b.y, a.y, b.x);
-    Vector { x: x, y: y, z: z }
+    Vector { x, y, z }
 }
 
 // A triple.

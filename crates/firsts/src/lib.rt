@@ -14,15 +14,13 @@ fn is_before(s: &[u8], t: &[u8], n: usize) -> bool
     requires { (n ≤ length s.now) × (n ≤ length t.now) }
     ensures { IsBefore n s.now t.now result }
 {
-    let mut i: usize = 0;
-    while i < n {
+    for i in 0..n {
         if s[i] < t[i] {
             return true;
         }
         if t[i] < s[i] {
             return false;
         }
-        i += 1;
     }
     false
 }
@@ -33,11 +31,7 @@ fn put_numbers(buffer: &mut [u8], numbers: &[u8], n: usize)
     ensures written { Alike n buffer.new numbers.now }
     ensures behind { drop n buffer.new ≡ drop n buffer.old }
 {
-    let mut i: usize = 0;
-    while i < n {
-        buffer[i] = numbers[i];
-        i += 1;
-    }
+    buffer[..n].copy_from_slice(&numbers[..n]);
 }
 
 // The first numbers of the polynomial in the work bytes, written over those in the buffer where they come before them.

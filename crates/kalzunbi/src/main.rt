@@ -5,7 +5,6 @@ ghost use Rattle.std.specs.Prelude.{◌≤◌, length};
 
 use command::{command, is_command};
 use lines::words::same_bytes;
-use printer_call::Printing;
 use std::env::{Env, FillError};
 use std::fs::File;
 use std::io::Read;
@@ -17,7 +16,7 @@ mod typing;
 // Writes the answer.
 fn answer(word: &[u8], s: &[u8]) {
     let mut out = io::large_buffer();
-    let Printing::Printed(n) = command(word, s, &mut out) else {
+    let Ok(n) = command(word, s, &mut out) else {
         io::write_all(STDOUT, b"refused 2: more output than there is room for\n");
         return;
     };

@@ -1,3 +1,4 @@
 -- What the contracts cite.
 pub mod Places
 pub mod Words
+pub mod Readings

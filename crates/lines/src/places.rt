@@ -3,6 +3,8 @@ ghost use Rattle.std.specs.Prelude.{◌≡◌, ◌≤◌, ◌<◌, length};
 ghost use Rattle.specification.specs.Lines.{line_of, next_line, is_empty_line, to_line};
 ghost use Rattle.lines.specs.Places.{place_of, Inside, LineEnd, Reached};
 
+use refusal::Refusal;
+
 // A line's number, and the position at which it begins.
 #[derive(Clone, Copy)]
 pub struct Place {
@@ -10,31 +12,35 @@ pub struct Place {
     pub at: usize,
 }
 
+// Why a line is not read, the column of that, and the place of the line.
+#[derive(Clone, Copy)]
+pub struct UnreadLine {
+    pub why: Refusal,
+    pub column: usize,
+    pub place: Place,
+}
+
 // The position at which the line ends that begins at another.
 pub fn line_end(s: &[u8], at: usize) -> usize
     requires { at ≤ length s.now }
     ensures { LineEnd s.now at result }
 {
-    let mut i = at;
-    while i < s.len() {
+    for i in at..s.len() {
         if s[i] == b'\n' {
             return i;
         }
-        i += 1;
     }
-    i
+    s.len()
 }
 
 // Whether a line has blanks alone.
 pub fn is_empty_line(line: &[u8]) -> bool
     ensures { result ≡ is_empty_line line.now }
 {
-    let mut i: usize = 0;
-    while i < line.len() {
-        if line[i] != b' ' {
+    for &b in line {
+        if b != b' ' {
             return false;
         }
-        i += 1;
     }
     true
 }
@@ -75,8 +81,7 @@ pub fn to_line(s: &[u8], p: Place) -> Place
 {
     let n = s.len();
     let mut q = p;
-    let mut left = n - p.at;
-    while left > 0 {
+    for _ in p.at..n {
         if q.at >= n {
             return q;
         }
@@ -84,7 +89,6 @@ pub fn to_line(s: &[u8], p: Place) -> Place
             return q;
         }
         q = next_place(s, q);
-        left -= 1;
     }
     q
 }

@@ -8,12 +8,10 @@ fn stands_at(word: &[u8], line: &[u8], at: usize) -> bool
     requires { at + length word.now ≤ length line.now }
     ensures { result ≡ stands_at word.now line.now at }
 {
-    let mut i: usize = 0;
-    while i < word.len() {
+    for i in 0..word.len() {
         if line[at + i] != word[i] {
             return false;
         }
-        i += 1;
     }
     true
 }

@@ -36,12 +36,10 @@ fn print_letters(names: &[u8], out: &mut [u8], at: usize, letters: [u8; 6], n: u
     ensures { Written out.old out.new at result (print_letters names.now (take n letters)) }
 {
     let mut next = at;
-    let mut i: usize = 0;
-    while i < n {
+    for i in 0..n {
         out[next] = b' ';
         out[next + 1] = letter(names, letters[i]);
         next += 2;
-        i += 1;
     }
     next
 }
@@ -82,11 +80,9 @@ pub fn print_steps(names: &[u8], out: &mut [u8], at: usize, q: Steps) -> usize
 {
     let n = q.count;
     let mut next = at;
-    let mut i: usize = 0;
-    while i < n {
+    for i in 0..n {
         let s = q.steps[i];
         next = print_step(names, out, next, s);
-        i += 1;
     }
     next
 }

@@ -66,12 +66,10 @@ fn tell_names(out: &mut [u8], at: usize, kind: u8, names: &[u8], table: &[u8]) -
 {
     let mut next = at;
     let mut last = kind;
-    let mut i: usize = 0;
-    while i < names.len() {
+    for i in 0..names.len() {
         let k = table[i];
         next = tell_name(out, next, last, names[i], k);
         last = k;
-        i += 1;
     }
     next
 }

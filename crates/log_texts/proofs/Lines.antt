@@ -24,6 +24,10 @@ use Rattle.logs.specs.Steps.{steps_of, StepsValid}
 use Rattle.logs.proofs.StepRecords.{pushed-steps, pushed-valid, steps_stand_lem}
 use Rattle.lines.specs.declared.places.Place.{Place}
 use Rattle.lines.specs.Places.{place_of, Inside, Reached}
+use Rattle.std.specs.Prelude.{Ok, Err}
+use Rattle.refusal.specs.Numbers.{number_of}
+use Rattle.texts.proofs.Reasons.{not_zero}
+use Rattle.lines.specs.declared.places.UnreadLine.{UnreadLine}
 use Rattle.declarations.specs.declared.Header.{Header}
 use Rattle.declarations.specs.Names.{HeaderRead}
 use Rattle.formula_call.specs.declared.TextForm.{TextForm}
@@ -297,16 +301,15 @@ module _ (s names table : List ℕ) (p : Place) (i : Inside s p) (a : TextForm) 
 
 -- ════ the whole
 
-module _ (s : List ℕ) (h : Header) (names table : List ℕ) (hh : HeaderRead s h names table) where
+module _ (s : List ℕ) (e : UnreadLine) (names table : List ℕ) (hh : HeaderRead s (Err e) names table) where
   -- no names
-  pub header_refused : (r : LogText) → (h.refusal ≡ 0 → ⊥) → (r.refusal ≡ h.refusal) × (r.column ≡ h.column) × (r.place ≡ h.place)
-      → LogTextRead s r names table
+  pub header_refused : (n : ℕ) (r : LogText) → n ≡ number_of e.why → (r.refusal ≡ n) × (r.column ≡ e.column) × (r.place ≡ e.place) → LogTextRead s r names table
   unfolding read_log_text
-  header_refused r z q =
-      let y : r.refusal ≡ 0 → ⊥ = λ w. z (sym q.0 ∙ w) in
+  header_refused n r m q =
+      let y : r.refusal ≡ 0 → ⊥ = λ w. not_zero e.why (sym m ∙ sym q.0 ∙ w) in
       record {
-        refuses = λ _. ap (λ (x : Lined (L.Named × L.Place)). x >>> λ h. read_log_lines h.0.0 h.0.1 h.1) (hh.refuses z)
-            ∙ (λ k. refused_in (sym q.0 k) (sym q.2 k).number (sym q.1 k) (line_of (place_of s (sym q.2 k))));
+        refuses = λ _. ap (λ (x : Lined (L.Named × L.Place)). x >>> λ h. read_log_lines h.0.0 h.0.1 h.1) hh.is
+            ∙ (λ k. refused_in (sym (q.0 ∙ m) k) (sym q.2 k).number (sym q.1 k) (line_of (place_of s (sym q.2 k))));
         gives = λ w. absurd (y w);
         few = λ w. absurd (y w);
         first = λ w. absurd (y w);
@@ -315,17 +318,18 @@ module _ (s : List ℕ) (h : Header) (names table : List ℕ) (hh : HeaderRead s
         inside = subst (Inside s) (sym q.2) hh.inside;
       }
 
+module _ (s : List ℕ) (h : Header) (names table : List ℕ) (hh : HeaderRead s (Ok h) names table) where
   -- the lines behind them decide
-  pub log_text_read : (r : LogText) → h.refusal ≡ 0 → length (take h.count names) ≡ h.count
+  pub log_text_read : (r : LogText) → length (take h.count names) ≡ h.count
       → LinesRead s (take h.count names) (take h.count table) (place_of s h.place) r → LogTextRead s r names table
   unfolding read_log_text
-  log_text_read r z l g =
+  log_text_read r l g =
       let start : read_log_text s ≡ read_log_lines (take h.count names) (take h.count table) (place_of s h.place) =
-      ap (λ (x : Lined (L.Named × L.Place)). x >>> λ h. read_log_lines h.0.0 h.0.1 h.1) (hh.gives z) in
+      ap (λ (x : Lined (L.Named × L.Place)). x >>> λ h. read_log_lines h.0.0 h.0.1 h.1) hh.is in
       record {
         refuses = λ w. start ∙ g.refuses w;
         gives = λ w. start ∙ g.gives w ∙ (λ k. lined (log_of (take (sym (g.counted w ∙ l) k) names) (take (sym (g.counted w ∙ l) k) table) r));
-        few = λ w. omega (arith, hh.few z, g.counted w, l);
+        few = λ w. omega (arith, hh.few, g.counted w, l);
         first = g.first;
         steps = g.steps;
         last = g.last;

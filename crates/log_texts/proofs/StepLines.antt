@@ -1,6 +1,6 @@
 -- The line of a step, part by part. Assumes nothing.
 use mathlib.Core.Path.{◌≡◌, refl, sym, ◌∙◌, ap}
-use mathlib.Core.Bool.{◌&&◌}
+use mathlib.Core.Bool.{false, ◌&&◌}
 use mathlib.Core.List.{List}
 use Prim.Native.Nat.{ℕ, ◌+◌, ◌-◌, ◌≤◌, ◌<◌}
 use native.Mathlib.Omega.{arith}
@@ -16,7 +16,11 @@ use Rattle.specification.specs.LogTexts.{mark, read_letters_at, read_step_line}
 use Rattle.theory.specs.Tests.{and_both}
 use Rattle.terms.specs.Abstraction.{term_of}
 use Rattle.rules.specs.Steps.{step_of}
-use Rattle.log_texts.specs.declared.naming.Mark.{Mark}
+use Rattle.std.specs.Prelude.{Ok, Err}
+use Rattle.refusal.specs.declared.Refusal.TheVariants.{Torn}
+use Rattle.refusal.specs.Numbers.{number_of}
+use Rattle.texts.specs.declared.Unread.{Unread}
+use Rattle.texts.proofs.Reasons.{not_zero}
 use Rattle.log_texts.specs.declared.naming.Letters.{Letters}
 use Rattle.log_texts.specs.declared.kinds.Multiplier.{Multiplier}
 use Rattle.log_texts.specs.declared.steps.Rule.{Rule}
@@ -44,94 +48,98 @@ module _ (line : List ℕ) (word at b : ℕ) (hw : word ≡ skip line 0) (ha : a
       let e : at ≡ skip line (skip line 0 + 4) = ha ∙ ap (λ (k : ℕ). skip line (k + 4)) hw in
       by-rule names table line ∙ (λ i. ruled names table line (sym e i) (get_or line (sym e i) 0)) ∙ ap (ruled names table line at) (sym hb)
 
-  refuses_with : (number column : ℕ) (r : Rule) → (number ≡ 0 → ⊥) → (r.refusal ≡ number) × (r.column ≡ column)
-      → ((names table : List ℕ) → ruled names table line at b ≡ refused_at number column) → RuleRead line r
-  refuses_with number column r z q h = record {
-    refuses = λ _ names table. here names table ∙ h names table ∙ (λ i. refused_at (sym q.0 i) (sym q.1 i));
-    gives = λ e. absurd (z (sym q.0 ∙ e));
-    is_one = λ e. absurd (z (sym q.0 ∙ e));
-  }
+  -- another byte
+  rule_none : (leb 49 b && leb b 53) ≡ false → RuleRead line (Err (record { why = Torn; column = at }))
+  rule_none z = record { is = λ names table. here names table ∙ rw z; is_one = tt }
 
   -- a smaller byte than 1's
-  pub rule-below : (r : Rule) → b < 49 → (r.refusal ≡ 4) × (r.column ≡ at) → RuleRead line r
-  rule-below r h q = refuses_with 4 at r (λ z. omega (arith, z)) q (λ names table. rw (lt-leb 49 b h))
+  pub rule-below : b < 49 → RuleRead line (Err (record { why = Torn; column = at }))
+  rule-below h = rule_none (rw (lt-leb 49 b h))
 
   module _ (low : 49 ≤ b) where
     -- a greater one than 5's
-    pub rule-above : (r : Rule) → 53 < b → (r.refusal ≡ 4) × (r.column ≡ at) → RuleRead line r
-    rule-above r h q = refuses_with 4 at r (λ z. omega (arith, z)) q (λ names table. rw (le-leb 49 b low, lt-leb b 53 h))
+    pub rule-above : 53 < b → RuleRead line (Err (record { why = Torn; column = at }))
+    rule-above h = rule_none (rw (le-leb 49 b low, lt-leb b 53 h))
 
     -- it stands in the line
     pub rule-inside : at < length line
     rule-inside = there line at (omega (arith, hb))
 
-    module _ (high : b ≤ 53) (after : ℕ) (hn : after ≡ next line at) (c : Mark) (hc : MarkRead line (mark 58 line after) c) where
+    module _ (high : b ≤ 53) (after : ℕ) (hn : after ≡ next line at) where
       behind : (names table : List ℕ) → ruled names table line at b ≡ (mark 58 line after >>= behind_colon names table line (b - 48))
       behind names table = rw (le-leb 49 b low, le-leb b 53 high, hn)
 
       -- no colon
-      pub rule-torn : (r : Rule) → (c.refusal ≡ 0 → ⊥) → (r.refusal ≡ c.refusal) × (r.column ≡ c.column) → RuleRead line r
-      rule-torn r z q =
-          refuses_with c.refusal c.column r z q (λ names table. behind names table
-          ∙ ap (λ (x : Placed ℕ). x >>= behind_colon names table line (b - 48)) (hc.refuses z))
+      pub rule-torn : (r : Unread) → MarkRead line (mark 58 line after) (Err r) → RuleRead line (Err r)
+      rule-torn r h = record {
+        is = λ names table. here names table ∙ behind names table ∙ ap (λ (x : Placed ℕ). x >>= behind_colon names table line (b - 48)) h.is;
+        is_one = tt;
+      }
 
       -- a rule
-      pub rule_read : c.refusal ≡ 0 → RuleRead line (record { refusal = 0; column = 0; at = c.at; rule = b - 48 })
+      pub rule_read : (c : ℕ) → MarkRead line (mark 58 line after) (Ok c) → RuleRead line (Ok (record { at = c; rule = b - 48 }))
       unfolding is_rule
-      rule_read z = record {
-        refuses = λ y. absurd (y refl);
-        gives = λ _ names table. here names table ∙ behind names table ∙ ap (λ (x : Placed ℕ). x >>= behind_colon names table line (b - 48)) (hc.gives z);
-        is_one = λ _. and_both (leb 1 (b - 48)) (leb (b - 48) 5) (le→leb 1 (b - 48) (omega arith)) (le→leb (b - 48) 5 (omega arith));
+      rule_read c h = record {
+        is = λ names table. here names table ∙ behind names table ∙ ap (λ (x : Placed ℕ). x >>= behind_colon names table line (b - 48)) h.is;
+        is_one = and_both (leb 1 (b - 48)) (leb (b - 48) 5) (le→leb 1 (b - 48) (omega arith)) (le→leb (b - 48) 5 (omega arith));
       }
 
 -- ════ the step
 
-module _ (names table line : List ℕ) (a : Rule) (ha : RuleRead line a) where
-  refuses-step : (number column : ℕ) (r : StepLine) → (number ≡ 0 → ⊥) → (r.refusal ≡ number) × (r.column ≡ column)
-      → read_step_line names table line ≡ refused_at number column → StepLineRead names table line r
-  refuses-step number column r z q e = record {
-    refuses = λ _. e ∙ (λ i. refused_at (sym q.0 i) (sym q.1 i));
-    gives = λ y. absurd (z (sym q.0 ∙ y));
-    valid = λ y. absurd (z (sym q.0 ∙ y));
-    six = λ y. absurd (z (sym q.0 ∙ y));
-  }
+refuses-step : (names table line : List ℕ) (number column : ℕ) (r : StepLine) → (number ≡ 0 → ⊥) → (r.refusal ≡ number) × (r.column ≡ column)
+    → read_step_line names table line ≡ refused_at number column → StepLineRead names table line r
+refuses-step names table line number column r z q e = record {
+  refuses = λ _. e ∙ (λ i. refused_at (sym q.0 i) (sym q.1 i));
+  gives = λ y. absurd (z (sym q.0 ∙ y));
+  valid = λ y. absurd (z (sym q.0 ∙ y));
+  six = λ y. absurd (z (sym q.0 ∙ y));
+}
+
+module _ (names table line : List ℕ) where
+  -- a line refused by a part
+  unread_step : (u : Unread) (n : ℕ) (r : StepLine) → n ≡ number_of u.why → (r.refusal ≡ n) × (r.column ≡ u.column)
+      → read_step_line names table line ≡ refused_at (number_of u.why) u.column → StepLineRead names table line r
+  unread_step u n r m q e = refuses-step names table line (number_of u.why) u.column r (not_zero u.why) (q.0 ∙ m, q.1) e
 
   -- no rule
-  pub step_unruled : (r : StepLine) → (a.refusal ≡ 0 → ⊥) → (r.refusal ≡ a.refusal) × (r.column ≡ a.column) → StepLineRead names table line r
-  step_unruled r z q = refuses-step a.refusal a.column r z q (ha.refuses z names table)
+  pub step_unruled : (u : Unread) → RuleRead line (Err u) → (n : ℕ) (r : StepLine) → n ≡ number_of u.why → (r.refusal ≡ n) × (r.column ≡ u.column)
+      → StepLineRead names table line r
+  step_unruled u h n r m q = unread_step u n r m q (h.is names table)
 
-  module _ (za : a.refusal ≡ 0) (n : ℕ) (hn : n ≡ rule_letters a.rule) (l : Letters) (hl : LettersRead (read_letters_at n names line a.at) n l) where
+  module _ (a : Rule) (ha : RuleRead line (Ok a)) (n : ℕ) (hn : n ≡ rule_letters a.rule) where
     -- what follows the letters
     abbrev follows : List ℕ × ℕ → Placed R.Step
     follows r = behind_letters line r.1 λ formula. behind_mark names table line formula λ t. placed (record { rule = a.rule; letters = r.0; m = t })
 
     by-letters : read_step_line names table line ≡ (read_letters_at n names line a.at >>= follows)
     unfolding behind_colon
-    by-letters = ha.gives za names table ∙ ap (λ (k : ℕ). read_letters_at k names line a.at >>= follows) (sym hn)
+    by-letters = ha.is names table ∙ ap (λ (k : ℕ). read_letters_at k names line a.at >>= follows) (sym hn)
 
     -- no letters
-    pub step_unlettered : (r : StepLine) → (l.refusal ≡ 0 → ⊥) → (r.refusal ≡ l.refusal) × (r.column ≡ l.column) → StepLineRead names table line r
-    step_unlettered r z q = refuses-step l.refusal l.column r z q (by-letters ∙ ap (λ (x : Placed (List ℕ × ℕ)). x >>= follows) (hl.refuses z))
+    pub step_unlettered : (u : Unread) → LettersRead (read_letters_at n names line a.at) n (Err u) → (k : ℕ) (r : StepLine) → k ≡ number_of u.why
+        → (r.refusal ≡ k) × (r.column ≡ u.column) → StepLineRead names table line r
+    step_unlettered u h k r m q = unread_step u k r m q (by-letters ∙ ap (λ (x : Placed (List ℕ × ℕ)). x >>= follows) h.is)
 
-    module _ (zl : l.refusal ≡ 0) (e : Mark) (he : FormulaAt line l.at e) where
+    module _ (l : Letters) (hl : LettersRead (read_letters_at n names line a.at) n (Ok l)) where
       -- what follows M
       abbrev whole : S.Term → Placed R.Step
       whole t = placed (record { rule = a.rule; letters = take n l.letters; m = t })
 
       by_mark : read_step_line names table line ≡ behind_letters line l.at (λ formula. behind_mark names table line formula whole)
-      by_mark = by-letters ∙ ap (λ (x : Placed (List ℕ × ℕ)). x >>= follows) (hl.gives zl)
+      by_mark = by-letters ∙ ap (λ (x : Placed (List ℕ × ℕ)). x >>= follows) hl.is
 
       -- no `, M =`
-      pub step-unmarked : (r : StepLine) → (e.refusal ≡ 0 → ⊥) → (r.refusal ≡ e.refusal) × (r.column ≡ e.column) → StepLineRead names table line r
-      step-unmarked r z q = refuses-step e.refusal e.column r z q (by_mark ∙ he.refuses z (λ formula. behind_mark names table line formula whole))
+      pub step-unmarked : (u : Unread) → FormulaAt line l.at (Err u) → (k : ℕ) (r : StepLine) → k ≡ number_of u.why
+          → (r.refusal ≡ k) × (r.column ≡ u.column) → StepLineRead names table line r
+      step-unmarked u h k r m q = unread_step u k r m q (by_mark ∙ h.is (λ formula. behind_mark names table line formula whole))
 
-      module _ (ze : e.refusal ≡ 0) (t : Multiplier) (ht : MultiplierRead names table line e.at t) where
-        by-term : read_step_line names table line ≡ behind_mark names table line e.at whole
-        by-term = by_mark ∙ he.gives ze (λ formula. behind_mark names table line formula whole)
+      module _ (e : ℕ) (he : FormulaAt line l.at (Ok e)) (t : Multiplier) (ht : MultiplierRead names table line e t) where
+        by-term : read_step_line names table line ≡ behind_mark names table line e whole
+        by-term = by_mark ∙ he.is (λ formula. behind_mark names table line formula whole)
 
         -- no term
         pub step_unmultiplied : (r : StepLine) → (t.refusal ≡ 0 → ⊥) → (r.refusal ≡ t.refusal) × (r.column ≡ t.column) → StepLineRead names table line r
-        step_unmultiplied r z q = refuses-step t.refusal t.column r z q (by-term ∙ ht.refuses z whole)
+        step_unmultiplied r z q = refuses-step names table line t.refusal t.column r z q (by-term ∙ ht.refuses z whole)
 
         -- a step
         pub step_read : t.refusal ≡ 0 → StepLineRead names table line
@@ -140,6 +148,6 @@ module _ (names table line : List ℕ) (a : Rule) (ha : RuleRead line a) where
         step_read z = record {
           refuses = λ y. absurd (y refl);
           gives = λ _. by-term ∙ ht.gives z whole ∙ ap (λ (k : ℕ). placed (record { rule = a.rule; letters = take k l.letters; m = term_of t.m })) hn;
-          valid = λ _. record { rule = ha.is_one za; m = ht.valid z };
+          valid = λ _. record { rule = ha.is_one; m = ht.valid z };
           six = λ _. hl.six;
         }

@@ -1,10 +1,13 @@
 -- The line of a step. Assumes nothing.
-use Rattle.std.specs.Prelude.{◌≡◌, List, ℕ, T, length}
+use Rattle.std.specs.Prelude.{◌≡◌, IfOk, List, ℕ, T, length}
+use Rattle.std.specs.Prelude as Std
 use Rattle.specification.specs.Text.{Placed, refused_at, placed, ◌>>=◌}
 use Rattle.specification.specs.Rules.{is_rule, rule_letters}
 use Rattle.specification.specs.Rules as R
 use Rattle.specification.specs.LogTexts.{read_letters_at, read_step_line}
 use Rattle.rules.specs.Steps.{step_of, StepValid}
+use Rattle.texts.specs.declared.Unread.{Unread}
+use Rattle.texts.specs.Readings.{placed_of}
 use Rattle.log_texts.specs.declared.steps.Rule.{Rule}
 use Rattle.log_texts.specs.declared.steps.StepLine.{StepLine}
 use Rattle.log_texts.specs.Letters.{behind_letters}
@@ -17,11 +20,14 @@ behind_colon names table line rule at =
     behind_letters line r.1 λ formula.
     behind_mark names table line formula λ t. placed (record { rule = rule; letters = r.0; m = t })
 
+-- a rule that was read and the position behind its colon
+abbrev pub rule_of : Std.Result Rule Unread → Placed (ℕ × ℕ)
+rule_of r = placed_of (λ q. (q.rule, q.at)) r
+
 -- the number of a rule and the position behind its colon, or the refusal at its column
-pub record RuleRead (line : List ℕ) (r : Rule) : Type 0 where
-  pub refuses : (r.refusal ≡ 0 → ⊥) → (names table : List ℕ) → read_step_line names table line ≡ refused_at r.refusal r.column
-  pub gives : r.refusal ≡ 0 → (names table : List ℕ) → read_step_line names table line ≡ behind_colon names table line r.rule r.at
-  pub is_one : r.refusal ≡ 0 → T (is_rule r.rule)
+pub record RuleRead (line : List ℕ) (r : Std.Result Rule Unread) : Type 0 where
+  pub is : (names table : List ℕ) → read_step_line names table line ≡ (rule_of r >>= λ q. behind_colon names table line q.0 q.1)
+  pub is_one : IfOk r (λ q. T (is_rule q.rule))
 
 -- the step of a line, or the refusal at its column
 pub record StepLineRead (names table line : List ℕ) (r : StepLine) : Type 0 where

@@ -21,7 +21,7 @@ fn of_kind(kind: u8, at: usize, f: Form) -> TextForm
     if f.count == 0 {
         let ts = f.terms;
         let g = Form {
-            kind: kind,
+            kind,
             count: 0,
             terms: ts,
         };
@@ -70,7 +70,7 @@ pub fn unread(n: u8, column: usize) -> TextForm
     let f = o.form;
     TextForm {
         refusal: n,
-        column: column,
+        column,
         form: f,
     }
 }
@@ -107,8 +107,8 @@ fn no_multiplier(n: u8, column: usize) -> Multiplier
     let m = no_term();
     Multiplier {
         refusal: n,
-        column: column,
-        m: m,
+        column,
+        m,
     }
 }
 
@@ -124,7 +124,7 @@ fn one_term(at: usize, f: Form) -> Multiplier
     Multiplier {
         refusal: 0,
         column: 0,
-        m: m,
+        m,
     }
 }
 

@@ -73,14 +73,13 @@ fn read_step_lines(s: &[u8], p: Place, names: &[u8], table: &[u8]) -> StepLines
 {
     let mut steps = no_steps();
     let mut q = p;
-    let mut i: usize = 0;
-    while i < 64 {
+    for i in 0..64 {
         if !stands_step(s, q) {
             return StepLines {
                 refusal: 0,
                 column: 0,
                 place: q,
-                steps: steps,
+                steps,
             };
         }
         let r = step_at(s, q, names, table);
@@ -89,28 +88,27 @@ fn read_step_lines(s: &[u8], p: Place, names: &[u8], table: &[u8]) -> StepLines
                 refusal: r.refusal,
                 column: r.column,
                 place: q,
-                steps: steps,
+                steps,
             };
         }
         let t = r.step;
         steps.steps[i] = t;
+        steps.count = i + 1;
         q = line_behind(s, q);
-        i += 1;
-        steps.count = i;
     }
     if stands_step(s, q) {
         return StepLines {
             refusal: 3,
             column: 0,
             place: q,
-            steps: steps,
+            steps,
         };
     }
     StepLines {
         refusal: 0,
         column: 0,
         place: q,
-        steps: steps,
+        steps,
     }
 }
 
@@ -135,11 +133,11 @@ fn no_log(n: u8, column: usize, p: Place) -> LogText
     let steps = no_steps();
     LogText {
         refusal: n,
-        column: column,
+        column,
         place: p,
         count: 0,
         first: f,
-        steps: steps,
+        steps,
         last: f,
     }
 }
@@ -176,7 +174,7 @@ fn read_log_lines(s: &[u8], p: Place, names: &[u8], table: &[u8]) -> LogText
         place: end,
         count: names.len(),
         first: f,
-        steps: steps,
+        steps,
         last: g,
     }
 }
@@ -186,11 +184,10 @@ pub fn read_log_text(s: &[u8], names: &mut [u8], table: &mut [u8]) -> LogText
     requires { (24 ≤ length names.old) × (24 ≤ length table.old) }
     ensures { LogTextRead s.now result names.new table.new }
 {
-    let h = read_header(s, names, table);
-    let p = h.place;
-    if h.refusal != 0 {
-        return no_log(h.refusal, h.column, p);
-    }
+    let h = match read_header(s, names, table) {
+        Ok(h) => h,
+        Err(e) => return no_log(e.why.number(), e.column, e.place),
+    };
     let n = h.count;
-    read_log_lines(s, p, &names[..n], &table[..n])
+    read_log_lines(s, h.place, &names[..n], &table[..n])
 }

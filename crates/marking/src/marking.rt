@@ -47,9 +47,7 @@ pub fn factors_mark(f: &[u32; 7], n: u8) -> u64
     ensures { (result ≡ factors_mark (map letters_of (take n f.now))) × (result ≤ 109375000) }
 {
     let mut a: u64 = 0;
-    let mut i = n as usize;
-    while i > 0 {
-        i -= 1;
+    for i in (0..n as usize).rev() {
         a = factor_mark(f[i]) + a;
     }
     a
@@ -110,15 +108,13 @@ pub fn mark_rows(rows: &[[u32; 8]], coefs: &[i64], n: usize) -> [u8; 512]
     ensures long { length result ≡ 512 }
 {
     let mut marks = [0u8; 512];
-    let mut i: usize = 0;
-    while i < n {
+    for i in 0..n {
         let r = rows[i];
         let c = coefs[i];
         let t = term_of(r, c);
         let h = term_mark(t);
         let v = size_mark(c);
         marks[h] = joint_mark(marks[h], v);
-        i += 1;
     }
     marks
 }

@@ -1,18 +1,18 @@
 -- The rows of a step one after the other: the score of their products, and what follows once it is as much as there are rows.
 -- Assumes nothing.
 use mathlib.Core.Path.{◌≡◌, refl, sym, ap, subst, ◌∙◌}
-use mathlib.Core.Bool.{Bool, true, false}
+use mathlib.Core.Bool.{Bool, true, false, ◌||◌}
 use mathlib.Core.Logic.{◌⊎◌, inl, inr}
 use mathlib.Core.List.{List, [], ◌∷◌, ◌++◌, map, map-append}
 use Prim.Native.Nat.{ℕ, zero, suc, ◌+◌, ◌*◌, ◌<◌, ◌≤◌}
 use native.Mathlib.Nat as N
-use native.Mathlib.Numerals.{add-one}
 use native.Mathlib.Omega.{arith}
 use borrow.Author.Tests.{eqb-true, eqb-false}
 use lib.Dec.{T, eqb}
 use lib.IntN.{ℤ, nat_abs}
 use lib.ListN.{length, length-map, length-set, get_or, set, take, drop, length-append, take-append-drop}
-use lib.Seq.{get_or-set_same, get_or-set_other, take-suc}
+use lib.Seq.{get_or-set_same, get_or-set_other}
+use Rattle.std.specs.List.{list_any}
 use Rattle.algebra.specs.Integers.{NonZero, nat_abs_*ℤ}
 use Rattle.specification.specs.Terms.{with_coef, times_term, gather, gather_into}
 use Rattle.specification.specs.Terms as S
@@ -227,30 +227,17 @@ module _ {marks : List ℕ} {size : ℕ} {w : StepMarks} {n : ℕ} {rows : List 
 
 -- ════ a mark among the first ones
 
--- no first one
-pub among_none : (h : ℕ) (hs : List ℕ) → Among h (take 0 hs) → ⊥
-unfolding Among
-among_none h hs a = a
+-- a test that none passes
+neither : (a b : Bool) → (a || b) ≡ false → (a ≡ false) × (b ≡ false)
+neither false b e = (refl, e)
+neither true b e = absurd (subst T e tt)
 
-among-split : (h k : ℕ) (l : List ℕ) → Among h (l ++ k ∷ []) → (h ≡ k) ⊎ Among h l
+-- not one of those that a slice does not contain
+pub not_contained : (h : ℕ) (l : List ℕ) → list_any (λ (k : ℕ). eqb k h) l ≡ false → Among h l → ⊥
 unfolding Among
-among-split h k [] (inl e) = inl e
-among-split h k [] (inr a) = elim a [ ]
-among-split h k (x ∷ l) (inl e) = inr (inl e)
-among-split h k (x ∷ l) (inr a) = go (among-split h k l a)
-  where
-    go : (h ≡ k) ⊎ Among h l → (h ≡ k) ⊎ Among h (x ∷ l)
-    go (inl e) = inl e
-    go (inr b) = inr (inr b)
-
--- nor the next
-pub among_more : (h : ℕ) (hs : List ℕ) (i : ℕ) → i < length hs → (Among h (take i hs) → ⊥) → (get_or hs i 0 ≡ h → ⊥) → Among h (take (i + 1) hs) → ⊥
-among_more h hs i inside a n b =
-    go (among-split h (get_or hs i 0) (take i hs) (subst (Among h) (ap (λ (k : ℕ). take k hs) (add-one i) ∙ take-suc hs i 0 inside) b))
-  where
-    go : (h ≡ get_or hs i 0) ⊎ Among h (take i hs) → ⊥
-    go (inl e) = n (sym e)
-    go (inr c) = a c
+not_contained h [] e a = a
+not_contained h (k ∷ l) e (inl q) = eqb-false k h (neither (eqb k h) _ e).0 (sym q)
+not_contained h (k ∷ l) e (inr a) = not_contained h l (neither (eqb k h) _ e).1 a
 
 -- ════ marks carried over a step
 

@@ -33,33 +33,11 @@ pub fn mark_step(s: Step) -> StepMarks
     requires { Counted s.m }
     ensures { StepMarked s.letters (term_of s.m) result }
 {
-    let m = s.m;
-    let p = m.part;
-    let n = m.factor_count;
-    let letters = s.letters;
-    let a = factors_mark(&m.factors, n);
-    let b = part_mark(p);
-    let l = letter_marks(letters);
     StepMarks {
-        factors: a,
-        part: b,
-        letters: l,
+        factors: factors_mark(&s.m.factors, s.m.factor_count),
+        part: part_mark(s.m.part),
+        letters: letter_marks(s.letters),
     }
-}
-
-// Whether a mark is one of the first n.
-fn is_among(hs: &[usize; 8], n: usize, h: usize) -> bool
-    requires { (n ≤ 8) × (length hs.now ≡ 8) }
-    ensures { result ≡ false → Among h (take n hs.now) → ⊥ }
-{
-    let mut i: usize = 0;
-    while i < n {
-        if hs[i] == h {
-            return true;
-        }
-        i += 1;
-    }
-    false
 }
 
 // Whether a step with these marks surely leads no form with those marks to fewer terms, whatever the coefficient of M, if it has the size v; 0 stands for any.
@@ -73,16 +51,14 @@ pub fn surely_longer(marks: &[u8; 512], v: u8, s: Step, w: StepMarks) -> bool
     let rows = rule_rows(rule);
     let mut hs = [0usize; 8];
     let mut score: usize = 0;
-    let mut i: usize = 0;
-    while i < n {
+    for i in 0..n {
         if n <= score {
             return true;
         }
         let k = rows[i];
         let h = product_mark(w.factors, w.part, &w.letters, k);
-        let seen = is_among(&hs, i, h);
+        let seen = hs[..i].contains(&h);
         hs[i] = h;
-        i += 1;
         if seen {
             continue;
         }
@@ -116,13 +92,11 @@ pub fn gain(t: Term, s: Step, w: StepMarks) -> i64
     let rows = rule_rows(rule);
     let h = term_mark(t);
     let mut g: i64 = 0;
-    let mut i: usize = 0;
-    while i < n {
+    for i in 0..n {
         let k = rows[i];
         if product_mark(w.factors, w.part, &w.letters, k) == h {
             g = add(g, row_gain(t, m, letters, k));
         }
-        i += 1;
     }
     g
 }
@@ -137,10 +111,8 @@ pub fn mark_reached(marks: &mut [u8; 512], s: Step)
     let n = row_count(rule);
     let rows = rule_rows(rule);
     let w = mark_step(s);
-    let mut i: usize = 0;
-    while i < n {
+    for i in 0..n {
         let h = product_mark(w.factors, w.part, &w.letters, rows[i]);
         marks[h] = 255;
-        i += 1;
     }
 }

@@ -26,7 +26,8 @@ use Rattle.terms.specs.Valid.{Gives}
 use Rattle.letters.specs.Tested.{test_of}
 use Rattle.forms.specs.Written.{FormWritten}
 use Rattle.letters.proofs.LetterTests.{test_refused, test-passed}
-use Rattle.open_log.specs.declared.state.StateReading.{StateReading}
+use Rattle.std.specs.Prelude.{Some, None}
+use Rattle.open_log.specs.declared.state.State.{State}
 use Rattle.open_log.specs.declared.adding.Answer as adding
 use Rattle.open_log.specs.declared.adding.Answer.TheVariants as answer
 use Rattle.open_log.specs.declared.adding.Added.{Added}
@@ -52,111 +53,111 @@ state-answered r state k out out' e w = (λ i. (given (w.ends i), w.bytes i)) �
 
 -- ════ the state read
 
-module _ (s : List ℕ) (q : StateReading) (read : StateReadAs (read_state s) q) where
-  unread : q.ok ≡ false → read_state s ≡ refused 11
+module _ (s : List ℕ) where
+  unread : StateReadAs (read_state s) None → read_state s ≡ refused 11
   unfolding state_read_of
-  unread h = sym read.is ∙ rw h
+  unread h = sym h.is
 
-  is_read_lem : q.ok ≡ true → read_state s ≡ given (state_of q.state)
+  is_read_lem : {q : State} → StateReadAs (read_state s) (Some q) → read_state s ≡ given (state_of q)
   unfolding state_read_of
-  is_read_lem h = sym read.is ∙ rw h
+  is_read_lem h = sym h.is
 
   -- ════ adding
 
   module _ (step out : List ℕ) where
-    pub add-unread : q.ok ≡ false → (answered_of (Refused 11), out) ≡ add_call s step out
+    pub add-unread : StateReadAs (read_state s) None → (answered_of (Refused 11), out) ≡ add_call s step out
     unfolding add_call add_tested
     add-unread h = state_refused (add_tested s step out) 11 out (rw (unread h))
 
-    module _ (ok : q.ok ≡ true) where
+    module _ (q : State) (ok : StateReadAs (read_state s) (Some q)) where
       pub add_short : length out < state_bytes → (answered_of (Refused 2), out) ≡ add_call s step out
       unfolding add_call add_tested
       add_short l = state_refused (add_tested s step out) 2 out (simp (is_read_lem ok, lt-leb state_bytes (length out) l))
 
-      module _ (l : state_bytes ≤ length out) (a : Added) (added : AddedAs (state_of q.state) step a) where
-        added_is : add_tested s step out ≡ add_to (state_of q.state) step
+      module _ (l : state_bytes ≤ length out) (a : Added) (added : AddedAs (state_of q) step a) where
+        added_is : add_tested s step out ≡ add_to (state_of q) step
         unfolding add_tested
         added_is = simp (is_read_lem ok, le-leb state_bytes (length out) l)
 
         pub add-fails : (n : ℕ) → a.answer ≡ answer.Refused n → (answered_of (Refused n), out) ≡ add_call s step out
         unfolding add_call answer_of
         add-fails n h =
-            let e = stood_refused (state_of q.state) (state_of a.state) (add_to (state_of q.state) step) n
+            let e = stood_refused (state_of q) (state_of a.state) (add_to (state_of q) step) n
             (ap (λ (x : adding.Answer). (answer_of x, state_of a.state)) (sym h) ∙ added.is) in
             state_refused (add_tested s step out) n out (added_is ∙ e)
 
         pub add-writes : (k : ℕ) (out' : List ℕ) → a.answer ≡ answer.Taken → StateWritten out out' k (state_of a.state) → (answered_of (Written k), out') ≡ add_call s step out
         unfolding add_call answer_of
         add-writes k out' h w =
-            let e = stood_given (state_of q.state) (state_of a.state) (add_to (state_of q.state) step)
+            let e = stood_given (state_of q) (state_of a.state) (add_to (state_of q) step)
             (ap (λ (x : adding.Answer). (answer_of x, state_of a.state)) (sym h) ∙ added.is) in
             state-answered (add_tested s step out) (state_of a.state) k out out' (added_is ∙ e) w
 
   -- ════ looking
 
   module _ (out : List ℕ) where
-    pub look-unread : q.ok ≡ false → (answered_of (Refused 11), out) ≡ look_call s out
+    pub look-unread : StateReadAs (read_state s) None → (answered_of (Refused 11), out) ≡ look_call s out
     unfolding look_call look_tested answer_form answered_of
     look-unread h = rw (unread h)
 
-    module _ (ok : q.ok ≡ true) where
+    module _ (q : State) (ok : StateReadAs (read_state s) (Some q)) where
       pub look-short : length out < form_bytes → (answered_of (Refused 2), out) ≡ look_call s out
       unfolding look_call look_tested answer_form answered_of
       look-short l = simp (is_read_lem ok, lt-leb form_bytes (length out) l)
 
-      pub look-writes : form_bytes ≤ length out → (k : ℕ) (out' : List ℕ) → FormWritten out out' k (form_of q.state.form) → (answered_of (Written k), out') ≡ look_call s out
+      pub look-writes : form_bytes ≤ length out → (k : ℕ) (out' : List ℕ) → FormWritten out out' k (form_of q.form) → (answered_of (Written k), out') ≡ look_call s out
       unfolding look_call look_tested answer_form answered_of state_of
       look-writes l k out' w = (λ i. (given (w.ends i), w.bytes i)) ∙ simp (is_read_lem ok, le-leb form_bytes (length out) l)
 
   -- ════ deciding
 
   module _ (form buffer work : List ℕ) where
-    pub decide-unread : q.ok ≡ false → DecidedOpen s form buffer work (decision_of (decided.Refused 11)) buffer work
+    pub decide-unread : StateReadAs (read_state s) None → DecidedOpen s form buffer work (decision_of (decided.Refused 11)) buffer work
     unfolding DecidedOpen decide_open_tested decision_of DecidedBy
     decide-unread h = rw (unread h) (refl, record { buffer_stands = refl; work_stands = refl })
 
-    module _ (ok : q.ok ≡ true) where
+    module _ (q : State) (ok : StateReadAs (read_state s) (Some q)) where
       -- the table and the form's record are parts of the bytes
       pub parts-fit : get_or s 0 0 + 2 ≤ length s
-      parts-fit = (state_read s (state_of q.state) (is_read_lem ok)).fits
+      parts-fit = (state_read s (state_of q) (is_read_lem ok)).fits
 
       pub decide-parts : (d : Decision) (buffer' work' : List ℕ) → Decided (part s parts-fit) (rest s parts-fit) form buffer work (decision_of d) buffer' work'
           → DecidedOpen s form buffer work (decision_of d) buffer' work'
       decide-parts d buffer' work' h =
-          open-decided s form buffer work (decision_of d) buffer' work' (state_of q.state) (is_read_lem ok)
+          open-decided s form buffer work (decision_of d) buffer' work' (state_of q) (is_read_lem ok)
           (subst (λ (r : List ℕ). Decided (state_table s) r form buffer work (decision_of d) buffer' work') (rest-is s parts-fit)
           (subst (λ (t : List ℕ). Decided t (rest s parts-fit) form buffer work (decision_of d) buffer' work') (part_is s parts-fit) h))
 
   -- ════ closing
 
   module _ (form : List ℕ) where
-    pub close-unread : q.ok ≡ false → closed_of (closing.Refused 11) ≡ close_call s form
+    pub close-unread : StateReadAs (read_state s) None → closed_of (closing.Refused 11) ≡ close_call s form
     unfolding close_call closed_of
     close-unread h = rw (unread h)
 
-    module _ (ok : q.ok ≡ true) (w : Outcome) (t : Gives (take_form (take q.state.letters q.state.table) form) w) where
-      close_is : close_call s form ≡ close_at (state_of q.state) form
+    module _ (q : State) (ok : StateReadAs (read_state s) (Some q)) (w : Outcome) (t : Gives (take_form (take q.letters q.table) form) w) where
+      close_is : close_call s form ≡ close_at (state_of q) form
       unfolding close_call
       close_is = rw (is_read_lem ok)
 
       pub close-not_taken : (w.refusal ≡ 0 → ⊥) → closed_of (closing.Refused w.refusal) ≡ close_call s form
       unfolding close_at state_of outcome_of closed_of
       close-not_taken h =
-          let e : take_form (take q.state.letters q.state.table) form ≡ refused w.refusal = sym t.is ∙ rw (ne_eqb w.refusal 0 h) in
+          let e : take_form (take q.letters q.table) form ≡ refused w.refusal = sym t.is ∙ rw (ne_eqb w.refusal 0 h) in
           sym (close_is ∙ rw e)
 
       module _ (z : w.refusal ≡ 0) where
-        close-by : close_call s form ≡ (require (same_form (form_of w.form) (form_of q.state.form)) 13)
+        close-by : close_call s form ≡ (require (same_form (form_of w.form) (form_of q.form)) 13)
         unfolding close_at state_of outcome_of
         close-by =
-            let e : take_form (take q.state.letters q.state.table) form ≡ given (form_of w.form) = sym t.is ∙ rw (eq-eqb w.refusal 0 z) in
+            let e : take_form (take q.letters q.table) form ≡ given (form_of w.form) = sym t.is ∙ rw (eq-eqb w.refusal 0 z) in
             close_is ∙ rw e
 
-        pub close-differs : (b : Bool) → b ≡ same_form (form_of w.form) (form_of q.state.form) → b ≡ false → closed_of (closing.Refused 13) ≡ close_call s form
+        pub close-differs : (b : Bool) → b ≡ same_form (form_of w.form) (form_of q.form) → b ≡ false → closed_of (closing.Refused 13) ≡ close_call s form
         unfolding closed_of
         close-differs b e h = sym (close-by ∙ rw (sym e ∙ h))
 
-        pub close-accepts : (b : Bool) → b ≡ same_form (form_of w.form) (form_of q.state.form) → b ≡ true → closed_of closing.Accepted ≡ close_call s form
+        pub close-accepts : (b : Bool) → b ≡ same_form (form_of w.form) (form_of q.form) → b ≡ true → closed_of closing.Accepted ≡ close_call s form
         unfolding closed_of
         close-accepts b e h = sym (close-by ∙ rw (sym e ∙ h))
 

@@ -27,12 +27,13 @@ use Rattle.logs.proofs.WrittenLogs.{part_written}
 use Rattle.forms.proofs.Forms.{front_is}
 use Rattle.letters.proofs.LetterTests.{test_refused, test-passed}
 use Rattle.open_log.specs.declared.state.State.{State}
-use Rattle.open_log.specs.declared.state.StateReading.{StateReading}
+use Rattle.std.specs.Prelude.{Some, None}
 use Rattle.open_log.specs.States.{state_of, state_read_of, StateReadAs, StateWritten}
 
 -- a refusal, whatever refused
-pub refused_as_lem : (x : Result O.State) (q : StateReading) → StateReadAs (refused 11) q → x ≡ refused 11 → StateReadAs x q
-refused_as_lem x q w e = record { is = w.is ∙ sym e; valid = w.valid }
+pub not_read : (x : Result O.State) → x ≡ refused 11 → StateReadAs x None
+unfolding state_read_of
+not_read x e = record { is = sym e; valid = tt }
 
 -- a table that fails its test is not good
 table-bad : (table : List ℕ) (n : ℕ) → test_of n ≡ test_table table → (n ≡ 0 → ⊥) → good_table table ≡ false
@@ -105,7 +106,7 @@ module _ (s : List ℕ) where
 
           -- a state is read
           pub state-is : w.refusal ≡ 0 → (letters : List ℕ) → take (length part) letters ≡ part
-              → StateReadAs (read_state s) (record { ok = true; state = record { letters = get_or s 0 0; table = letters; count = get_or s (get_or s 0 0 + 1) 0; form = w.form } })
+              → StateReadAs (read_state s) (Some (record { letters = get_or s 0 0; table = letters; count = get_or s (get_or s 0 0 + 1) 0; form = w.form }))
           unfolding read_state state_count else_shape outcome_of state_read_of state_of
           state-is h letters copied =
               let e : take_form (state_table s) (state_form s) ≡ given (form_of w.form) = sym form_is ∙ rw (eq-eqb w.refusal 0 h) in
@@ -113,7 +114,7 @@ module _ (s : List ℕ) where
               let table : take (get_or s 0 0) letters ≡ state_table s = ap (λ (n : ℕ). take n letters) (sym long) ∙ copied ∙ part_is in
               record {
                 is = simp (le-leb (get_or s 0 0 + 2) (length s) l, good_is, le-leb (get_or s (get_or s 0 0 + 1) 0) 64 few, e, table);
-                valid = λ t. record { few = omega (arith, part_short, long); form = taken.valid h };
+                valid = record { few = omega (arith, part_short, long); form = taken.valid h };
               }
 
 -- ════ writing

@@ -63,15 +63,13 @@ pub fn open(table: &[u8], form: &[u8], out: &mut [u8]) -> Answered
 pub fn add(s: &[u8], step: &[u8], out: &mut [u8]) -> Answered
     ensures { (answered_of result, out.new) ≡ add_call s.now step.now out.old }
 {
-    let q = read_state(s);
-    if !q.ok {
+    let Some(state) = read_state(s) else {
         return Answered::Refused(11);
-    }
+    };
     if out.len() < STATE_BYTES {
         return Answered::Refused(2);
     }
-    let before = q.state;
-    let a = add_step(before, step);
+    let a = add_step(state, step);
     let answer = a.answer;
     match answer {
         Answer::Refused(n) => Answered::Refused(n),
@@ -86,14 +84,12 @@ pub fn add(s: &[u8], step: &[u8], out: &mut [u8]) -> Answered
 pub fn look(s: &[u8], out: &mut [u8]) -> Answered
     ensures { (answered_of result, out.new) ≡ look_call s.now out.old }
 {
-    let q = read_state(s);
-    if !q.ok {
+    let Some(state) = read_state(s) else {
         return Answered::Refused(11);
-    }
+    };
     if out.len() < FORM_BYTES {
         return Answered::Refused(2);
     }
-    let state = q.state;
     let f = state.form;
     Answered::Written(write_form(out, f))
 }
@@ -102,10 +98,9 @@ pub fn look(s: &[u8], out: &mut [u8]) -> Answered
 pub fn decide_open(s: &[u8], form: &[u8], buffer: &mut [u8], work: &mut [u8]) -> Decision
     ensures { DecidedOpen s.now form.now buffer.old work.old (decision_of result) buffer.new work.new }
 {
-    let q = read_state(s);
-    if !q.ok {
+    let Some(_) = read_state(s) else {
         return Decision::Refused(11);
-    }
+    };
     let n = s[0] as usize;
     let end = n + 1;
     let start = n + 2;
@@ -116,11 +111,9 @@ pub fn decide_open(s: &[u8], form: &[u8], buffer: &mut [u8], work: &mut [u8]) ->
 pub fn close(s: &[u8], form: &[u8]) -> Closed
     ensures { closed_of result ≡ close_call s.now form.now }
 {
-    let q = read_state(s);
-    if !q.ok {
+    let Some(state) = read_state(s) else {
         return Closed::Refused(11);
-    }
-    let state = q.state;
+    };
     let n = state.letters;
     let table = state.table;
     let t = read_form(&table[..n], form);

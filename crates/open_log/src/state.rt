@@ -1,13 +1,11 @@
 // The state of an open log, read from any bytes and written.
 ghost use Rattle.std.specs.Prelude.{◌≡◌, ◌≤◌, length, take};
-ghost use Rattle.specification.specs.Results.{refused};
 ghost use Rattle.specification.specs.OpenLogs.{state_bytes, read_state};
 ghost use Rattle.open_log.specs.States.{state_of, StateValid, StateReadAs, StateWritten};
 
 use forms::{read_form, write_form};
 use letters::check_table;
 use logs::writing::write_letters;
-use terms::build::refuse;
 use terms::types::Form;
 
 // Bytes that the state of any open log fits into.
@@ -22,85 +20,48 @@ pub struct State {
     pub form: Form,
 }
 
-// A state read, where nothing was refused.
-#[derive(Clone, Copy)]
-pub struct StateReading {
-    pub ok: bool,
-    pub state: State,
-}
-
 // The letters of a table in front of an array.
 pub fn table_of(t: &[u8]) -> [u8; 24]
     requires { length t.now ≤ 24 }
     ensures { take (length t.now) result ≡ t.now }
 {
-    let n = t.len();
     let mut table = [0u8; 24];
-    let mut i: usize = 0;
-    while i < n {
-        table[i] = t[i];
-        i += 1;
-    }
+    table[..t.len()].copy_from_slice(t);
     table
 }
 
-// A refusal: the state counts for nothing.
-fn refuse_state() -> StateReading
-    ensures { StateReadAs (refused 11) result }
-{
-    let o = refuse(11);
-    let form = o.form;
-    let table = [0u8; 24];
-    let state = State {
-        letters: 0,
-        table: table,
-        count: 0,
-        form: form,
-    };
-    StateReading {
-        ok: false,
-        state: state,
-    }
-}
-
 // The state whose bytes these are: a bad table, a count above 64, a form out of shape or with letters that the table has not, bytes missing or left over are all 11.
-pub fn read_state(s: &[u8]) -> StateReading
+pub fn read_state(s: &[u8]) -> Option<State>
     ensures { StateReadAs (read_state s.now) result }
 {
     let len = s.len();
     if len < 1 {
-        return refuse_state();
+        return None;
     }
     let n = s[0] as usize;
     if len < n + 2 {
-        return refuse_state();
+        return None;
     }
     let end = n + 1;
     let table = &s[1..end];
     if check_table(table) != 0 {
-        return refuse_state();
+        return None;
     }
     let count = s[end];
     if count > 64 {
-        return refuse_state();
+        return None;
     }
     let start = n + 2;
     let t = read_form(table, &s[start..]);
     if t.refusal != 0 {
-        return refuse_state();
+        return None;
     }
-    let form = t.form;
-    let letters = table_of(table);
-    let state = State {
+    Some(State {
         letters: n,
-        table: letters,
-        count: count,
-        form: form,
-    };
-    StateReading {
-        ok: true,
-        state: state,
-    }
+        table: table_of(table),
+        count,
+        form: t.form,
+    })
 }
 
 // The bytes of a state: the table's length, the table, the count, the form's record.

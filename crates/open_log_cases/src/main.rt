@@ -32,15 +32,9 @@ fn table_in(state: &[u8]) -> &[u8] {
 
 // Bytes become the state at hand, as many as there is room for.
 fn keep(held: &mut [u8], state: &[u8]) -> usize {
-    let mut i: usize = 0;
-    while i < state.len() {
-        if i >= held.len() {
-            return i;
-        }
-        held[i] = state[i];
-        i += 1;
-    }
-    i
+    let n = state.len().min(held.len());
+    held[..n].copy_from_slice(&state[..n]);
+    n
 }
 
 // The line of a call that wrote n bytes: their number, the bytes unless it is told by its length alone, and whether those behind them stand.

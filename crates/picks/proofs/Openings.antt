@@ -2,6 +2,7 @@
 use mathlib.Core.Path.{◌≡◌, refl, sym, ap, subst, ◌∙◌}
 use mathlib.Core.Bool.{Bool, true, false, ◌&&◌}
 use mathlib.Core.List.{List, [], ◌++◌, map}
+use Rattle.std.specs.Prelude.{Some, None}
 use Prim.Native.Nat.{ℕ, ◌+◌, ◌-◌, ◌^◌, ◌<◌, ◌≤◌}
 use native.Mathlib.Nat as N
 use native.Mathlib.Omega.{arith}
@@ -183,19 +184,24 @@ candidate-opens t k r j h =
 -- ════ what is opened
 
 module _ (kind rule k : ℕ) (t : Term) (p : List ℕ) (n : ℕ) (m : Term) (w : Pooled (letters_left (term_of t) k rule) p n) (wm : MultiplierOf t k rule m) where
-  pub opened-by : (b : Bool) → n ≡ rule_letters rule → PassesBy b kind rule m → OpenedBy b kind t k rule (record { fits = b; m = m; pool = p })
-  unfolding OpenedBy PassesBy Shut Fails pool letters_left candidate multiplier
-  opened-by true e w' = record {
+  pub opened-by : (b : Bool) → PassesBy b kind rule m → n ≡ rule_letters rule → b ≡ true → OpenedBy kind t k rule (Some (record { m = m; pool = p }))
+  unfolding OpenedBy PassesBy pool letters_left
+  opened-by true w' e q = record {
     m = wm;
     passes = w';
     places = w.places;
     letters = ap (λ (i : ℕ). take i p) (sym e) ∙ w.is (omega (arith, e, few-letters rule));
     small = reordered_all (λ (x : ℕ). x < 256) (reordered-sorted order (letters_left (term_of t) k rule)) w.small;
   }
-  opened-by false e w' = λ table f j c g q can h. w' table (candidate (term_of t) k rule j c).letters f c g q
+  opened-by false w' e q = absurd (subst T (sym q) tt)
+
+  pub fails_by : (b : Bool) → PassesBy b kind rule m → b ≡ false → OpenedBy kind t k rule None
+  unfolding OpenedBy PassesBy Shut Fails candidate multiplier
+  fails_by true w' q = absurd (subst T q tt)
+  fails_by false w' q = λ table f j c g q can h. w' table (candidate (term_of t) k rule j c).letters f c g q
       (ap (λ (u : S.Term). step_at table f (record { rule = rule; letters = (candidate (term_of t) k rule j c).letters; m = with_coef c u })) wm.is ∙ h)
 
-  pub shut_by : (n ≡ rule_letters rule → ⊥) → OpenedBy false kind t k rule (record { fits = false; m = m; pool = p })
+  pub shut_by : (n ≡ rule_letters rule → ⊥) → OpenedBy kind t k rule None
   unfolding OpenedBy Shut pool letters_left
   shut_by e table f j c g q can h =
       let long : length (letters_left (term_of t) k rule) ≡ rule_letters rule = sym (O.length-sorted order (letters_left (term_of t) k rule))

@@ -16,7 +16,7 @@ use Rattle.theory.proofs.Rules.Table.{by-rule}
 use Rattle.theory.specs.Shortening.Masks.{taken, left_over}
 use Rattle.theory.specs.Shortening.Candidates.{block_size, in_rule_order, block_is_first}
 use Rattle.terms.proofs.Arrays.{rest_at, nothing_left_lem}
-use Rattle.picks.specs.declared.choosing.Picked.{Picked}
+use Rattle.std.specs.Prelude.{Option, Some, None}
 use Rattle.picks.specs.Choosing.{MaskTaken, picks, RuleOrdered, PickedBy}
 use Rattle.picks.proofs.Masks.{left_taken, taken_left-long, taken_all}
 
@@ -100,7 +100,7 @@ rule-ordered r t x y l hx hy e = record {
 
 -- ════ the tests of a pick
 
-pub picked_as : (p : List ℕ) {m n rule j : ℕ} {r : Picked} → n ≡ m → PickedBy (take n p) rule j r → PickedBy (take m p) rule j r
+pub picked_as : (p : List ℕ) {m n rule j : ℕ} {r : Option (List ℕ)} → n ≡ m → PickedBy (take n p) rule j r → PickedBy (take m p) rule j r
 picked_as p {m} {n} {rule} {j} {r} e w = subst (λ (i : ℕ). PickedBy (take i p) rule j r) e w
 
 five-sizes : (r : ℕ) → r ≡ 5 → (block_size r ≡ 3) × (rule_letters r ≡ 6)
@@ -109,24 +109,24 @@ five-sizes r e = rw e (refl, refl)
 
 module _ (w : List ℕ) (rule j : ℕ) where
   -- the picks that fail
-  no-letters : (r : Picked) → r.fits ≡ false → picks rule w j ≡ false → PickedBy w rule j r
-  no-letters r f e = record { is = f ∙ sym e; letters = λ t. absurd (subst T (sym t ∙ f) tt) }
+  no-letters : picks rule w j ≡ false → PickedBy w rule j None
+  no-letters e = record { is = sym e; letters = tt }
 
   module _ (a : ℕ) (x : List ℕ) (tx : MaskTaken w j x a) (few : length w ≤ 7) where
     block-long : length (taken j w) ≡ a
     block-long = ap length (sym tx.is) ∙ length-take-le a x (omega (arith, tx.few, tx.places))
 
-    pub wrong_size : (r : Picked) → r.fits ≡ false → (s : ℕ) → s ≡ block_size rule → (a ≡ s → ⊥) → PickedBy w rule j r
+    pub wrong_size : (s : ℕ) → s ≡ block_size rule → (a ≡ s → ⊥) → PickedBy w rule j None
     unfolding picks
-    wrong_size r f s es h = no-letters r f (rw (ne_eqb (length (taken j w)) (block_size rule) (λ e. h (sym block-long ∙ e ∙ sym es))))
+    wrong_size s es h = no-letters (rw (ne_eqb (length (taken j w)) (block_size rule) (λ e. h (sym block-long ∙ e ∙ sym es))))
 
     module _ (s : ℕ) (es : s ≡ block_size rule) (size : a ≡ s) where
       right-size : eqb (length (taken j w)) (block_size rule) ≡ true
       right-size = eq-eqb (length (taken j w)) (block_size rule) (block-long ∙ size ∙ es)
 
-      pub block_falls : (r : Picked) → r.fits ≡ false → (b : Bool) → b ≡ ascend ltb (take a x) → b ≡ false → PickedBy w rule j r
+      pub block_falls : (b : Bool) → b ≡ ascend ltb (take a x) → b ≡ false → PickedBy w rule j None
       unfolding picks
-      block_falls r f b eb h = no-letters r f (rw (right-size, ap (ascend ltb) (sym tx.is) ∙ sym eb ∙ h))
+      block_falls b eb h = no-letters (rw (right-size, ap (ascend ltb) (sym tx.is) ∙ sym eb ∙ h))
 
       module _ (b : Bool) (eb : b ≡ ascend ltb (take a x)) (hb : b ≡ true) (c : ℕ) (y : List ℕ) (left : ℕ) (inside : j < 2 ^ length w)
           (el : left ≡ 2 ^ length w - 1 - j) (ty : MaskTaken w left y c) where
@@ -136,9 +136,9 @@ module _ (w : List ℕ) (rule j : ℕ) where
         block-rises : ascend ltb (taken j w) ≡ true
         block-rises = ap (ascend ltb) (sym tx.is) ∙ sym eb ∙ hb
 
-        pub others-fall : (r : Picked) → r.fits ≡ false → (d : Bool) → d ≡ ascend ltb (take c y) → d ≡ false → PickedBy w rule j r
+        pub others-fall : (d : Bool) → d ≡ ascend ltb (take c y) → d ≡ false → PickedBy w rule j None
         unfolding picks
-        others-fall r f d ed h = no-letters r f (rw (right-size, block-rises, ap (ascend ltb) (sym others-are) ∙ sym ed ∙ h))
+        others-fall d ed h = no-letters (rw (right-size, block-rises, ap (ascend ltb) (sym others-are) ∙ sym ed ∙ h))
 
         module _ (d : Bool) (ed : d ≡ ascend ltb (take c y)) (hd : d ≡ true) (rules : T (is_rule rule)) (long : length w ≡ rule_letters rule) where
           others-rise : ascend ltb (left_over j w) ≡ true
@@ -181,15 +181,15 @@ module _ (w : List ℕ) (rule j : ℕ) where
           picks-are = rw (right-size, block-rises, others-rise) first-is
 
           -- in rule 5 the other letters come first
-          pub block-not_first : (r : Picked) → r.fits ≡ false → rule ≡ 5 → get_or y 0 0 < get_or x 0 0 → PickedBy w rule j r
-          block-not_first r f e h = no-letters r f (picks-are ∙ rw (eq-eqb rule 5 e, lt-leb (get_or x 0 0) (get_or y 0 0) h))
+          pub block-not_first : rule ≡ 5 → get_or y 0 0 < get_or x 0 0 → PickedBy w rule j None
+          block-not_first e h = no-letters (picks-are ∙ rw (eq-eqb rule 5 e, lt-leb (get_or x 0 0) (get_or y 0 0) h))
 
           -- a pick
           pub picked_is : (l : List ℕ) → RuleOrdered rule x y l → All (λ (n : ℕ). n < 256) w → (rule ≡ 5 → get_or x 0 0 ≤ get_or y 0 0)
-              → PickedBy w rule j (record { fits = true; letters = l })
+              → PickedBy w rule j (Some l)
           picked_is l o small first = record {
             is = sym (picks-are ∙ go (eqb rule 5) refl);
-            letters = λ t. o.is (taken j w) (left_over j w) (block-long ∙ size ∙ es) (length-append (taken j w) (left_over j w) ∙ taken_left-long j w ∙ long)
+            letters = o.is (taken j w) (left_over j w) (block-long ∙ size ∙ es) (length-append (taken j w) (left_over j w) ∙ taken_left-long j w ∙ long)
                 (taken_all (λ (n : ℕ). n < 256) j w small) (subst (All (λ (n : ℕ). n < 256)) (ap (λ (m : ℕ). taken m w) el ∙ sym (left_taken w j inside))
                 (taken_all (λ (n : ℕ). n < 256) left w small))
                 (ap (λ (n : ℕ). take n x) block-long ∙ tx.is) (ap (λ (n : ℕ). take n y) others-long ∙ others-are);

@@ -1,5 +1,5 @@
 -- Numbers taken by a mask, the letters that M leaves to a rule, and the letters of a rule by a mask over them. Assumes nothing.
-use Rattle.std.specs.Prelude.{Bool, true, false, not, ◌&&◌, ◌≡◌, List, [], ◌∷◌, ◌++◌, ℕ, zero, suc, ◌+◌, ◌≤◌, ◌<◌, T, eqb, ltb, ℤ, pos, length, take}
+use Rattle.std.specs.Prelude.{Bool, true, false, not, ◌&&◌, ◌≡◌, List, [], ◌∷◌, ◌++◌, ℕ, zero, suc, ◌+◌, ◌≤◌, ◌<◌, T, eqb, ltb, ℤ, pos, length, take, Option, Some, None, is_some, IfSome}
 use Rattle.std.specs.Int.Count.{ones}
 use Rattle.specification.specs.Results.{given, when◌then◌else◌}
 use Rattle.specification.specs.Lists.{joined, all, ascend, order, sorted}
@@ -14,7 +14,6 @@ use Rattle.terms.specs.declared.types.Term.{Term}
 use Rattle.terms.specs.Abstraction.{term_of, Counted}
 use Rattle.rules.specs.Steps.{step_tests}
 use Rattle.picks.specs.declared.choosing.Opening.{Opening}
-use Rattle.picks.specs.declared.choosing.Picked.{Picked}
 
 -- ════ masks
 
@@ -100,9 +99,9 @@ pub record Opened (kind : ℕ) (t : Term) (mask rule : ℕ) (o : Opening) : Type
   pub small : All (λ (x : ℕ). x < 256) (pool (term_of t) mask rule)
 
 -- one or the other
-unfoldable pub OpenedBy : (fits : Bool) (kind : ℕ) (t : Term) (mask rule : ℕ) (o : Opening) → Type 0
-OpenedBy true kind t k r o = Opened kind t k r o
-OpenedBy false kind t k r o = Shut kind (term_of t) k r
+unfoldable pub OpenedBy : (kind : ℕ) (t : Term) (mask rule : ℕ) (r : Option Opening) → Type 0
+OpenedBy kind t k r (Some o) = Opened kind t k r o
+OpenedBy kind t k r None = Shut kind (term_of t) k r
 
 -- ════ picks
 
@@ -116,6 +115,6 @@ pub record RuleOrdered (rule : ℕ) (x y r : List ℕ) : Type 0 where
       → take (length u) x ≡ u → take (length v) y ≡ v → take (rule_letters rule) r ≡ in_rule_order rule (u ++ v)
 
 -- the rule's letters by a mask over the pool, if they are a pick
-pub record PickedBy (w : List ℕ) (rule pick : ℕ) (r : Picked) : Type 0 where
-  pub is : r.fits ≡ picks rule w pick
-  pub letters : r.fits ≡ true → take (rule_letters rule) r.letters ≡ in_rule_order rule (taken pick w ++ left_over pick w)
+pub record PickedBy (w : List ℕ) (rule pick : ℕ) (r : Option (List ℕ)) : Type 0 where
+  pub is : is_some r ≡ picks rule w pick
+  pub letters : IfSome r (λ l. take (rule_letters rule) l ≡ in_rule_order rule (taken pick w ++ left_over pick w))

@@ -1,5 +1,5 @@
 // What a mask over a term's factors gives M and leaves to a rule, and the letters that a mask over those gives the rule's block.
-ghost use Rattle.std.specs.Prelude.{◌≡◌, false, [], ◌∷◌, map, ℕ, ◌-◌, ◌^◌, ◌<◌, ◌≤◌, T, ltb, pos, length, take};
+ghost use Rattle.std.specs.Prelude.{◌≡◌, [], ◌∷◌, map, ℕ, ◌-◌, ◌^◌, ◌<◌, ◌≤◌, T, ltb, pos, length, take};
 ghost use Rattle.specification.specs.Lists.{joined, ascend};
 ghost use Rattle.specification.specs.Rules.{is_rule, rule_letters};
 ghost use Rattle.theory.specs.Elements.{All};
@@ -14,19 +14,11 @@ use terms::factors::{Factor, letter_count, letters_of, low};
 use terms::shape::in_shape;
 use terms::types::{Part, Term};
 
-// M with the coefficient 1, and the letters left to the rule in ascending order, if such a step can pass.
+// M with the coefficient 1, and the letters left to the rule in ascending order.
 #[derive(Clone, Copy)]
 pub struct Opening {
-    pub fits: bool,
     pub m: Term,
     pub pool: [u32; 7],
-}
-
-// The letters of a rule in their order, if the mask takes a block.
-#[derive(Clone, Copy)]
-pub struct Picked {
-    pub fits: bool,
-    pub letters: [u8; 6],
 }
 
 // How many masks there are over so many numbers.
@@ -61,15 +53,13 @@ fn take_by_mask(from: &[u32; 7], n: u8, mask: usize, to: &mut [u32; 7]) -> u8
     let m = n as usize;
     let mut b = mask;
     let mut c: u8 = 0;
-    let mut i: usize = 0;
-    while i < m {
+    for i in 0..m {
         if b % 2 == 1 {
             let k = c as usize;
             to[k] = from[i];
             c += 1;
         }
         b = b / 2;
-        i += 1;
     }
     c
 }
@@ -82,8 +72,7 @@ pub fn letters_left(f: &[u32; 7], n: u8, mask: usize) -> usize
     let m = n as usize;
     let mut b = mask;
     let mut c: usize = 0;
-    let mut i: usize = 0;
-    while i < m {
+    for i in 0..m {
         if b % 2 == 0 {
             let l = letter_count(f[i]);
             if l == 1 {
@@ -92,7 +81,6 @@ pub fn letters_left(f: &[u32; 7], n: u8, mask: usize) -> usize
             c += l;
         }
         b = b / 2;
-        i += 1;
     }
     c
 }
@@ -151,9 +139,7 @@ fn add_factors(pool: &mut [u32; 7], n: u8, f: &[u32; 7], count: u8) -> u8
     ensures { Adds (joined (map letters_of (take count f.now))) pool.old n pool.new result }
 {
     let mut c = n;
-    let mut i = count as usize;
-    while i > 0 {
-        i -= 1;
+    for i in (0..count as usize).rev() {
         c = add_factor(pool, c, f[i]);
     }
     c
@@ -206,31 +192,25 @@ fn can_pass(kind: u8, rule: u8, m: Term) -> bool
         return false;
     }
     let letters = [0u8; 6];
-    let s = Step {
-        rule: rule,
-        letters: letters,
-        m: m,
-    };
+    let s = Step { rule, letters, m };
     test_step(kind, s) == 0
 }
 
-// What a mask over a term's factors gives M and leaves to a rule.
-pub fn open(kind: u8, t: Term, k: usize, rule: u8) -> Opening
+// What a mask over a term's factors gives M and leaves to a rule, if such a step can pass.
+pub fn open(kind: u8, t: Term, k: usize, rule: u8) -> Option<Opening>
     requires { T (is_rule rule) × Counted t × (k < 2 ^ t.factor_count) }
-    ensures { OpenedBy result.fits kind t k rule result }
+    ensures { OpenedBy kind t k rule result }
 {
     let mut pool = [0u32; 7];
     let n = fill_pool(&mut pool, t, k, rule) as usize;
     let m = unit_multiplier(t, k, rule);
-    let mut fits = false;
-    if n == rule_letters(rule) {
-        fits = can_pass(kind, rule, m);
+    if n != rule_letters(rule) {
+        return None;
     }
-    Opening {
-        fits: fits,
-        m: m,
-        pool: pool,
+    if !can_pass(kind, rule, m) {
+        return None;
     }
+    Some(Opening { m, pool })
 }
 
 // How many letters of a rule ascend as one block.
@@ -249,13 +229,10 @@ fn ascend_strictly(f: &[u32; 7], n: u8) -> bool
     requires { (n ≤ 7) × (length f.now ≡ 7) }
     ensures { result ≡ ascend ltb (take n f.now) }
 {
-    let m = n as usize;
-    let mut i: usize = 0;
-    while i + 1 < m {
-        if f[i + 1] <= f[i] {
+    for i in 1..n as usize {
+        if f[i] <= f[i - 1] {
             return false;
         }
-        i += 1;
     }
     true
 }
@@ -282,19 +259,8 @@ fn in_rule_order(rule: u8, x: &[u32; 7], y: &[u32; 7]) -> [u8; 6]
     [l0, l1, l2, l3, l4, l5]
 }
 
-// No letters.
-fn no_pick() -> Picked
-    ensures { result.fits ≡ false }
-{
-    let letters = [0u8; 6];
-    Picked {
-        fits: false,
-        letters: letters,
-    }
-}
-
-// The letters of a rule by a mask over the pool, which takes the block.
-pub fn pick(pool: &[u32; 7], rule: u8, j: usize) -> Picked
+// The letters of a rule in their order by a mask over the pool, if it takes a block.
+pub fn pick(pool: &[u32; 7], rule: u8, j: usize) -> Option<[u8; 6]>
     requires rule { T (is_rule rule) × (length pool.now ≡ 7) × (j < 2 ^ rule_letters rule) }
     requires small { All (λ (x : ℕ). x < 256) (take (rule_letters rule) pool.now) }
     ensures { PickedBy (take (rule_letters rule) pool.now) rule j result }
@@ -303,25 +269,21 @@ pub fn pick(pool: &[u32; 7], rule: u8, j: usize) -> Picked
     let mut x = [0u32; 7];
     let a = take_by_mask(pool, n, j, &mut x);
     if a != block_size(rule) {
-        return no_pick();
+        return None;
     }
     if !ascend_strictly(&x, a) {
-        return no_pick();
+        return None;
     }
     let left = mask_count(n) - 1 - j;
     let mut y = [0u32; 7];
     let b = take_by_mask(pool, n, left, &mut y);
     if !ascend_strictly(&y, b) {
-        return no_pick();
+        return None;
     }
     if rule == 5 {
         if x[0] > y[0] {
-            return no_pick();
+            return None;
         }
     }
-    let letters = in_rule_order(rule, &x, &y);
-    Picked {
-        fits: true,
-        letters: letters,
-    }
+    Some(in_rule_order(rule, &x, &y))
 }

@@ -3,9 +3,8 @@ use mathlib.Core.Path.{◌≡◌, refl, ap, ap₂, sym, ◌∙◌}
 use mathlib.Core.Logic.{◌⊎◌, inl, inr}
 use mathlib.Core.Bool.{Bool, true, false}
 use mathlib.Core.List.{List, [], ◌∷◌, ◌++◌, append_assoc}
-use Prim.Native.Nat.{ℕ, zero, suc, ◌+◌, ◌*◌, ◌/◌, ◌^◌, ◌≤◌, ◌<◌}
+use Prim.Native.Nat.{ℕ, zero, suc, ◌+◌, ◌*◌, ◌/◌, ◌%◌, ◌^◌, ◌≤◌, ◌<◌}
 use native.Mathlib.Nat.{eq-or-lt_of_le}
-use native.Mathlib.Numerals.{towards_suc}
 use native.Mathlib.Omega.{arith}
 use lib.Dec.{eqb}
 use borrow.Author.Tests.{eqb-true, eqb-false}
@@ -18,17 +17,32 @@ use mir.ValLaws.{to_z-of_z, of_z_fits}
 use Rattle.algebra.specs.Conditions.{lt_or_le}
 use Rattle.algebra.specs.Numbers.{shift_small}
 use Rattle.algebra.specs.Lists.{length-tabulated, get_d_tabulated, get_d_second, sets-other}
+use borrow.Rule.Slice.PartMut.{put_mid}
+use Rattle.std.specs.Int.{byte_at, to_le_bytes}
+use Rattle.std.proofs.lemmas.List.{drop-drop}
 use Rattle.polynomials.specs.Summands.{Summand}
 use Rattle.polynomials.specs.Memory.{bytes_of, number_of, eight, summand, none, summand_at, summands}
 
 -- ════ stores
 
--- eight stores in a row
-pub stores : (l : List ℕ) (at : ℕ) {a b c d e f g h a' b' c' d' e' f' g' h' : ℕ}
-    → a ≡ a' → b ≡ b' → c ≡ c' → d ≡ d' → e ≡ e' → f ≡ f' → g ≡ g' → h ≡ h'
-    → set (set (set (set (set (set (set (set l at a) (at + 1) b) (at + 2) c) (at + 3) d) (at + 4) e) (at + 5) f) (at + 6) g) (at + 7) h
-    ≡ sets l at (a' ∷ b' ∷ c' ∷ d' ∷ e' ∷ f' ∷ g' ∷ h' ∷ [])
-stores l at p q r s t u v w = rw (p, q, r, s, t, u, v, w) (simp towards_suc)
+-- the eight bytes of a number, as the library has them
+bytes_are : (x : ℕ) → to_le_bytes w64 x ≡ bytes_of 8 x
+bytes_are x =
+    let b : byte_at 1 x ≡ x / 256 % 256 = omega arith in
+    let c : byte_at 2 x ≡ x / 256 / 256 % 256 = omega arith in
+    let d : byte_at 3 x ≡ x / 256 / 256 / 256 % 256 = omega arith in
+    let e : byte_at 4 x ≡ x / 256 / 256 / 256 / 256 % 256 = omega arith in
+    let f : byte_at 5 x ≡ x / 256 / 256 / 256 / 256 / 256 % 256 = omega arith in
+    let g : byte_at 6 x ≡ x / 256 / 256 / 256 / 256 / 256 / 256 % 256 = omega arith in
+    let h : byte_at 7 x ≡ x / 256 / 256 / 256 / 256 / 256 / 256 / 256 % 256 = omega arith in
+    λ i. x % 256 ∷ b i ∷ c i ∷ d i ∷ e i ∷ f i ∷ g i ∷ h i ∷ []
+
+-- stored
+pub eight_stored : (l ys : List ℕ) (at k x : ℕ) → at + 8 ≤ length l → k ≡ 8 → ys ≡ to_le_bytes w64 x → put_mid at k l ys ≡ sets l at (bytes_of 8 x)
+eight_stored l ys at k x h e q =
+    let long : 8 ≡ length (bytes_of 8 x) = refl in
+    ap (λ (r : List ℕ). take at l ++ r) (λ i. (q ∙ bytes_are x) i ++ (drop-drop k at l ∙ ap (λ (m : ℕ). drop (at + m) l) (e ∙ long)) i)
+    ∙ sym (append_assoc (take at l) _ _) ∙ sym (sets-eq (bytes_of 8 x) l at h)
 
 -- the number of the bytes of a number
 number_bytes : (n x : ℕ) → x < 256 ^ n → number_of (bytes_of n x) ≡ x

@@ -54,12 +54,7 @@ fn cross_piece(l: u8, m: u8, i: usize, o: usize, c: u64) -> Piece
     let a = digit(l, (i + 1 + o) % 3);
     let b = digit(m, (i + 2 + 2 * o) % 3);
     let sign = piece_sign(o);
-    Piece {
-        a: a,
-        b: b,
-        c: c,
-        sign: sign,
-    }
+    Piece { a, b, c, sign }
 }
 
 // The product number j of a polynomial.
@@ -83,7 +78,7 @@ fn piece_at(f: Block, j: usize) -> Piece
         Block::Single(l, i) => {
             let a = digit(l, i as usize);
             Piece {
-                a: a,
+                a,
                 b: 0,
                 c: 0,
                 sign: 1,
@@ -93,8 +88,8 @@ fn piece_at(f: Block, j: usize) -> Piece
             let a = digit(l, j);
             let b = digit(m, j);
             Piece {
-                a: a,
-                b: b,
+                a,
+                b,
                 c: 0,
                 sign: 1,
             }
@@ -169,10 +164,8 @@ fn spread(work: &mut [u8], from: usize, n: usize, to: usize, p: Piece)
     requires { Spreading from n to p (summands work.old) }
     ensures { Spread from n to p (summands work.old) (summands work.new) }
 {
-    let mut i: usize = 0;
-    while i < n {
+    for i in 0..n {
         put_product(work, from + i, to + i, p);
-        i += 1;
     }
 }
 
@@ -182,11 +175,8 @@ fn multiply(work: &mut [u8], start: usize, n: usize, f: Block) -> usize
     ensures { Multiplied start n f result (summands work.old) (summands work.new) }
 {
     let m = count(f);
-    let mut j = m;
-    while j > 0 {
-        j -= 1;
-        let p = piece_at(f, j);
-        spread(work, start, n, start + j * n, p);
+    for j in (0..m).rev() {
+        spread(work, start, n, start + j * n, piece_at(f, j));
     }
     m * n
 }
@@ -197,10 +187,8 @@ fn times_factors(work: &mut [u8], start: usize, t: Term) -> usize
     ensures { Factored start t result (summands work.old) (summands work.new) }
 {
     let mut n: usize = 1;
-    let mut k: usize = 0;
-    while k < t.factor_count as usize {
+    for k in 0..t.factor_count as usize {
         n = multiply(work, start, n, block_of(t.factors[k]));
-        k += 1;
     }
     n
 }

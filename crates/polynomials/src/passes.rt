@@ -23,11 +23,7 @@ fn substituted_at(work: &[u8], i: usize, d: u64, v: u64) -> Loaded
 {
     let c = cut_off(key_at(work, i), d);
     let coef = mul(coef_at(work, i), power(v, c.exponent));
-    let key = c.rest;
-    Loaded {
-        key: key,
-        coef: coef,
-    }
+    Loaded { key: c.rest, coef }
 }
 
 // Whether a summand is left when v is put for the variable of a digit.
@@ -41,11 +37,9 @@ pub fn leaves(work: &[u8], n: usize, d: u64, v: u64) -> bool
     let first = substituted_at(work, 0, d, v);
     let mut key = first.key;
     let mut coef = first.coef;
-    let mut i: usize = 1;
-    while i < n {
+    for i in 1..n {
         let m = substituted_at(work, i, d, v);
         let c = m.coef;
-        i += 1;
         if m.key == key {
             coef = add(coef, c);
             continue;
@@ -83,11 +77,9 @@ pub fn substitute(work: &mut [u8], n: usize, d: u64, v: u64) -> usize
     let mut key = first.key;
     let mut coef = first.coef;
     let mut j: usize = 0;
-    let mut i: usize = 1;
-    while i < n {
+    for i in 1..n {
         let m = substituted_at(work, i, d, v);
         let c = m.coef;
-        i += 1;
         if m.key == key {
             coef = add(coef, c);
             continue;
@@ -118,10 +110,8 @@ pub fn least(work: &[u8], n: usize) -> u64
     ensures { result ≡ least_from 0 (take n (summands work.now)) }
 {
     let mut d: u64 = 0;
-    let mut i: usize = 0;
-    while i < n {
+    for i in 0..n {
         d = lesser(d, lowest_digit(key_at(work, i)));
-        i += 1;
     }
     d
 }

@@ -20,8 +20,7 @@ pub fn times(key: u64, d: u64) -> u64
     let mut left = key / 256;
     let mut low: u64 = 0;
     let mut place: u64 = 1;
-    let mut i: usize = 0;
-    while i < 7 {
+    for _i in 0..7usize {
         let a = left % 256;
         if d <= a {
             return low + place * (256 * left + d);
@@ -29,7 +28,6 @@ pub fn times(key: u64, d: u64) -> u64
         low += place * a;
         place *= 256;
         left /= 256;
-        i += 1;
     }
     low + place * d
 }
@@ -46,9 +44,8 @@ pub fn cut_off(key: u64, d: u64) -> Cut
         let a = k % 256;
         if a != 0 {
             if a != d {
-                let m = place * k;
                 return Cut {
-                    rest: m,
+                    rest: place * k,
                     exponent: e,
                 };
             }
@@ -58,15 +55,13 @@ pub fn cut_off(key: u64, d: u64) -> Cut
         k /= 256;
     }
     if k == d {
-        let f = e + 1;
         return Cut {
             rest: 0,
-            exponent: f,
+            exponent: e + 1,
         };
     }
-    let m = place * k;
     Cut {
-        rest: m,
+        rest: place * k,
         exponent: e,
     }
 }
@@ -90,11 +85,5 @@ pub fn power(v: u64, e: u64) -> i64
     requires { (v ≤ 6) × (e ≤ 8) }
     ensures { result ≡ pos (v ^ e) }
 {
-    let mut p: u64 = 1;
-    let mut i: u64 = 0;
-    while i < e {
-        p *= v;
-        i += 1;
-    }
-    p as i64
+    v.pow(e as u32) as i64
 }

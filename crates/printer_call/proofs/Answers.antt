@@ -26,9 +26,10 @@ use Rattle.symbols.specs.Printable.{Printable}
 use Rattle.symbols.specs.Text.{print_line}
 use Rattle.printing.proofs.Named.{printable}
 use Rattle.records.proofs.Inside.{written_inside}
-use Rattle.printer_call.specs.declared.Printing.{Printing}
-use Rattle.printer_call.specs.declared.Printing.TheVariants.{Printed}
-use Rattle.printer_call.specs.Answers.{printing_of}
+use Rattle.std.specs.Prelude.{Ok}
+use Rattle.std.specs.Prelude as Std
+use Rattle.refusal.specs.declared.Refusal.{Refusal}
+use Rattle.printer_call.specs.Answers.{length_of}
 use Rattle.printer_call.specs.Lines.{table_reduced, print_reduced}
 
 -- the same text in other words
@@ -146,10 +147,10 @@ unfolding print_answer
 answer-printed s memory memory' n h w = rw (le-leb line_bytes (length memory) h) (λ i. (given (w.ends i), w.bytes i))
 
 -- a text that was printed lies inside the memory lent
-pub printed-inside : (s before after : List ℕ) (r : Printing) (m : ℕ) → ◌≡◌ {A = Result ℕ × List ℕ} (printing_of r, after) (print_answer s before)
-    → r ≡ Printed m → m ≤ length after
-unfolding printing_of print_answer
-printed-inside s before after r m e h = go (leb line_bytes (length before)) ((λ i. (printing_of (sym h i), after)) ∙ e)
+pub printed-inside : (s before after : List ℕ) (r : Std.Result ℕ Refusal) (m : ℕ) → ◌≡◌ {A = Result ℕ × List ℕ} (length_of r, after) (print_answer s before)
+    → r ≡ Ok m → m ≤ length after
+unfolding print_answer
+printed-inside s before after r m e h = go (leb line_bytes (length before)) ((λ i. (length_of (sym h i), after)) ∙ e)
   where
     go : (b : Bool) → ◌≡◌ {A = Result ℕ × List ℕ} (given m, after) (when b then (given (length (print_call s)), write_into (print_call s) before) else (
       refused 2,

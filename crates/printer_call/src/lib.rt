@@ -3,14 +3,15 @@
 
 ghost use Rattle.std.specs.Prelude.{◌≡◌, ◌≤◌, length};
 ghost use Rattle.specification.specs.Printing.{print_call, TextWritten, print_answer, line_bytes};
-ghost use Rattle.printer_call.specs.Answers.{printing_of};
+ghost use Rattle.printer_call.specs.Answers.{length_of};
 ghost use Rattle.printer_call.specs.Lines.{print_reduced};
 
 use letters::check_table;
 use printing::{ALPHABET, LINE_BYTES, print_line, print_refusal};
 use reduction::form_of;
+use refusal::Refusal;
 
-// What a call that prints says: printed, with the length of the text, or refused with its number.
+// What the call that prints with declared names says: printed, with the length of the text, or refused with its number.
 #[derive(Clone, Copy)]
 pub enum Printing {
     Printed(usize),
@@ -51,12 +52,12 @@ fn print_input(s: &[u8], out: &mut [u8]) -> usize
     print_form(&s[1..k], &s[k..n], out)
 }
 
-// The line of all that stands in the input. Memory that is too short for a line is refused with 2, and nothing is written.
-pub fn print(s: &[u8], out: &mut [u8]) -> Printing
-    ensures { (printing_of result, out.new) ≡ print_answer s.now out.old }
+// The line of all that stands in the input. Memory that is too short for a line is refused, and nothing is written.
+pub fn print(s: &[u8], out: &mut [u8]) -> Result<usize, Refusal>
+    ensures { (length_of result, out.new) ≡ print_answer s.now out.old }
 {
     if out.len() < LINE_BYTES {
-        return Printing::Refused(2);
+        return Err(Refusal::NoRoom);
     }
-    Printing::Printed(print_input(s, out))
+    Ok(print_input(s, out))
 }

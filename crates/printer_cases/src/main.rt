@@ -4,13 +4,13 @@
 ghost use Rattle.std.specs.Prelude.{◌+◌, ◌<◌, length};
 
 use case_lines::two_bytes_at;
-use printer_call::{Printing, print};
+use printer_call::print;
 use printing::LINE_BYTES;
 
 // The line of a case.
 fn print_case(s: &[u8]) {
     let mut out = [0u8; LINE_BYTES];
-    let Printing::Printed(m) = print(s, &mut out) else {
+    let Ok(m) = print(s, &mut out) else {
         return;
     };
     io::write_all(1, &out[..m]);

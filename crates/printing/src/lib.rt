@@ -27,11 +27,9 @@ fn print_factors(names: &[u8], out: &mut [u8], at: usize, t: Term) -> usize
 {
     let n = t.factor_count as usize;
     let mut next = at;
-    let mut i: usize = 0;
-    while i < n {
+    for i in 0..n {
         let k = t.factors[i];
         next = print_factor(names, out, next, k);
-        i += 1;
     }
     next
 }
@@ -55,12 +53,10 @@ fn print_terms(names: &[u8], out: &mut [u8], at: usize, f: Form) -> usize
 {
     let n = f.count;
     let mut next = at;
-    let mut i: usize = 1;
-    while i < n {
+    for i in 1..n {
         let t = f.terms[i];
         let from = print_sign(out, next, t.coef);
         next = print_term(names, out, from, t);
-        i += 1;
     }
     next
 }

@@ -9,6 +9,9 @@ use Rattle.specification.specs.Commands.{refusal_text, answer_text, reduce_lines
 use Rattle.telling.specs.Told.{Told}
 use Rattle.theory.specs.Text.LineColumns.{reduce-within, told-within}
 use Rattle.lines.specs.Places.{place_of}
+use Rattle.std.specs.Prelude.{Ok, Err}
+use Rattle.refusal.specs.Numbers.{number_of}
+use Rattle.lines.specs.declared.places.UnreadLine.{UnreadLine}
 use Rattle.declarations.specs.Names.{HeaderRead}
 use Rattle.declarations.specs.declared.Header.{Header}
 use Rattle.reduce_word.specs.declared.Lines.{Lines}
@@ -23,36 +26,34 @@ answer_refused : (s : List ℕ) (n k c : ℕ) (t out : List ℕ) (r : ℕ) → r
 unfolding answer_text
 answer_refused s n k c t out r e h = subst (λ (x : Lined (List ℕ)). Told out r (answer_text x)) (sym e) h
 
-module _ (s : List ℕ) (h : Header) (names table : List ℕ) (r : HeaderRead s h names table) where
-  -- the names are refused
-  module _ (n : h.refusal ≡ 0 → ⊥) where
-    pub header-answer : (out : List ℕ) (end : ℕ) → Told out end (refusal_text h.refusal h.place.number h.column (line_of (place_of s h.place)))
-        → Told out end (answer_text (reduce_input s))
-    unfolding reduce_input
-    header-answer out end t =
-        answer_refused s h.refusal h.place.number h.column (line_of (place_of s h.place)) out end
-        (ap (λ (x : Lined (L.Named × L.Place)). x >>> reduced s) (r.refuses n)) t
+-- the names are refused
+pub header-answer : (s : List ℕ) (e : UnreadLine) (names table : List ℕ) → HeaderRead s (Err e) names table → (n : ℕ) → n ≡ number_of e.why → (out : List ℕ) (end : ℕ)
+    → Told out end (refusal_text n e.place.number e.column (line_of (place_of s e.place))) → Told out end (answer_text (reduce_input s))
+unfolding reduce_input
+header-answer s e names table r n q out end t =
+    answer_refused s n e.place.number e.column (line_of (place_of s e.place)) out end
+    (ap (λ (x : Lined (L.Named × L.Place)). x >>> reduced s) r.is ∙ ap (λ (m : ℕ). refused_in m e.place.number e.column (line_of (place_of s e.place))) (sym q)) t
 
-  -- the names are good
-  module _ (e : h.refusal ≡ 0) where
-    lines_are : reduce_input s ≡ reduce_lines (length s) (take h.count names) (take h.count table) (place_of s h.place) []
-    unfolding reduce_input
-    lines_are = ap (λ (x : Lined (L.Named × L.Place)). x >>> reduced s) (r.gives e)
+-- the names are good
+module _ (s : List ℕ) (h : Header) (names table : List ℕ) (r : HeaderRead s (Ok h) names table) where
+  lines_are : reduce_input s ≡ reduce_lines (length s) (take h.count names) (take h.count table) (place_of s h.place) []
+  unfolding reduce_input
+  lines_are = ap (λ (x : Lined (L.Named × L.Place)). x >>> reduced s) r.is
 
-    module _ (l : Lines) (out : List ℕ)
-        (t : LinesTold s (reduce_lines (length s) (take h.count names) (take h.count table) (place_of s h.place) []) l out) where
-      -- a line is refused
-      module _ (m : l.refusal ≡ 0 → ⊥) where
-        pub line-column : l.column ≤ length (line_of (place_of s l.place))
-        line-column =
-            told-within (reduce_input s) l.refusal l.place.number l.column (line_of (place_of s l.place)) (reduce-within s) (lines_are ∙ t.refuses m)
+  module _ (l : Lines) (out : List ℕ)
+      (t : LinesTold s (reduce_lines (length s) (take h.count names) (take h.count table) (place_of s h.place) []) l out) where
+    -- a line is refused
+    module _ (m : l.refusal ≡ 0 → ⊥) where
+      pub line-column : l.column ≤ length (line_of (place_of s l.place))
+      line-column =
+          told-within (reduce_input s) l.refusal l.place.number l.column (line_of (place_of s l.place)) (reduce-within s) (lines_are ∙ t.refuses m)
 
-        pub line-answer : (out' : List ℕ) (end : ℕ) → Told out' end (refusal_text l.refusal l.place.number l.column (line_of (place_of s l.place)))
-            → Told out' end (answer_text (reduce_input s))
-        line-answer out' end w =
-            answer_refused s l.refusal l.place.number l.column (line_of (place_of s l.place)) out' end (lines_are ∙ t.refuses m) w
+      pub line-answer : (out' : List ℕ) (end : ℕ) → Told out' end (refusal_text l.refusal l.place.number l.column (line_of (place_of s l.place)))
+          → Told out' end (answer_text (reduce_input s))
+      line-answer out' end w =
+          answer_refused s l.refusal l.place.number l.column (line_of (place_of s l.place)) out' end (lines_are ∙ t.refuses m) w
 
-      -- all are told
-      pub forms-answer : l.refusal ≡ 0 → Told out l.end (answer_text (reduce_input s))
-      unfolding answer_text
-      forms-answer z = subst (λ (x : Lined (List ℕ)). Told out l.end (answer_text x)) (sym (lines_are ∙ t.gives z)) (t.told z)
+    -- all are told
+    pub forms-answer : l.refusal ≡ 0 → Told out l.end (answer_text (reduce_input s))
+    unfolding answer_text
+    forms-answer z = subst (λ (x : Lined (List ℕ)). Told out l.end (answer_text x)) (sym (lines_are ∙ t.gives z)) (t.told z)

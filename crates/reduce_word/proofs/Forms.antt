@@ -48,8 +48,9 @@ pub record LinesFrom (s : List ℕ) (x : Lined (List ℕ)) (names table out : Li
   pub inside : Inside s q
 
 -- at first
-pub lines-begin : (s names table out : List ℕ) (p : Place) → Inside s p → LinesFrom s (reduce_lines (length s) names table (place_of s p) []) names table out (length s) p 0
-lines-begin s names table out p i = record { text = []; same = refl; told = told-nothing out; inside = i }
+pub lines-begin : (s names table out : List ℕ) (p : Place) (left : ℕ) → Inside s p → left ≡ length s
+    → LinesFrom s (reduce_lines (length s) names table (place_of s p) []) names table out left p 0
+lines-begin s names table out p left i e = record { text = []; same = ap (λ (k : ℕ). reduce_lines k names table (place_of s p) []) (sym e); told = told-nothing out; inside = i }
 
 nothing_left_lem : (left : ℕ) (names table : List ℕ) (n : ℕ) (r before : List ℕ) → r ≡ [] → reduce_lines left names table (n, r) before ≡ lined before
 unfolding reduce_lines at_end
@@ -105,14 +106,17 @@ module _ (s : List ℕ) (x : Lined (List ℕ)) (names table out : List ℕ) (lef
     }
 
     -- its form is told
-    pub lines_more : (out' : List ℕ) (end' : ℕ) (p : Place) → r.refusal ≡ 0 → Tells out out' end end' (print_form names (form_of r.form).terms ++ 10 ∷ [])
-        → Reached s (to_line (next_line (place_of s q))) p → LinesFrom s x names table out' (left - 1) p end'
+    pub lines_more : (out' : List ℕ) (end' : ℕ) (p : Place) (less : ℕ) → left ≡ suc less → r.refusal ≡ 0 → Tells out out' end end' (print_form names (form_of r.form).terms ++ 10 ∷ [])
+        → Reached s (to_line (next_line (place_of s q))) p → LinesFrom s x names table out' less p end'
     unfolding text_form_of in_line
-    lines_more out' end' p e t reached = record {
+    lines_more out' end' p less m e t reached = record {
       text = h.text ++ (print_form names (form_of r.form).terms ++ 10 ∷ []);
       same = turn
           ∙ ap (λ (b : Bool). in_line (place_of s q) (when b then placed (form_of r.form) else refused_at r.refusal r.column) >>> after) (eq-eqb r.refusal 0 e)
-          ∙ (λ i. reduce_lines (left - 1) names table (sym reached.is i) (append_assoc h.text (print_form names (form_of r.form).terms) (10 ∷ []) i));
+          ∙ (λ i. reduce_lines (lower m i) names table (sym reached.is i) (append_assoc h.text (print_form names (form_of r.form).terms) (10 ∷ []) i));
       told = t.is h.text h.told;
       inside = reached.inside;
     }
+      where
+        lower : left ≡ suc less → left - 1 ≡ less
+        lower m = omega arith

@@ -47,14 +47,13 @@ fn reduce_lines(names: &[u8], table: &[u8], s: &[u8], p: Place, out: &mut [u8]) 
     let n = s.len();
     let mut q = p;
     let mut end: usize = 0;
-    let mut left = n;
-    while left > 0 {
+    for _ in 0..n {
         if q.at >= n {
             return Lines {
                 refusal: 0,
                 column: 0,
                 place: q,
-                end: end,
+                end,
             };
         }
         let r = form_at(names, table, s, q);
@@ -69,13 +68,12 @@ fn reduce_lines(names: &[u8], table: &[u8], s: &[u8], p: Place, out: &mut [u8]) 
         let f = r.form;
         end = tell_form(names, out, end, f);
         q = line_behind(s, q);
-        left -= 1;
     }
     Lines {
         refusal: 0,
         column: 0,
         place: q,
-        end: end,
+        end,
     }
 }
 
@@ -85,11 +83,11 @@ pub fn reduce_text(s: &[u8], out: &mut [u8]) -> usize
 {
     let mut names = [0u8; 24];
     let mut table = [0u8; 24];
-    let h = read_header(s, &mut names, &mut table);
+    let h = match read_header(s, &mut names, &mut table) {
+        Ok(h) => h,
+        Err(e) => return tell_line(s, e.why.number(), e.place, e.column, out),
+    };
     let p = h.place;
-    if h.refusal != 0 {
-        return tell_line(s, h.refusal, p, h.column, out);
-    }
     let n = h.count;
     let r = reduce_lines(&names[..n], &table[..n], s, p, out);
     if r.refusal != 0 {

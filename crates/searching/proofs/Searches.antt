@@ -12,6 +12,7 @@ use lib.IntN.{ℤ, pos, neg_ℤ, ◌*ℤ◌}
 use lib.ListN.{length, length-map, get_or, take, drop, length-take}
 use lib.Seq.{get_or-drop}
 use lib.Pow.{pow_mono}
+use Rattle.std.specs.Prelude.{Option, Some, None}
 use Rattle.specification.specs.Results.{given}
 use Rattle.specification.specs.Terms.{term_in_shape}
 use Rattle.specification.specs.Terms as S
@@ -36,7 +37,7 @@ use Rattle.rules.specs.declared.steps.Step.{Step}
 use Rattle.rules.specs.Steps.{step_of}
 use Rattle.rules.proofs.Taking.{few-letters}
 use Rattle.candidates.specs.declared.trying.Next.{Next}
-use Rattle.candidates.specs.Trying.{Hopeless, OnlyStep, Settled, mask_of, rule_of, pick_of, NextPlace}
+use Rattle.candidates.specs.Trying.{Hopeless, OnlyStep, Settled, mask_of, rule_of, pick_of, found_step, place_behind, NextPlace}
 use Rattle.marking.specs.Marks.{Covering}
 use Rattle.searching.specs.Searching.{Shorter}
 
@@ -56,31 +57,39 @@ NothingAt table f i p = Nothing table f i (mask_of p) (rule_of p) (pick_of p)
 unfoldable pub RowPassed : (table : List ℕ) (f : S.Form) (first at : ℕ) → Type 0
 RowPassed table f first at = (x : ℕ) → first * 40960 ≤ x → x < at → NothingAt table f (x / 40960) (x % 40960)
 
--- a step that does not shorten
-unfoldable pub Useless : (table : List ℕ) (f : S.Form) (found : Bool) (s : Step) → Type 0
-Useless table f found s = found ≡ true → (reached : S.Form) → step_at table f (step_of s) ≡ given reached → length f.terms ≤ length reached.terms
+-- a step that does not shorten, where one is found
+unfoldable pub Useless : (table : List ℕ) (f : S.Form) (found : Option Step) → Type 0
+Useless table f None = Unit {0}
+Useless table f (Some s) = (reached : S.Form) → step_at table f (step_of s) ≡ given reached → length f.terms ≤ length reached.terms
 
 pub row-none : (table : List ℕ) (f : S.Form) (first : ℕ) → RowPassed table f first (first * 40960)
 unfolding RowPassed
 row-none table f first x a h = absurd (N.lt_irrefl x (omega arith))
 
 -- up to the next
-pub row_more : (marks table : List ℕ) (f : S.Form) (first at i : ℕ) (r : Next) → FormInShape f → Covering marks f.terms → at / 40960 ≡ i
+pub row_more : (marks table : List ℕ) (f : S.Form) (first at i : ℕ) (r : Option Next) → FormInShape f → Covering marks f.terms → at / 40960 ≡ i
     → RowPassed table f first at
-    → NextPlace marks f.kind (term_at f.terms i) (at % 40960) r → Useless table f r.found r.step
-    → RowPassed table f first (i * 40960 + r.next)
+    → NextPlace marks f.kind (term_at f.terms i) (at % 40960) r → Useless table f (found_step r)
+    → RowPassed table f first (i * 40960 + place_behind 40960 r)
 unfolding RowPassed NothingAt Settled Hopeless OnlyStep Useless
 row_more marks table f first at i r shape cover e w n u x b h = go (ltb x at) refl
   where
+    here : (k m j : ℕ) (found : Option Step) → Settled marks f.kind (term_at f.terms i) k m j found → Useless table f found → Nothing table f i k m j
+    here k m j None hope u = λ c g inside hk hj known can ex s. hope hk hj table f c g shape cover refl known can ex s
+    here k m j (Some v) settled u = λ c g inside hk hj known can ex s. ⊎_elim (λ hope. hope hk hj table f c g shape cover refl known can ex s)
+        (λ only. u g (ap (step_at table f) (sym (only c can ex)) ∙ s)) settled
+
     go : (b : Bool) → ltb x at ≡ b → NothingAt table f (x / 40960) (x % 40960)
     go true q = w x b (ltb-true x at q)
     go false q =
         let same : x / 40960 ≡ i = omega (arith, ltb-false x at q, n.inside) in
         let from : at % 40960 ≤ x % 40960 = omega (arith, ltb-false x at q, n.inside) in
-        let before : x % 40960 < r.next = omega (arith, ltb-false x at q, n.inside) in
-        subst (λ (k : ℕ). NothingAt table f k (x % 40960)) (sym same)
-        (λ c g inside hk hj known can ex s. ⊎_elim (λ hope. hope hk hj table f c g shape cover refl known can ex s)
-        (λ v. u v.0 g (ap (step_at table f) (sym (v.1 c can ex)) ∙ s)) (n.all (x % 40960) from before))
+        let before : x % 40960 < place_behind 40960 r = omega (arith, ltb-false x at q, n.inside) in
+        subst (λ (k : ℕ). NothingAt table f k (x % 40960)) (sym same) (here _ _ _ (found_step r) (n.all (x % 40960) from before) u)
+
+-- past all places of a term
+pub row_past : (table : List ℕ) (f : S.Form) (first i : ℕ) → RowPassed table f first (i * 40960 + 40960) → RowPassed table f first ((i + 1) * 40960)
+row_past table f first i w = subst (RowPassed table f first) (omega arith) w
 
 -- the whole row
 pub row_all : (table : List ℕ) (f : S.Form) (at : ℕ) → ((i : ℕ) → i < length f.terms → length (term_at f.terms i).factors ≤ 7)
@@ -156,20 +165,20 @@ module _ (kind n : ℕ) (rows : List (List ℕ)) (coefs : List ℤ) (v : FormRun
 
 module _ (table : List ℕ) (f : S.Form) (s : Step) (r : Worked) (rows : List (List ℕ)) (coefs : List ℤ)
     (w : RowsGive (step_at table f (step_of s)) r rows coefs) where
-  pub refused_useless : (b : Bool) → (r.refusal ≡ 0 → ⊥) → Useless table f b s
+  pub refused_useless : (r.refusal ≡ 0 → ⊥) → Useless table f (Some s)
   unfolding Useless
-  refused_useless b h e g q = absurd (refused≢given (sym (w.refuses h) ∙ q))
+  refused_useless h g q = absurd (refused≢given (sym (w.refuses h) ∙ q))
 
   module _ (h : r.refusal ≡ 0) where
-    pub long_useless : (b : Bool) → length f.terms ≤ r.count → Useless table f b s
+    pub long_useless : length f.terms ≤ r.count → Useless table f (Some s)
     unfolding Useless
-    long_useless b k e g q =
+    long_useless k g q =
         let same : form_by r.kind r.count rows coefs ≡ g = given_same (sym (w.gives h) ∙ q) in
         let v = (w.form h).run in
         subst (λ (g : S.Form). length f.terms ≤ length g.terms) same (omega (arith, run_length rows coefs r.count v.room v.beside))
 
     pub shorter : r.kind ≡ f.kind → r.count < length f.terms → Counted s.m → (i : ℕ) → i ≤ r.count
-        → Shorter table f (record { found = true; behind = i; count = r.count; step = s }) rows coefs
+        → Shorter table f (record { behind = i; count = r.count; step = s }) rows coefs
     unfolding step_of
     shorter e k c i few =
         let reached : step_at table f (step_of s) ≡ given (form_by f.kind r.count rows coefs) = w.gives h
@@ -182,8 +191,3 @@ module _ (table : List ℕ) (f : S.Form) (s : Step) (r : Worked) (rows : List (L
           step = record { rule = a.shape.rule; m = record { counted = c; in_shape = a.shape.m } };
           behind = omega (arith, few, (w.form h).few);
         }
-
--- no step found
-pub not_found : (table : List ℕ) (f : S.Form) (s : Step) (b : Bool) → b ≡ false → Useless table f b s
-unfolding Useless
-not_found table f s b e q = absurd (subst T (sym q ∙ e) tt)

@@ -1,5 +1,5 @@
 -- The search for a step to fewer terms. Assumes nothing.
-use Rattle.std.specs.Prelude.{Bool, true, false, ◌≡◌, List, ℕ, ◌≤◌, ◌<◌, ℤ, length}
+use Rattle.std.specs.Prelude.{Option, Some, None, ◌≡◌, List, ℕ, ◌≤◌, ◌<◌, ℤ, length}
 use Rattle.specification.specs.Results.{given}
 use Rattle.specification.specs.Terms.{Form}
 use Rattle.specification.specs.Rules.{step_at}
@@ -18,6 +18,6 @@ pub record Shorter (table : List ℕ) (f : Form) (r : Found) (rows : List (List 
   pub behind : r.behind ≤ 48
 
 -- such a step, or, where no term was left out and the letters are in the table, there is none
-unfoldable pub SearchedBy : (found : Bool) (first : ℕ) (table : List ℕ) (f : Form) (r : Found) (rows : List (List ℕ)) (coefs : List ℤ) → Type 0
-SearchedBy true first table f r rows coefs = Shorter table f r rows coefs
-SearchedBy false first table f r rows coefs = first ≡ 0 → AllKnown table f.terms → NoCandidate table f
+unfoldable pub SearchedBy : (first : ℕ) (table : List ℕ) (f : Form) (r : Option Found) (rows : List (List ℕ)) (coefs : List ℤ) → Type 0
+SearchedBy first table f (Some r) rows coefs = Shorter table f r rows coefs
+SearchedBy first table f None rows coefs = first ≡ 0 → AllKnown table f.terms → NoCandidate table f

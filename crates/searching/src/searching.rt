@@ -9,15 +9,13 @@ ghost use Rattle.searching.specs.Searching.{SearchedBy};
 
 use candidates::trying::next_candidate;
 use gathering::bringing::find_place;
-use logs::steps::no_step;
 use rows::{Worked, copy, term_of};
 use rules::admissible::step_at;
 use rules::steps::Step;
 
-// A step to fewer terms, if there is one, how many it reaches, and the place among those behind the term that was taken away.
+// A step to fewer terms, how many it reaches, and the place among those behind the term that was taken away.
 #[derive(Clone, Copy)]
 pub struct Found {
-    pub found: bool,
     pub behind: usize,
     pub count: usize,
     pub step: Step,
@@ -42,7 +40,7 @@ fn try_step(
     step_at(table, kind, n, to, tos, s)
 }
 
-// A step to fewer terms from the form of a kind in n rows, by the terms from one on; what it reaches is in the other rows. The places of all terms stand in one row, 40960 for each.
+// A step to fewer terms from the form of a kind in n rows, if there is one, by the terms from one on; what it reaches is in the other rows. The places of all terms stand in one row, 40960 for each.
 pub fn search(
     table: &[u8],
     marks: &[u8; 512],
@@ -53,40 +51,35 @@ pub fn search(
     first: usize,
     to: &mut [[u32; 8]],
     tos: &mut [i64],
-) -> Found
+) -> Option<Found>
     requires { FormRun kind n rows.now coefs.now × (first ≤ 48) × (length marks.now ≡ 512) × Covering marks.now (run_of n rows.now coefs.now) × (55 ≤ length to.old) × (55 ≤ length tos.old) }
-    ensures { SearchedBy result.found first table.now (form_by kind n rows.now coefs.now) result to.new tos.new }
+    ensures { SearchedBy first table.now (form_by kind n rows.now coefs.now) result to.new tos.new }
 {
     let end = n * 40960;
     let mut at = first * 40960;
+    // A `while`, since a turn does not go to the next place but to the one behind the candidate tried.
     while at < end {
         let i = at / 40960;
         let row = rows[i];
         let t = term_of(row, coefs[i]);
-        let c = next_candidate(marks, kind, t, at % 40960);
-        at = i * 40960 + c.next;
-        if c.found {
-            let s = c.step;
-            let w = try_step(table, kind, n, rows, coefs, s, to, tos);
-            let count = w.count;
-            if w.refusal == 0 {
-                if count < n {
-                    let p = find_place(to, count, &row);
-                    return Found {
-                        found: true,
-                        behind: p.at,
-                        count: count,
-                        step: s,
-                    };
-                }
+        let Some(next) = next_candidate(marks, kind, t, at % 40960) else {
+            at = (i + 1) * 40960;
+            continue;
+        };
+        at = i * 40960 + next.next;
+        let s = next.step;
+        let w = try_step(table, kind, n, rows, coefs, s, to, tos);
+        let count = w.count;
+        if w.refusal == 0 {
+            if count < n {
+                let p = find_place(to, count, &row);
+                return Some(Found {
+                    behind: p.at,
+                    count,
+                    step: s,
+                });
             }
         }
     }
-    let s = no_step();
-    Found {
-        found: false,
-        behind: 0,
-        count: 0,
-        step: s,
-    }
+    None
 }

@@ -33,9 +33,10 @@ use Rattle.shortening.proofs.Shortens.{steps-derive, steps-shorten}
 use Rattle.symbols.specs.Printable.{Printable}
 use Rattle.symbols.specs.Text.{print_line}
 use Rattle.printing.proofs.Named.{printable}
-use Rattle.printer_call.specs.declared.Printing.{Printing}
-use Rattle.printer_call.specs.declared.Printing.TheVariants.{Printed}
-use Rattle.printer_call.specs.Answers.{printing_of}
+use Rattle.std.specs.Prelude.{Ok}
+use Rattle.std.specs.Prelude as Std
+use Rattle.refusal.specs.declared.Refusal.{Refusal}
+use Rattle.printer_call.specs.Answers.{length_of}
 use Rattle.printer_call.specs.Lines.{table_reduced}
 use Rattle.printer_call.proofs.Answers.{bad-table, bad-expression, form-reduced, none_tested, cut_tested, parts_tested}
 use Rattle.log_lines.specs.Printed.{StepsPrintable}
@@ -148,10 +149,10 @@ inside-by (refused n) table before after m w = written_inside _ before after m w
 inside-by (given f) table before after m w = written_inside _ before after m w.text.ends w.text.bytes
 
 -- it lies inside the bytes lent
-pub printed-inside : (s before after : List ℕ) (r : Printing) (m : ℕ) → LinesPrinted s before (printing_of r) after → r ≡ Printed m → m ≤ length after
-unfolding LinesPrinted printing_of
-printed-inside s before after r m w h = go (leb lines_bytes (length before)) (subst (λ (a : Printing). LinesPrintedBy (leb lines_bytes (length before)) s before
-    (printing_of a) after) h w)
+pub printed-inside : (s before after : List ℕ) (r : Std.Result ℕ Refusal) (m : ℕ) → LinesPrinted s before (length_of r) after → r ≡ Ok m → m ≤ length after
+unfolding LinesPrinted
+printed-inside s before after r m w h = go (leb lines_bytes (length before)) (subst (λ (a : Std.Result ℕ Refusal). LinesPrintedBy (leb lines_bytes (length before)) s before
+    (length_of a) after) h w)
   where
     go : (b : Bool) → LinesPrintedBy b s before (given m) after → m ≤ length after
     go true w = unfold LinesPrintedBy in inside-by (print_tested s) (input_table s) before after m w

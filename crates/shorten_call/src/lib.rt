@@ -4,13 +4,13 @@
 ghost use Rattle.std.specs.Prelude.{◌≤◌, length};
 ghost use Rattle.printer_call.specs.Lines.{table_reduced};
 ghost use Rattle.specification.specs.Printing.{input_table, print_tested, lines_bytes, PrintedBy, LinesPrinted};
-ghost use Rattle.printer_call.specs.Answers.{printing_of};
+ghost use Rattle.printer_call.specs.Answers.{length_of};
 
 use letters::check_table;
 use log_lines::lines::print_log;
-use printer_call::Printing;
 use printing::{ALPHABET, print_refusal};
 use reduction::form_of;
+use refusal::Refusal;
 use shortening::rounds::derive;
 
 // Bytes that the text of any shortening fits into.
@@ -53,12 +53,12 @@ fn print_input(s: &[u8], out: &mut [u8]) -> usize
     print_shortened(&s[1..k], &s[k..n], out)
 }
 
-// The lines of all that stands in the input. Memory that is too short for them is refused with 2, and nothing is written.
-pub fn print_shortening(s: &[u8], out: &mut [u8]) -> Printing
-    ensures { LinesPrinted s.now out.old (printing_of result) out.new }
+// The lines of all that stands in the input. Memory that is too short for them is refused, and nothing is written.
+pub fn print_shortening(s: &[u8], out: &mut [u8]) -> Result<usize, Refusal>
+    ensures { LinesPrinted s.now out.old (length_of result) out.new }
 {
     if out.len() < LINES_BYTES {
-        return Printing::Refused(2);
+        return Err(Refusal::NoRoom);
     }
-    Printing::Printed(print_input(s, out))
+    Ok(print_input(s, out))
 }

@@ -4,13 +4,12 @@
 ghost use Rattle.std.specs.Prelude.{◌+◌, ◌<◌, length};
 
 use case_lines::two_bytes_at;
-use printer_call::Printing;
 use shorten_call::{LINES_BYTES, print_shortening};
 
 // The lines of a case.
 fn print_case(s: &[u8]) {
     let mut out = [0u8; LINES_BYTES];
-    let Printing::Printed(m) = print_shortening(s, &mut out) else {
+    let Ok(m) = print_shortening(s, &mut out) else {
         return;
     };
     io::write_all(1, &out[..m]);

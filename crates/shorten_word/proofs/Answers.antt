@@ -20,6 +20,9 @@ use Rattle.log_lines.proofs.Named.{steps-printable}
 use Rattle.lines.specs.declared.places.Place.{Place}
 use Rattle.lines.specs.Places.{place_of, Reached}
 use Rattle.declarations.specs.declared.Header.{Header}
+use Rattle.lines.specs.declared.places.UnreadLine.{UnreadLine}
+use Rattle.refusal.specs.Numbers.{number_of}
+use Rattle.std.specs.Prelude.{Ok, Err}
 use Rattle.declarations.specs.Names.{HeaderRead}
 use Rattle.formula_call.specs.declared.TextForm.{TextForm}
 use Rattle.formula_call.specs.Texts.{TextGives}
@@ -32,18 +35,18 @@ use Rattle.shortening.specs.Derived.{Derived}
 use Rattle.shortening.proofs.Shortens.{steps-derive, steps-shorten}
 use Rattle.telling.specs.Told.{Told, AnswerTold}
 
-module _ (s out : List ℕ) (end : ℕ) (h : Header) (names table : List ℕ) (r : HeaderRead s h names table) where
-  -- a text that is right, told
-  told : (text : List ℕ) → ShortenAnswer s text → Told out end text → AnswerTold (ShortenAnswer s) out end
-  told text w t = record { text = text; right = w; told = t }
+-- a text that is right, told
+told : (s out : List ℕ) (end : ℕ) (text : List ℕ) → ShortenAnswer s text → Told out end text → AnswerTold (ShortenAnswer s) out end
+told s out end text w t = record { text = text; right = w; told = t }
 
-  -- the names are refused
-  pub names-told : (h.refusal ≡ 0 → ⊥) → Told out end (refusal_text h.refusal h.place.number h.column (line_of (place_of s h.place)))
-      → AnswerTold (ShortenAnswer s) out end
-  unfolding ShortenAnswer
-  names-told n t = told _ (names_refused s h names table r text_form ShorteningTold n) t
+-- the names are refused
+pub names-told : (s : List ℕ) (e : UnreadLine) (names table : List ℕ) → HeaderRead s (Err e) names table → (n : ℕ) → n ≡ number_of e.why → (out : List ℕ) (end : ℕ)
+    → Told out end (refusal_text n e.place.number e.column (line_of (place_of s e.place))) → AnswerTold (ShortenAnswer s) out end
+unfolding ShortenAnswer
+names-told s e names table r n q out end t = told s out end _ (names_refused s e names table r text_form ShorteningTold n q) t
 
-  module _ (e : h.refusal ≡ 0) (f : TextForm) (g : TextGives (text_form (take h.count names) (take h.count table) (line_of (place_of s h.place))) f) where
+module _ (s out : List ℕ) (end : ℕ) (h : Header) (names table : List ℕ) (r : HeaderRead s (Ok h) names table) where
+  module _ (f : TextForm) (g : TextGives (text_form (take h.count names) (take h.count table) (line_of (place_of s h.place))) f) where
     -- the formula is refused
     module _ (n : f.refusal ≡ 0 → ⊥) where
       pub formula_column : f.column ≤ length (line_of (place_of s h.place))
@@ -53,18 +56,18 @@ module _ (s out : List ℕ) (end : ℕ) (h : Header) (names table : List ℕ) (r
 
       pub formula_told : Told out end (refusal_text f.refusal h.place.number f.column (line_of (place_of s h.place))) → AnswerTold (ShortenAnswer s) out end
       unfolding ShortenAnswer
-      formula_told t = told _ (line_refused s h names table r text_form ShorteningTold e f.refusal f.column (text_refused _ f g n)) t
+      formula_told t = told s out end _ (line_refused s h names table r text_form ShorteningTold f.refusal f.column (text_refused _ f g n)) t
 
     module _ (z : f.refusal ≡ 0) (q : Place) (reached : Reached s (to_line (next_line (place_of s h.place))) q) where
       -- more stands behind it
       pub more_told : q.at < length s → Told out end (refusal_text 4 q.number 0 (line_of (place_of s q))) → AnswerTold (ShortenAnswer s) out end
       unfolding ShortenAnswer
-      more_told l t = told _ (more_refused s h names table r text_form ShorteningTold e (form_of f.form) (text_given _ f g z) q reached l) t
+      more_told l t = told s out end _ (more_refused s h names table r text_form ShorteningTold (form_of f.form) (text_given _ f g z) q reached l) t
 
       -- the log
       module _ (d : Derivation) (w : Derived (take h.count table) f.form d) where
         good : GoodTable (take h.count names) (take h.count table)
-        good = header-table s h names table r e
+        good = header-table s h names table r
 
         pub log_tellable : Printable (take h.count names) f.form × StepsPrintable (take h.count names) d.steps × Printable (take h.count names) d.last
         log_tellable =
@@ -86,7 +89,7 @@ module _ (s out : List ℕ) (end : ℕ) (h : Header) (names table : List ℕ) (r
         unfolding ShortenAnswer
         log-told l places rooms t =
             let kinds = take h.count table in
-            told _ (line_given s h names table r text_form ShorteningTold e (form_of f.form) (text_given _ f g z) q reached l _
+            told s out end _ (line_given s h names table r text_form ShorteningTold (form_of f.form) (text_given _ f g z) q reached l _
             (record {
               log = log_of (form_of f.form) (steps_of d.steps) (form_of d.last);
               shortens = steps-shorten kinds good.table_good f.form (g.valid z) (text_tested_lem (take h.count names) kinds good _ f g z) d w places rooms;

@@ -17,11 +17,11 @@ pub fn shorten_text(s: &[u8], out: &mut [u8]) -> usize
 {
     let mut names = [0u8; 24];
     let mut table = [0u8; 24];
-    let h = read_header(s, &mut names, &mut table);
+    let h = match read_header(s, &mut names, &mut table) {
+        Ok(h) => h,
+        Err(e) => return tell_line(s, e.why.number(), e.place, e.column, out),
+    };
     let p = h.place;
-    if h.refusal != 0 {
-        return tell_line(s, h.refusal, p, h.column, out);
-    }
     let n = h.count;
     let r = form_at(&names[..n], &table[..n], s, p);
     if r.refusal != 0 {

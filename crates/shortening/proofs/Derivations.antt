@@ -1,6 +1,6 @@
 -- One round after the other: the steps taken lead from the first form to the current one, and each saves a term. Assumes nothing.
 use mathlib.Core.Path.{◌≡◌, refl, sym, ap, subst, ◌∙◌}
-use mathlib.Core.Bool.{Bool, true, false}
+use mathlib.Core.Bool.{true}
 use mathlib.Core.List.{List, [], ◌∷◌, ◌++◌, map}
 use Prim.Native.Nat.{ℕ, ◌+◌, ◌<◌, ◌≤◌}
 use native.Mathlib.Omega.{arith}
@@ -36,6 +36,7 @@ use Rattle.rules.specs.declared.steps.Step.{Step}
 use Rattle.rules.specs.Steps.{step_of, StepValid}
 use Rattle.marking.specs.Marks.{Covering}
 use Rattle.marks.specs.Steps.{Carried}
+use Rattle.std.specs.Prelude.{Option, Some, None, is_some}
 use Rattle.searching.specs.declared.searching.Found.{Found}
 use Rattle.shortening.specs.declared.rounds.Rounds.{Rounds}
 use Rattle.searching.specs.Searching.{Shorter, SearchedBy}
@@ -56,19 +57,24 @@ rounds_none table f g steps q e = record {
 }
 
 -- a step that was found is one, wherever the search began
-pub found_anywhere : (table : List ℕ) (g : S.Form) (first : ℕ) (r : Found) (rows : List (List ℕ)) (coefs : List ℤ) (b : Bool)
-    → SearchedBy b first table g r rows coefs → b ≡ true
-    → SearchedBy b 0 table g r rows coefs
+pub found_anywhere : (table : List ℕ) (g : S.Form) (first : ℕ) (r : Option Found) (rows : List (List ℕ)) (coefs : List ℤ)
+    → SearchedBy first table g r rows coefs → is_some r ≡ true
+    → SearchedBy 0 table g r rows coefs
 unfolding SearchedBy
-found_anywhere table g first r rows coefs true w e = w
-found_anywhere table g first r rows coefs false w e = absurd (subst T (sym e) tt)
+found_anywhere table g first (Some r) rows coefs w e = w
+found_anywhere table g first None rows coefs w e = absurd (subst T (sym e) tt)
+
+-- the search that found a step
+pub found_is : (table : List ℕ) (g : S.Form) (r : Option Found) (x : Found) (rows : List (List ℕ)) (coefs : List ℤ) → r ≡ Some x
+    → SearchedBy 0 table g r rows coefs → SearchedBy 0 table g (Some x) rows coefs
+found_is table g r x rows coefs e w = subst (λ (r : Option Found). SearchedBy 0 table g r rows coefs) e w
 
 module _ (table : List ℕ) (f : S.Form) (few : length f.terms ≤ 48) (steps : List Step) (n : ℕ) (g : S.Form) (w : Leads table f steps n g)
-    (r : Found) (to : List (List ℕ)) (tos : List ℤ) (b : Bool) (sr : SearchedBy b 0 table g r to tos) where
-  module _ (e : b ≡ true) where
+    (to : List (List ℕ)) (tos : List ℤ) where
+  module _ (r : Found) (sr : SearchedBy 0 table g (Some r) to tos) where
     pub shorter : Shorter table g r to tos
     unfolding SearchedBy
-    shorter = subst (λ (b : Bool). SearchedBy b 0 table g r to tos) e sr
+    shorter = sr
 
     pub round_room : n < 48
     round_room = omega (arith, w.saves, shorter.fewer, few)
@@ -113,9 +119,9 @@ module _ (table : List ℕ) (f : S.Form) (few : length f.terms ≤ 48) (steps : 
         }
 
   -- none was found
-  pub rounds_end : b ≡ false → AllKnown table g.terms → NoCandidate table g
+  pub rounds_end : SearchedBy 0 table g None to tos → AllKnown table g.terms → NoCandidate table g
   unfolding SearchedBy
-  rounds_end e = subst (λ (b : Bool). SearchedBy b 0 table g r to tos) e sr refl
+  rounds_end sr = sr refl
 
 -- ════ by value
 

@@ -44,29 +44,21 @@ fn take_rounds(
     let mut n: usize = 0;
     let mut count = held;
     let mut marks = mark_rows(rows, coefs, count);
-    let mut r = search(table, &marks, kind, count, rows, coefs, 0, to, tos);
-    while r.found {
-        let s = r.step;
-        let at = r.behind;
-        steps[n] = s;
+    let mut found = search(table, &marks, kind, count, rows, coefs, 0, to, tos);
+    while let Some(r) = found {
+        steps[n] = r.step;
         n += 1;
         count = r.count;
         copy(count, to, tos, rows, coefs);
-        mark_reached(&mut marks, s);
-        r = search(table, &marks, kind, count, rows, coefs, at, to, tos);
-        if !r.found {
+        mark_reached(&mut marks, r.step);
+        found = search(table, &marks, kind, count, rows, coefs, r.behind, to, tos);
+        if found.is_none() {
             marks = mark_rows(rows, coefs, count);
-            r = search(table, &marks, kind, count, rows, coefs, 0, to, tos);
+            found = search(table, &marks, kind, count, rows, coefs, 0, to, tos);
         }
     }
-    let all = Steps {
-        count: n,
-        steps: steps,
-    };
-    Rounds {
-        count: count,
-        steps: all,
-    }
+    let all = Steps { count: n, steps };
+    Rounds { count, steps: all }
 }
 
 // Steps from a form to one that no step shortens.
@@ -86,8 +78,5 @@ pub fn derive(table: &[u8], f: Form) -> Derivation
     );
     let steps = r.steps;
     let last = form_of(kind, &rows, &coefs, r.count);
-    Derivation {
-        steps: steps,
-        last: last,
-    }
+    Derivation { steps, last }
 }

@@ -32,7 +32,7 @@ fn no_sides(n: u8, column: usize) -> Sides
     let f = o.form;
     Sides {
         refusal: n,
-        column: column,
+        column,
         first: f,
         second: f,
     }

@@ -9,6 +9,8 @@ use borrow.Author.Tests.{lt-ltb, le-ltb}
 use lib.IntN.{ℤ, pos, negsuc, nat_abs}
 use lib.ListN.{length, get_or, take, set, length-append, length-set}
 use lib.Seq.{take-suc-set, take-suc, take-length}
+use Rattle.std.proofs.lemmas.Slice.{take-put_mid}
+use borrow.Rule.Slice.PartMut.{put_mid, mid_of, same_len_mid}
 use Rattle.specification.specs.Printing.{digits}
 use Rattle.specification.specs.Commands.{numeral, signed_numeral, blanks}
 use Rattle.integers.specs.Arithmetic.{is_negative}
@@ -61,65 +63,21 @@ module _ (l : List ℕ) (at : ℕ) (word : List ℕ) where
     };
   }
 
-  -- so many bytes of the piece are copied
-  pub record Copied (m : List ℕ) (i : ℕ) : Type 0 where
-    pub same : length m ≡ length l
-    pub few : i ≤ length word
-    pub copied : take (at + i) m ≡ take at l ++ take i word
-
-  -- none
-  pub copied_none : Copied l 0
-  copied_none = record { same = refl; few = omega arith; copied = rw (add_none at) (sym (append-nil (take at l))) }
-    where
-      add_none : (n : ℕ) → n + 0 ≡ n
-      add_none n = omega arith
-
-  -- one more
-  pub copied_more : (m : List ℕ) (i : ℕ) → at + length word ≤ length l → i < length word → Copied m i → Copied (set m (at + i) (get_or word i 0)) (i + 1)
-  copied_more m i room h c = record {
-    same = length-set m (at + i) (get_or word i 0) ∙ c.same;
-    few = omega arith;
-    copied =
-        ap (λ (k : ℕ). take k (set m (at + i) (get_or word i 0))) (more at i)
-        ∙ take-suc-set m (at + i) (get_or word i 0) (omega (arith, c.same))
-        ∙ ap (λ (r : List ℕ). r ++ get_or word i 0 ∷ []) c.copied
-        ∙ append_assoc (take at l) (take i word) (get_or word i 0 ∷ [])
-        ∙ ap (λ (r : List ℕ). take at l ++ r) (sym (take-suc word i 0 h))
-        ∙ ap (λ (k : ℕ). take at l ++ take k word) (sym (add-one i));
-  }
-    where
-      more : (a i : ℕ) → a + (i + 1) ≡ suc (a + i)
-      more a i = omega arith
-
-  -- all
-  pub put_all : (m : List ℕ) (i : ℕ) → at + length word ≤ length l → length word ≤ i → Copied m i → Tells l m at (at + length word) word
-  put_all m i room h c =
-      let e : i ≡ length word = omega (arith, c.few) in
+  -- the piece is copied
+  pub put_all : at ≤ length l → length word ≤ length l - at → (k : ℕ) (m : List ℕ) → m ≡ word → length m ≡ length (mid_of at k l) → Tells l (put_mid at k l m) at (at + length word) word
+  put_all h room k m e f =
+      let same : length (put_mid at k l m) ≡ length l = same_len_mid at k l m f in
       record {
         is = λ text t. record {
-          ends = λ q. omega (arith, t.ends (omega arith), length-append text word);
+          ends = λ q. omega (arith, t.ends h, length-append text word);
           stands = λ q.
-              ap (λ (k : ℕ). take (at + k) m) (sym e)
-              ∙ c.copied
-              ∙ (λ j. t.stands (omega arith) j ++ (ap (λ (k : ℕ). take k word) e ∙ take-length word) j);
-          short = λ q. absurd (omega (arith, c.same));
+              take-put_mid at k l m (at + length word) (ap (λ (x : List ℕ). at + length x) (sym e)) h
+              ∙ (λ j. t.stands h j ++ e j);
+          short = λ q. absurd (omega (arith, same));
         };
       }
 
 -- ════ blanks
-
--- so many are left
-pub record BlanksLeft (l m : List ℕ) (at next n i : ℕ) : Type 0 where
-  pub few : i ≤ n
-  pub told : Tells l m at next (blanks (n - i))
-
--- none is told yet
-pub blanks-begin : (l : List ℕ) (at n : ℕ) → BlanksLeft l l at at n n
-unfolding blanks
-blanks-begin l at n = record { few = omega arith; told = tells_as _ (ap blanks (sym (none n))) (tells-nothing l at) }
-  where
-    none : (n : ℕ) → n - n ≡ 0
-    none n = omega arith
 
 -- a blank in front or behind is the same
 blank-behind : (n : ℕ) → blanks n ++ 32 ∷ [] ≡ blanks (suc n)
@@ -127,22 +85,14 @@ unfolding blanks
 blank-behind zero = refl
 blank-behind (suc n) = ap (λ (l : List ℕ). 32 ∷ l) (blank-behind n)
 
--- one more
-pub blanks_more : (l m k : List ℕ) (at next after n i : ℕ) → BlanksLeft l m at next n i → 0 < i → Tells m k next after (32 ∷ []) → BlanksLeft l k at after n (i - 1)
-blanks_more l m k at next after n i h p t = record {
-  few = omega (arith, h.few);
-  told = tells_as _ (blank-behind (n - i) ∙ ap blanks (more n i h.few p)) (tells-then h.told t);
-}
-  where
-    more : (n i : ℕ) → i ≤ n → 0 < i → suc (n - i) ≡ n - (i - 1)
-    more n i h p = omega arith
+-- none is told yet
+pub blanks-begin : (l : List ℕ) (at : ℕ) → Tells l l at at (blanks 0)
+unfolding blanks
+blanks-begin l at = tells-nothing l at
 
--- all
-pub blanks_end : (l m : List ℕ) (at next n i : ℕ) → BlanksLeft l m at next n i → i ≤ 0 → Tells l m at next (blanks n)
-blanks_end l m at next n i h p = tells_as _ (ap blanks (all n i p)) h.told
-  where
-    all : (n i : ℕ) → i ≤ 0 → n - i ≡ n
-    all n i p = omega arith
+-- one more
+pub blanks_more : {l m k : List ℕ} {at next after : ℕ} (n : ℕ) → Tells l m at next (blanks n) → Tells m k next after (32 ∷ []) → Tells l k at after (blanks (n + 1))
+blanks_more n h t = tells_as _ (blank-behind n ∙ ap blanks (sym (add-one n))) (tells-then h t)
 
 -- ════ numbers
 

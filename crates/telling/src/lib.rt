@@ -19,11 +19,7 @@ pub fn put(out: &mut [u8], at: usize, word: &[u8]) -> usize
     if m > n - at {
         return n + 1;
     }
-    let mut i: usize = 0;
-    while i < m {
-        out[at + i] = word[i];
-        i += 1;
-    }
+    out[at..at + m].copy_from_slice(word);
     at + m
 }
 
@@ -39,10 +35,8 @@ pub fn put_blanks(out: &mut [u8], at: usize, n: usize) -> usize
     ensures { Tells out.old out.new at result (blanks n) }
 {
     let mut next = at;
-    let mut i = n;
-    while i > 0 {
+    for _ in 0..n {
         next = put_byte(out, next, b' ');
-        i -= 1;
     }
     next
 }

@@ -2,7 +2,8 @@
 use mathlib.Core.Path.{◌≡◌, refl, sym, ◌∙◌, ap}
 use mathlib.Core.Bool.{Bool, true, false, true≢false, ◌&&◌, ◌||◌}
 use mathlib.Core.List.{List, [], ◌∷◌}
-use Prim.Native.Nat.{ℕ, zero, suc, ◌+◌, ◌*◌, ◌-◌, ◌≤◌, ◌<◌}
+use mathlib.Core.Logic.{◌⊎◌, inl, inr}
+use Prim.Native.Nat.{ℕ, zero, suc, ◌+◌, ◌*◌, ◌-◌, ◌≤◌, ◌<◌, max}
 use native.Mathlib.Omega.{arith}
 use native.Mathlib.Numerals.{add-one}
 use lib.ListN.{length, get_or, drop, drop_of_length-le, get_or-eq_default}
@@ -176,6 +177,14 @@ blank_none s i h = skip_turn s i ∙ rw (other (get_or s i 0) 32 h) refl
 -- nor behind the text
 pub blanks_end : (s : List ℕ) (i : ℕ) → length s ≤ i → skip s i ≡ i
 blanks_end s i h = skip_turn s i ∙ rw (get_or-eq_default s 0 h) refl
+
+-- a text passed to its end: the position is its length, or where the passing began beyond it
+pub passed-to_end : (s : List ℕ) (at i m : ℕ) → length s ≤ i → at ≤ i → (at ≤ length s → i ≤ length s) → m ≡ max at (length s) → (m ≡ i) ⊎ ((m ≡ at) × (length s ≤ at))
+passed-to_end s at i m h k f e = go (leb at (length s)) (leb-true at (length s)) (leb-false at (length s))
+  where
+    go : (b : Bool) → (b ≡ true → at ≤ length s) → (b ≡ false → length s < at) → (m ≡ i) ⊎ ((m ≡ at) × (length s ≤ at))
+    go true t u = let l : at ≤ length s = t refl in inl (omega (arith, f l, e, h))
+    go false t u = let l : length s < at = u refl in inr (omega (arith, e), omega arith)
 
 -- ════ the number of a name
 

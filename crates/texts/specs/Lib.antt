@@ -1,2 +1,3 @@
 -- What the contracts cite.
 pub mod Numbers
+pub mod Readings

@@ -7,6 +7,15 @@ ghost use Rattle.specification.specs.Lists.{all};
 ghost use Rattle.specification.specs.Text.{is_letter, is_digit, skip, next, distinct, good_names, place_of, is_triple};
 ghost use Rattle.texts.specs.Numbers.{capped, NumberRead};
 
+use refusal::Refusal;
+
+// Why a text is not read, and the column of that.
+#[derive(Clone, Copy, Debug, PartialEq, Eq)]
+pub struct Unread {
+    pub why: Refusal,
+    pub column: usize,
+}
+
 // The byte at a position, 0 behind the text.
 pub fn byte_at(s: &[u8], at: usize) -> u8
     ensures { result ≡ get_or s.now at 0 }
@@ -47,14 +56,12 @@ pub fn is_digit(b: u8) -> bool
 pub fn past_blanks(s: &[u8], at: usize) -> usize
     ensures { result ≡ skip s.now at }
 {
-    let mut i = at;
-    while i < s.len() {
+    for i in at..s.len() {
         if s[i] != 32 {
             return i;
         }
-        i += 1;
     }
-    i
+    at.max(s.len())
 }
 
 // The position behind a token of one byte.
@@ -69,26 +76,22 @@ pub fn behind(s: &[u8], at: usize) -> usize
 pub fn place_of(names: &[u8], b: u8) -> usize
     ensures { result ≡ place_of names.now b }
 {
-    let mut i: usize = 0;
-    while i < names.len() {
+    for i in 0..names.len() {
         if names[i] == b {
             return i;
         }
-        i += 1;
     }
-    i
+    names.len()
 }
 
 // Whether all bytes are letters.
 fn all_letters(names: &[u8]) -> bool
     ensures { result ≡ all is_letter names.now }
 {
-    let mut i: usize = 0;
-    while i < names.len() {
-        if !is_letter(names[i]) {
+    for &b in names {
+        if !is_letter(b) {
             return false;
         }
-        i += 1;
     }
     true
 }
@@ -97,13 +100,11 @@ fn all_letters(names: &[u8]) -> bool
 fn none_twice(names: &[u8]) -> bool
     ensures { result ≡ distinct names.now }
 {
-    let mut i: usize = 0;
-    while i < names.len() {
+    for i in 0..names.len() {
         let rest = &names[i + 1..];
         if place_of(rest, names[i]) < rest.len() {
             return false;
         }
-        i += 1;
     }
     true
 }
@@ -161,14 +162,15 @@ pub fn read_digits(s: &[u8], at: usize) -> Number
     ensures { NumberRead s.now at result }
 {
     let mut n: u64 = 0;
-    let mut i = at;
-    while i < s.len() {
+    for i in at..s.len() {
         let b = s[i];
         if !is_digit(b) {
             return Number { value: n, next: i };
         }
         n = cap(n * 10 + (b - 48) as u64);
-        i += 1;
     }
-    Number { value: n, next: i }
+    Number {
+        value: n,
+        next: at.max(s.len()),
+    }
 }

@@ -57,11 +57,9 @@ pub fn tell_assignment(out: &mut [u8], at: usize, names: &[u8], table: &[u8], s:
 {
     let n = names.len();
     let mut next = at;
-    let mut i: usize = 0;
-    while i < n {
+    for i in 0..n {
         let v = vector_of(s, i as u8);
         next = tell_entry(out, next, names[i], table[i], v, n - i - 1);
-        i += 1;
     }
     next
 }

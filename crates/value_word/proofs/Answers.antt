@@ -26,29 +26,33 @@ use Rattle.lines.specs.declared.places.Place.{Place}
 use Rattle.lines.specs.Places.{place_of, Reached}
 use Rattle.lines.proofs.Ends.{inside_or}
 use Rattle.declarations.specs.declared.Header.{Header}
+use Rattle.lines.specs.declared.places.UnreadLine.{UnreadLine}
+use Rattle.refusal.specs.Numbers.{number_of}
+use Rattle.std.specs.Prelude.{Ok, Err}
 use Rattle.declarations.specs.Names.{HeaderRead}
 use Rattle.formula_call.specs.declared.TextForm.{TextForm}
 use Rattle.formula_call.specs.Texts.{TextGives}
 use Rattle.formula_call.proofs.Given.{text_refused, text_given}
-use Rattle.assignment_texts.specs.declared.Assigned.{Assigned}
+use Rattle.std.specs.Prelude as Std
+use Rattle.texts.specs.declared.Unread.{Unread}
 use Rattle.assignment_texts.specs.Assigned.{AssignedRead}
 use Rattle.assignment_texts.proofs.Good.{read_some, read_small}
 use Rattle.telling.specs.Told.{Told}
 use Rattle.value_word.specs.Behind.{assigned_in, behind_assigned, behind_formula, value_behind}
 
 -- an assignment that was read is in the text
-pub assigned-inside : (s names table so : List ℕ) (q : Place) (a : Assigned) → AssignedRead (assigned_in names table (line_of (place_of s q))) a so → a.refusal ≡ 0
+pub assigned-inside : (s names table so : List ℕ) (q : Place) (u : Unit {0}) → AssignedRead (assigned_in names table (line_of (place_of s q))) (Ok u) so
     → q.at < length s
 unfolding first_line
-assigned-inside s names table so q a h z = inside_or s q.at (λ y. read_some names table (line_of (place_of s q)) so a h z (ap first_line y))
+assigned-inside s names table so q u h = inside_or s q.at (λ y. read_some names table (line_of (place_of s q)) so u h (ap first_line y))
 
 -- its numbers are small
-pub assigned-small : (s names table so : List ℕ) (q : Place) (a : Assigned) → AssignedRead (assigned_in names table (line_of (place_of s q))) a so → a.refusal ≡ 0
+pub assigned-small : (s names table so : List ℕ) (q : Place) (u : Unit {0}) → AssignedRead (assigned_in names table (line_of (place_of s q))) (Ok u) so
     → all six_or_less so ≡ true
-assigned-small s names table so q a h z = read_small names table (line_of (place_of s q)) so a h z
+assigned-small s names table so q u h = read_small names table (line_of (place_of s q)) so u h
 
 -- the same line in other words
-pub assigned_as : (names table l m so : List ℕ) (a : Assigned) → l ≡ m → AssignedRead (assigned_in names table l) a so → AssignedRead (assigned_in names table m) a so
+pub assigned_as : (names table l m so : List ℕ) (a : Std.Result (Unit {0}) Unread) → l ≡ m → AssignedRead (assigned_in names table l) a so → AssignedRead (assigned_in names table m) a so
 assigned_as names table l m so a e h = subst (λ (k : List ℕ). AssignedRead (assigned_in names table k) a so) e h
 
 -- three numbers to a letter
@@ -68,24 +72,25 @@ lines-within names table p =
 
 -- ════ the names
 
-module _ (s : List ℕ) (h : Header) (names table : List ℕ) (r : HeaderRead s h names table) (out : List ℕ) (end : ℕ) where
-  -- what follows them
-  abbrev behind_names : L.Named × L.Place → Lined (List ℕ)
-  behind_names k = value_behind k.0.0 k.0.1 k.1
+-- what follows them
+abbrev behind_names : L.Named × L.Place → Lined (List ℕ)
+behind_names k = value_behind k.0.0 k.0.1 k.1
 
+module _ (s : List ℕ) (names table : List ℕ) where
   -- they are refused
-  pub names-told : (h.refusal ≡ 0 → ⊥) → Told out end (refusal_text h.refusal h.place.number h.column (line_of (place_of s h.place)))
-      → Told out end (answer_text (value_input s))
+  pub names-told : (e : UnreadLine) → HeaderRead s (Err e) names table → (n : ℕ) → n ≡ number_of e.why → (out : List ℕ) (end : ℕ)
+      → Told out end (refusal_text n e.place.number e.column (line_of (place_of s e.place))) → Told out end (answer_text (value_input s))
   unfolding value_input value_behind answer_text
-  names-told n t =
-      subst (λ (x : Lined (List ℕ)). Told out end (answer_text x)) (sym (ap (λ (x : Lined (L.Named × L.Place)). x >>> behind_names) (r.refuses n))) t
+  names-told e r n q out end t =
+      subst (λ (x : Lined (List ℕ)). Told out end (answer_text x))
+      (sym (ap (λ (x : Lined (L.Named × L.Place)). x >>> behind_names) r.is ∙ ap (λ (m : ℕ). refused_in m e.place.number e.column (line_of (place_of s e.place))) (sym q))) t
 
   -- the lines behind them
-  pub lines-told : h.refusal ≡ 0 → Told out end (answer_text (value_behind (take h.count names) (take h.count table) (place_of s h.place)))
-      → Told out end (answer_text (value_input s))
+  pub lines-told : (h : Header) → HeaderRead s (Ok h) names table → (out : List ℕ) (end : ℕ)
+      → Told out end (answer_text (value_behind (take h.count names) (take h.count table) (place_of s h.place))) → Told out end (answer_text (value_input s))
   unfolding value_input value_behind
-  lines-told e t =
-      subst (λ (x : Lined (List ℕ)). Told out end (answer_text x)) (sym (ap (λ (x : Lined (L.Named × L.Place)). x >>> behind_names) (r.gives e))) t
+  lines-told h r out end t =
+      subst (λ (x : Lined (List ℕ)). Told out end (answer_text x)) (sym (ap (λ (x : Lined (L.Named × L.Place)). x >>> behind_names) r.is)) t
 
 -- ════ the lines
 
@@ -109,8 +114,7 @@ module _ (s names table : List ℕ) (p : Place) where
       unfolding answer_text
       formula_told out end t = subst (λ (x : Lined (List ℕ)). Told out end (answer_text x)) (sym formula_so) t
 
-    module _ (z : f.refusal ≡ 0) (q : Place) (reached : Reached s (to_line (next_line (place_of s p))) q) (a : Assigned) (so : List ℕ)
-        (w : AssignedRead (assigned_in names table (line_of (place_of s q))) a so) where
+    module _ (z : f.refusal ≡ 0) (q : Place) (reached : Reached s (to_line (next_line (place_of s p))) q) where
       by_formula : value_behind names table (place_of s p)
           ≡ (in_line (place_of s q) (assigned_in names table (line_of (place_of s q))) >>> behind_assigned (form_of f.form) (place_of s q))
       unfolding value_behind in_line
@@ -119,27 +123,29 @@ module _ (s names table : List ℕ) (p : Place) where
           ∙ ap (λ (k : L.Place). in_line k (assigned_in names table (line_of k)) >>> behind_assigned (form_of f.form) k) (sym reached.is)
 
       -- the assignment is refused
-      module _ (n : a.refusal ≡ 0 → ⊥) where
-        assigned_so : value_behind names table (place_of s p) ≡ refused_in a.refusal q.number a.column (line_of (place_of s q))
+      module _ (u : Unread) (so : List ℕ) (w : AssignedRead (assigned_in names table (line_of (place_of s q))) (Err u) so) where
+        assigned_so : value_behind names table (place_of s p) ≡ refused_in (number_of u.why) q.number u.column (line_of (place_of s q))
         unfolding in_line
-        assigned_so = by_formula ∙ ap (λ (x : Placed (List ℕ)). in_line (place_of s q) x >>> behind_assigned (form_of f.form) (place_of s q)) (w.refuses n)
+        assigned_so = by_formula ∙ ap (λ (x : Placed (List ℕ)). in_line (place_of s q) x >>> behind_assigned (form_of f.form) (place_of s q)) w.is
 
-        pub assigned-column : a.column ≤ length (line_of (place_of s q))
-        assigned-column = within a.refusal q.number a.column (line_of (place_of s q)) assigned_so
+        pub assigned-column : u.column ≤ length (line_of (place_of s q))
+        assigned-column = within (number_of u.why) q.number u.column (line_of (place_of s q)) assigned_so
 
-        pub assigned-told : (out : List ℕ) (end : ℕ) → Told out end (refusal_text a.refusal q.number a.column (line_of (place_of s q)))
+        pub assigned-told : (n : ℕ) → n ≡ number_of u.why → (out : List ℕ) (end : ℕ) → Told out end (refusal_text n q.number u.column (line_of (place_of s q)))
             → Told out end (answer_text (value_behind names table (place_of s p)))
         unfolding answer_text
-        assigned-told out end t = subst (λ (x : Lined (List ℕ)). Told out end (answer_text x)) (sym assigned_so) t
+        assigned-told n e out end t =
+            subst (λ (x : Lined (List ℕ)). Told out end (answer_text x))
+            (sym (assigned_so ∙ ap (λ (m : ℕ). refused_in m q.number u.column (line_of (place_of s q))) (sym e))) t
 
-      module _ (y : a.refusal ≡ 0) (m : Place) (reaches : Reached s (to_line (next_line (place_of s q))) m) where
+      module _ (u : Unit {0}) (so : List ℕ) (w : AssignedRead (assigned_in names table (line_of (place_of s q))) (Ok u) so) (m : Place) (reaches : Reached s (to_line (next_line (place_of s q))) m) where
         abbrev text : List ℕ
         text = value_text f.form.kind (value (assignment so) (form_of f.form)) ++ bytes "\n"
 
         by_end : value_behind names table (place_of s p) ≡ nothing_left (place_of s m) text
         unfolding in_line form_of
         by_end =
-            by_formula ∙ ap (λ (x : Placed (List ℕ)). in_line (place_of s q) x >>> behind_assigned (form_of f.form) (place_of s q)) (w.gives y)
+            by_formula ∙ ap (λ (x : Placed (List ℕ)). in_line (place_of s q) x >>> behind_assigned (form_of f.form) (place_of s q)) w.is
             ∙ ap (λ (k : L.Place). nothing_left k text) (sym reaches.is)
 
         -- more stands behind it

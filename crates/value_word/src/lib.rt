@@ -13,17 +13,24 @@ ghost use Rattle.formula_lines.specs.Tables.{GoodTable};
 ghost use Rattle.telling.specs.Told.{Told};
 ghost use Rattle.value_word.specs.Behind.{value_behind};
 
-use assignment_texts::{Assigned, read_assigned};
+use assignment_texts::read_assigned;
 use declarations::read_header;
 use evaluation::values::form_value;
 use formula_lines::form_at;
 use lines::places::{Place, line_behind, line_end};
 use refusals::tell_line;
 use telling::put_byte;
+use texts::Unread;
 use value_telling::tell_value;
 
 // The assignment of the line at a place.
-fn assigned_at(names: &[u8], table: &[u8], s: &[u8], p: Place, numbers: &mut [u8]) -> Assigned
+fn assigned_at(
+    names: &[u8],
+    table: &[u8],
+    s: &[u8],
+    p: Place,
+    numbers: &mut [u8],
+) -> Result<(), Unread>
     requires { Named names.now table.now × Inside s.now p × (length numbers.old ≡ 3 * length table.now) }
     ensures { AssignedRead (read_assigned (length (line_of (place_of s.now p))) names.now table.now (line_of (place_of s.now p)) (skip (line_of (place_of s.now p)) 0) (none_yet table.now)) result numbers.new }
 {
@@ -49,9 +56,9 @@ fn value_behind(
         return tell_line(s, r.refusal, p, r.column, out);
     }
     let q = line_behind(s, p);
-    let a = assigned_at(names, table, s, q, numbers);
-    if a.refusal != 0 {
-        return tell_line(s, a.refusal, q, a.column, out);
+    match assigned_at(names, table, s, q, numbers) {
+        Ok(()) => {}
+        Err(e) => return tell_line(s, e.why.number(), q, e.column, out),
     }
     let end = line_behind(s, q);
     if end.at < s.len() {
@@ -71,11 +78,11 @@ pub fn value_text(s: &[u8], out: &mut [u8]) -> usize
     let mut names = [0u8; 24];
     let mut table = [0u8; 24];
     let mut numbers = [0u8; 72];
-    let h = read_header(s, &mut names, &mut table);
+    let h = match read_header(s, &mut names, &mut table) {
+        Ok(h) => h,
+        Err(e) => return tell_line(s, e.why.number(), e.place, e.column, out),
+    };
     let p = h.place;
-    if h.refusal != 0 {
-        return tell_line(s, h.refusal, p, h.column, out);
-    }
     let n = h.count;
     value_behind(&names[..n], &table[..n], s, p, &mut numbers[..3 * n], out)
 }

@@ -1,81 +1,54 @@
--- `assignment_texts::read_assigned` meets its contract. The loop's invariant: what is left to be read is the whole (`AssignedFrom`). Assumes nothing.
-use mathlib.Core.Path.{sym, ◌∙◌}
+-- `assignment_texts::read_assigned` meets its contract. Assumes nothing.
 use native.Mathlib.Omega.{arith}
-use Rattle.assignment_texts.proofs.Turns.{assigned-begins, assigned-torn, assigned_refused, assigned-ends, assigned_uncut, assigned_more}
+use Rattle.std.proofs.lemmas.Result.{err_from_is_err_and}
+use mathlib.Core.Path.{sym, ◌∙◌}
+use Prim.Native.Nat.{◌+◌, ◌-◌}
+use lib.ListN.{length}
 use Rattle.assignment_texts.proofs.Stores.{none_yet_lem}
+use Rattle.assignment_texts.proofs.Turns.{assigned-begins, assigned-torn, assigned_refused, assigned-ends, assigned_uncut, assigned_more}
 use Rattle.assignment_texts.proofs.read_assigned.Goals as goal
 
-pub clear-requires : goal.clear-requires
-clear-requires c = tt
-
-pub past_blanks-at-requires : goal.past_blanks-at-requires
-past_blanks-at-requires c = tt
-
-pub loop-left-init : goal.loop-left-init
-loop-left-init c =
+pub loop-init : goal.loop-init
+loop-init c =
     let a = c.args in
     let none = c.clear.ensures ∙ none_yet_lem a.table.now _ c.requires.1 in
-    (assigned-begins a.names.now a.table.now a.line.now _ _ none c.past_blanks-at.ensures, c.clear.auto.so ∙ c.requires.1)
+    (assigned-begins a.names.now a.table.now a.line.now _ _ _ (omega arith) none c.past_blanks-at.ensures, c.clear.auto.so ∙ c.requires.1)
 
-pub one_assigned-r-requires : goal.one_assigned-r-requires
-one_assigned-r-requires c =
-    (c.requires.0, c.loop-left.invariant.1)
+pub one_assigned-requires : goal.one_assigned-requires
+one_assigned-requires c = (c.requires.0, c.loop.invariant.1)
 
-pub shape_of-so-then-r-ne0 : goal.shape_of-so-then-r-ne0
-shape_of-so-then-r-ne0 c =
-    c.one_assigned-r.auto.so ∙ c.loop-left.invariant.1 ∙ sym c.requires.1
-
-pub returns-then-r-ne0 : goal.returns-then-r-ne0
-returns-then-r-ne0 c =
+pub returns-in_err-next : goal.returns-in_err-next
+returns-in_err-next c =
     let a = c.args in
-    assigned_refused a.names.now a.table.now a.line.now _ _ _ c.loop-left.invariant.0 c.loop-left-test.true _ _ c.one_assigned-r.ensures
-    c.if-r-ne0.true
+    let p = err_from_is_err_and c.from_residual.result c.from_residual.ensures.1 in
+    rw (p.1, p.2) (assigned_refused a.names.now a.table.now a.line.now _ _ _ c.loop.invariant.0 (length a.line.now - (c.loop.counter + 1)) (omega (arith, c.loop-test.true)) _ _
+    c.in_err-next.ensures)
 
 pub at_end-requires : goal.at_end-requires
-at_end-requires c =
-    c.requires.0.few
+at_end-requires c = c.requires.0.few
 
-pub shape_of-so-then-r-line : goal.shape_of-so-then-r-line
-shape_of-so-then-r-line c =
-    c.one_assigned-r.auto.so ∙ c.loop-left.invariant.1 ∙ sym c.requires.1
-
-pub returns-then-r-line : goal.returns-then-r-line
-returns-then-r-line c =
+pub returns-then-next-line : goal.returns-then-next-line
+returns-then-next-line c =
     let a = c.args in
-    assigned-ends a.names.now a.table.now a.line.now _ _ _ c.loop-left.invariant.0 c.loop-left-test.true _ _ c.one_assigned-r.ensures
-    c.if-r-ne0.false _ c.if-r-line.true c.at_end.ensures
+    assigned-ends a.names.now a.table.now a.line.now _ _ _ c.loop.invariant.0 (length a.line.now - (c.loop.counter + 1)) (omega (arith, c.loop-test.true)) _ _
+    c.in_ok-next.ensures c.if-next-line.true _ c.at_end.ensures
 
-pub shape_of-so-then-comma-ne0 : goal.shape_of-so-then-comma-ne0
-shape_of-so-then-comma-ne0 c =
-    c.one_assigned-r.auto.so ∙ c.loop-left.invariant.1 ∙ sym c.requires.1
-
-pub returns-then-comma-ne0 : goal.returns-then-comma-ne0
-returns-then-comma-ne0 c =
+pub returns-in_err-at : goal.returns-in_err-at
+returns-in_err-at c =
     let a = c.args in
-    assigned_uncut a.names.now a.table.now a.line.now _ _ _ c.loop-left.invariant.0 c.loop-left-test.true _ _ c.one_assigned-r.ensures
-    c.if-r-ne0.false c.if-r-line.false _ c.read_mark-comma.ensures c.if-comma-ne0.true
+    let p = err_from_is_err_and c.from_residual-in_err-at.result c.from_residual-in_err-at.ensures.1 in
+    rw (p.1, p.2) (assigned_uncut a.names.now a.table.now a.line.now _ _ _ c.loop.invariant.0 (length a.line.now - (c.loop.counter + 1)) (omega (arith, c.loop-test.true)) _ _
+    c.in_ok-next.ensures c.if-next-line.false _ c.in_err-at.ensures)
 
-pub overflow_sub-left : goal.overflow_sub-left
-overflow_sub-left c =
-    omega (arith, c.loop-left-test.true)
-
-pub loop-left-smaller : goal.loop-left-smaller
-loop-left-smaller c =
-    omega (arith, c.loop-left-test.true)
-
-pub loop-left-preserved : goal.loop-left-preserved
-loop-left-preserved c =
+pub loop-preserved : goal.loop-preserved
+loop-preserved c =
     let a = c.args in (
-      assigned_more a.names.now a.table.now a.line.now _ _ _ c.loop-left.invariant.0 c.loop-left-test.true _ _ c.one_assigned-r.ensures
-          c.if-r-ne0.false c.if-r-line.false _ c.read_mark-comma.ensures c.if-comma-ne0.false,
-      c.one_assigned-r.auto.so ∙ c.loop-left.invariant.1,
+      assigned_more a.names.now a.table.now a.line.now _ _ _ c.loop.invariant.0 _ (omega (arith, c.loop-test.true)) _ _ c.in_ok-next.ensures c.if-next-line.false _
+          c.in_ok-at.ensures,
+      c.one_assigned.auto.so ∙ c.loop.invariant.1,
     )
-
-pub shape_of-so : goal.shape_of-so
-shape_of-so c =
-    c.loop-left.invariant.1 ∙ sym c.requires.1
 
 pub returns : goal.returns
 returns c =
     let a = c.args in
-    assigned-torn a.names.now a.table.now a.line.now _ _ _ c.loop-left.invariant.0 c.loop-left-test.false
+    assigned-torn a.names.now a.table.now a.line.now _ _ _ c.loop.invariant.0 (omega arith)

@@ -6,20 +6,22 @@ use Rattle.assignment_texts.proofs.read_name.Goals as goal
 pub returns-then-not-is_letter : goal.returns-then-not-is_letter
 returns-then-not-is_letter c =
     let a = c.args in
-    name-torn a.names.now a.line.now a.at a.so.now _ c.byte_at-b.ensures _ c.is_letter.ensures _
-    c.if-not-is_letter.true c.no_name.ensures
+    name-torn a.names.now a.line.now a.at a.so.now _ c.byte_at-b.ensures _ c.is_letter.ensures
+    c.if-not-is_letter.true
 
 pub returns-then-n-names : goal.returns-then-n-names
 returns-then-n-names c =
     let a = c.args in
     name-unknown a.names.now a.line.now a.at a.so.now _ c.byte_at-b.ensures _ c.is_letter.ensures
-    c.if-not-is_letter.false _ c.place_of-n.ensures _ c.if-n-names.true c.no_name-then-n-names.ensures
+    c.if-not-is_letter.false _ c.place_of-n.ensures
+    c.if-n-names.true
 
 pub returns-then-byte_at-ne127 : goal.returns-then-byte_at-ne127
 returns-then-byte_at-ne127 c =
     let a = c.args in
     name-twice a.names.now a.line.now a.at a.so.now _ c.byte_at-b.ensures _ c.is_letter.ensures
-    c.if-not-is_letter.false _ c.place_of-n.ensures c.if-n-names.false _ c.byte_at.ensures _ c.if-byte_at-ne127.true c.no_name-then-byte_at-ne127.ensures
+    c.if-not-is_letter.false _ c.place_of-n.ensures c.if-n-names.false _ c.byte_at.ensures
+    c.if-byte_at-ne127.true
 
 pub behind-next-requires : goal.behind-next-requires
 behind-next-requires c =

@@ -3,12 +3,10 @@ use Rattle.std.proofs.Common.{rules}
 use native.Mathlib.Omega.{arith}
 use mathlib.Core.Path.{sym, ◌∙◌}
 use lib.Seq.{length-take-le}
-use Rattle.printer_call.specs.Answers.{printing_of}
 use Rattle.command.proofs.Copies.{part_fits_lem, too_long, no_room, written}
 use Rattle.command.proofs.command.Goals as goal
 
 pub returns-then-n-gt65536 : goal.returns-then-n-gt65536
-unfolding printing_of
 returns-then-n-gt65536 c =
     let c2 = c in
     let c4 = c in
@@ -17,7 +15,6 @@ returns-then-n-gt65536 c =
     (omega (arith, c.if-n-gt65536.true, c4.large_buffer-told.ensures, c2.answer-n.auto.out))
 
 pub returns-then-n-out : goal.returns-then-n-out
-unfolding printing_of
 returns-then-n-out c =
     let c1 = c in
     let c3 = c in
@@ -43,7 +40,6 @@ copy_front-requires c =
     part_fits_lem _ _ c11.args.out.now (c7.large_buffer-told.ensures ∙ sym c5.answer-n.auto.out) c3.if-n-gt65536.false c2.if-n-out.false
 
 pub returns : goal.returns
-unfolding printing_of
 returns c =
     let c2 = c in
     let c5 = c in

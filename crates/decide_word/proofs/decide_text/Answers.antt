@@ -9,68 +9,68 @@ use Rattle.decide_word.proofs.decide_text.Goals as goal
 
 pub tell_line-requires : goal.tell_line-requires
 tell_line-requires c =
-    (c.read_header-h.ensures.inside, header-column _ _ _ _ c.read_header-h.ensures c.if-h-ne0.true)
+    (c.in-Err.ensures.inside, header-column _ _ _ _ c.in-Err.ensures)
 
-pub returns-then-h-ne0 : goal.returns-then-h-ne0
-returns-then-h-ne0 c =
-    names-told _ _ _ _ c.read_header-h.ensures c.if-h-ne0.true _ _ c.tell_line.ensures
+pub returns-in-Err : goal.returns-in-Err
+returns-in-Err c =
+    names-told _ _ _ _ c.in-Err.ensures _ c.number.ensures _ _ c.tell_line.ensures
 
 pub slice_bounds-names-end : goal.slice_bounds-names-end
-slice_bounds-names-end c = omega (arith, c.read_header-h.ensures.few c.if-h-ne0.false)
+slice_bounds-names-end c = omega (arith, c.in-Ok.ensures.few)
 
 pub slice_bounds-sides_at-end : goal.slice_bounds-sides_at-end
 slice_bounds-sides_at-end c =
-    sym (length-take-le _ _ (omega (arith, c.read_header-h.ensures.few c.if-h-ne0.false, c.read_header-h.auto.names)))
+    sym (length-take-le _ _ (omega (arith, c.in-Ok.ensures.few, c.read_header.auto.names)))
 
 pub slice_bounds-table-end : goal.slice_bounds-table-end
-slice_bounds-table-end c = omega (arith, c.read_header-h.ensures.few c.if-h-ne0.false)
+slice_bounds-table-end c = omega (arith, c.in-Ok.ensures.few)
 
 pub slice_bounds-sides_at-end-2 : goal.slice_bounds-sides_at-end-2
 slice_bounds-sides_at-end-2 c =
-    sym (length-take-le _ _ (omega (arith, c.read_header-h.ensures.few c.if-h-ne0.false, c.read_header-h.auto.table)))
+    sym (length-take-le _ _ (omega (arith, c.in-Ok.ensures.few, c.read_header.auto.table)))
 
 pub sides_at-r-requires : goal.sides_at-r-requires
 sides_at-r-requires c =
-    (header-table _ _ _ _ c.read_header-h.ensures c.if-h-ne0.false, c.read_header-h.ensures.inside)
+    (header-table _ _ _ _ c.in-Ok.ensures, c.in-Ok.ensures.inside)
 
 pub tell_line-requires-then-r-ne0 : goal.tell_line-requires-then-r-ne0
 tell_line-requires-then-r-ne0 c =
-    (c.read_header-h.ensures.inside, sides-column _ _ _ _ c.read_header-h.ensures c.if-h-ne0.false _ c.sides_at-r.ensures c.if-r-ne0.true)
+    (c.in-Ok.ensures.inside, sides-column _ _ _ _ c.in-Ok.ensures _ c.sides_at-r.ensures c.if-r-ne0.true)
 
 pub returns-then-r-ne0 : goal.returns-then-r-ne0
 returns-then-r-ne0 c =
-    sides-told _ _ _ _ c.read_header-h.ensures c.if-h-ne0.false _ c.sides_at-r.ensures c.if-r-ne0.true _ _ c.tell_line-then-r-ne0.ensures
+    sides-told _ _ _ _ c.in-Ok.ensures _ c.sides_at-r.ensures c.if-r-ne0.true _ _ c.tell_line-then-r-ne0.ensures
 
 pub line_behind-q-requires : goal.line_behind-q-requires
 line_behind-q-requires c =
-    (c.read_header-h.ensures.inside, sides-inside _ _ _ c.read_header-h.result.place _ c.sides_at-r.ensures c.if-r-ne0.false)
+    (c.in-Ok.ensures.inside, sides-inside _ _ _ c.in-Ok.h.place _ c.sides_at-r.ensures c.if-r-ne0.false)
 
 pub returns-then-q-s : goal.returns-then-q-s
 returns-then-q-s c =
-    more_told _ _ _ _ c.read_header-h.ensures c.if-h-ne0.false _ c.sides_at-r.ensures c.if-r-ne0.false _ c.line_behind-q.ensures c.if-q-s.true _ _
+    more_told _ _ _ _ c.in-Ok.ensures _ c.sides_at-r.ensures c.if-r-ne0.false _ c.line_behind-q.ensures c.if-q-s.true _ _
     c.tell_line-then-q-s.ensures
 
 pub slice_bounds-names-end-2 : goal.slice_bounds-names-end-2
 slice_bounds-names-end-2 c =
-    omega (arith, c.read_header-h.ensures.few c.if-h-ne0.false, c.read_header-h.auto.names)
+    omega (arith, c.in-Ok.ensures.few, c.read_header.auto.names)
 
 pub slice_bounds-tell_decision-end : goal.slice_bounds-tell_decision-end
 slice_bounds-tell_decision-end c =
-    sym (length-take-le _ _ (omega (arith, c.read_header-h.ensures.few c.if-h-ne0.false, c.read_header-h.auto.names)))
+    sym (length-take-le _ _ (omega (arith, c.in-Ok.ensures.few, c.read_header.auto.names)))
 
 pub slice_bounds-table-end-2 : goal.slice_bounds-table-end-2
 slice_bounds-table-end-2 c =
-    omega (arith, c.read_header-h.ensures.few c.if-h-ne0.false, c.read_header-h.auto.table)
+    omega (arith, c.in-Ok.ensures.few, c.read_header.auto.table)
 
 pub slice_bounds-tell_decision-end-2 : goal.slice_bounds-tell_decision-end-2
 slice_bounds-tell_decision-end-2 c =
-    sym (length-take-le _ _ (omega (arith, c.read_header-h.ensures.few c.if-h-ne0.false, c.read_header-h.auto.table)))
+    sym (length-take-le _ _ (omega (arith, c.in-Ok.ensures.few, c.read_header.auto.table)))
 
 pub tell_decision-requires : goal.tell_decision-requires
 tell_decision-requires c =
-    comparable _ _ _ _ c.read_header-h.ensures c.if-h-ne0.false _ c.sides_at-r.ensures c.if-r-ne0.false
+    comparable _ _ _ _ c.in-Ok.ensures _ c.sides_at-r.ensures c.if-r-ne0.false
 
 pub returns : goal.returns
 returns c =
-    decision_told _ _ _ _ c.read_header-h.ensures c.if-h-ne0.false _ c.sides_at-r.ensures c.if-r-ne0.false _ c.line_behind-q.ensures c.if-q-s.false
+    decision_told _ _ _ _ c.in-Ok.ensures _ c.sides_at-r.ensures c.if-r-ne0.false _ c.line_behind-q.ensures c.if-q-s.false
     _ _ c.tell_decision.ensures

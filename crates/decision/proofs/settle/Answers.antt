@@ -22,15 +22,6 @@ keep_first-found-requires c =
     eliminate-asks _ _ _ _ _ asked.0 _ known.1 _ (three _ _ _ asked.1 c.loop-i-test.true) _ _
     c.compare-n.ensures _ known.0
 
-pub overflow_add-i : goal.overflow_add-i
-overflow_add-i c =
-    let asked = c.requires in
-    let taken = c.loop-i-test.true in
-    omega (arith, three _ _ _ asked.1 taken)
-
-pub loop-i-smaller : goal.loop-i-smaller
-loop-i-smaller c = omega (arith, c.loop-i-test.true)
-
 pub loop-i-preserved : goal.loop-i-preserved
 loop-i-preserved c =
     let asked = c.requires in

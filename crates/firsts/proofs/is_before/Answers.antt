@@ -27,12 +27,6 @@ bounds-s-i-in-loop-i c = omega (arith, c.requires.0)
 pub returns-then-t-i : goal.returns-then-t-i
 returns-then-t-i c = says-not _ _ _ _ c.loop-i.invariant.1 (inl c.if-t-i.true)
 
-pub overflow_add-i : goal.overflow_add-i
-overflow_add-i c = omega (arith, c.loop-i-test.true)
-
-pub loop-i-smaller : goal.loop-i-smaller
-loop-i-smaller c = omega (arith, c.loop-i-test.true)
-
 pub loop-i-preserved : goal.loop-i-preserved
 loop-i-preserved c =
     let given = c.args in

@@ -17,10 +17,6 @@ bounds-names-i c = omega (arith, c.loop-i-test.true)
 pub tell_name-next-requires : goal.tell_name-next-requires
 tell_name-next-requires c = tt
 
-pub overflow_add-i : goal.overflow_add-i
-overflow_add-i c =
-    omega (arith, c.loop-i-test.true)
-
 pub loop-i-smaller : goal.loop-i-smaller
 loop-i-smaller c =
     omega (arith, c.loop-i-test.true)

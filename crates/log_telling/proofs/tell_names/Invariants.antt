@@ -7,6 +7,3 @@ use Rattle.log_telling.proofs.tell_names.Given as goal
 
 abbrev pub invariant-loop-i : goal.invariant-loop-i
 invariant-loop-i l = NamesTold l.initial.out l.out l.at l.next l.kind l.names l.table l.last l.i × (length l.out ≡ length l.initial.out)
-
-abbrev pub decreases-loop-i : goal.decreases-loop-i
-decreases-loop-i l = length l.names - l.i

@@ -7,7 +7,7 @@ use Rattle.printer_call.proofs.Answers.{printed-inside}
 use Rattle.printer.proofs.main.Goals as goal
 
 pub slice_bounds-out-end : goal.slice_bounds-out-end
-slice_bounds-out-end c = omega (arith, printed-inside _ _ _ _ _ c.print.ensures c.in-Printed.is, c.print.auto.out)
+slice_bounds-out-end c = omega (arith, printed-inside _ _ _ _ _ c.print.ensures c.in-Ok.is, c.print.auto.out)
 
 pub slice_bounds-write_all-end : goal.slice_bounds-write_all-end
-slice_bounds-write_all-end c = sym (length-take-le _ _ (printed-inside _ _ _ _ _ c.print.ensures c.in-Printed.is))
+slice_bounds-write_all-end c = sym (length-take-le _ _ (printed-inside _ _ _ _ _ c.print.ensures c.in-Ok.is))

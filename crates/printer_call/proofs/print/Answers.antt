@@ -1,11 +1,8 @@
-use Rattle.printer_call.specs.Answers.{printing_of}
 use Rattle.printer_call.proofs.Answers.{answer_refused, answer-printed}
 use Rattle.printer_call.proofs.print.Goals as goal
 
 pub returns-then-out-lt-LINE_BYTES : goal.returns-then-out-lt-LINE_BYTES
-unfolding printing_of
 returns-then-out-lt-LINE_BYTES c = answer_refused _ _ c.if-out-lt-LINE_BYTES.true
 
 pub returns : goal.returns
-unfolding printing_of
 returns c = answer-printed _ _ _ _ c.if-out-lt-LINE_BYTES.false c.print_input.ensures

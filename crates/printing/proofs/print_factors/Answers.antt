@@ -40,9 +40,6 @@ print_factor-next-requires c =
       (factor-room _ _ _ _ (few (goal.at.print_factor-next-requires c).Start) i _ _ w.loop-i.invariant.1).0,
     )
 
-pub overflow_add-i : goal.overflow_add-i
-overflow_add-i c = omega (arith, c.requires.0.valid.counted.few)
-
 pub loop-i-preserved : goal.loop-i-preserved
 loop-i-preserved c =
     let w = c in

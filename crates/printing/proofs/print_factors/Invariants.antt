@@ -10,6 +10,3 @@ use Rattle.printing.proofs.print_factors.Given as goal
 abbrev pub invariant-loop-i : goal.invariant-loop-i
 invariant-loop-i l = (l.i ≤ l.n) × (l.next + length (factors_from l.names l.t.factors l.n l.i) ≤ length l.out)
     × UnderWay l.initial.out l.out l.at l.next (print_factors l.names (term_of l.t)) (factors_from l.names l.t.factors l.n l.i)
-
-abbrev pub decreases-loop-i : goal.decreases-loop-i
-decreases-loop-i l = l.n - l.i

@@ -65,9 +65,6 @@ print_term-next-requires c =
       omega (arith, c.loop-i.invariant.1, c.loop-i-test.true, w, c.print_sign-from.auto.out, later_short (term c.args.f.terms c.loop-i.i).coef),
     )
 
-pub overflow_add-i : goal.overflow_add-i
-overflow_add-i c = omega (arith, c.requires.0.valid.few)
-
 pub loop-i-preserved : goal.loop-i-preserved
 loop-i-preserved c =
     let h = signed_short c.args.names.now (term c.args.f.terms c.loop-i.i) (printed (goal.at.loop-i-preserved c).After-struct_told-1).valid in

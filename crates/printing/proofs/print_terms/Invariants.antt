@@ -7,6 +7,3 @@ use Rattle.printing.proofs.print_terms.Given as goal
 
 abbrev pub invariant-loop-i : goal.invariant-loop-i
 invariant-loop-i l = (1 ≤ l.i) × (l.next + 29 * (l.n - l.i) ≤ length l.out) × UnderWay l.initial.out l.out l.at l.next (terms_from l.names l.f.terms l.n 1) (terms_from l.names l.f.terms l.n l.i)
-
-abbrev pub decreases-loop-i : goal.decreases-loop-i
-decreases-loop-i l = l.n - l.i

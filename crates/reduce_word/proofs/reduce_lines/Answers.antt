@@ -5,25 +5,25 @@ use Rattle.formula_lines.proofs.Forms.{text-printable}
 use Rattle.reduce_word.proofs.Forms.{lines-begin, lines_end, lines-done, lines_refused, lines_more}
 use Rattle.reduce_word.proofs.reduce_lines.Goals as goal
 
-pub loop-left-init : goal.loop-left-init
-loop-left-init c = (lines-begin _ _ _ _ _ c.requires.1, refl)
+pub loop-init : goal.loop-init
+loop-init c = (lines-begin _ _ _ _ _ _ c.requires.1 (omega arith), refl)
 
 pub shape_of-out-then-q-n : goal.shape_of-out-then-q-n
-shape_of-out-then-q-n c = c.loop-left.invariant.1
+shape_of-out-then-q-n c = c.loop.invariant.1
 
 pub returns-then-q-n : goal.returns-then-q-n
-returns-then-q-n c = lines_end _ _ _ _ _ _ _ _ c.loop-left.invariant.0 c.if-q-n.true
+returns-then-q-n c = lines_end _ _ _ _ _ _ _ _ c.loop.invariant.0 c.if-q-n.true
 
 pub form_at-r-requires : goal.form_at-r-requires
 form_at-r-requires c =
-    (c.requires.0, c.loop-left.invariant.0.inside)
+    (c.requires.0, c.loop.invariant.0.inside)
 
 pub shape_of-out-then-r-ne0 : goal.shape_of-out-then-r-ne0
-shape_of-out-then-r-ne0 c = c.loop-left.invariant.1
+shape_of-out-then-r-ne0 c = c.loop.invariant.1
 
 pub returns-then-r-ne0 : goal.returns-then-r-ne0
 returns-then-r-ne0 c =
-    lines_refused c.args.s.now _ _ _ _ _ _ _ c.loop-left.invariant.0 c.loop-left-test.true c.if-q-n.false _ c.form_at-r.ensures _ c.if-r-ne0.true
+    lines_refused c.args.s.now _ _ _ _ _ _ _ c.loop.invariant.0 (omega (arith, c.loop-test.true)) c.if-q-n.false _ c.form_at-r.ensures _ c.if-r-ne0.true
 
 pub tell_form-end-requires : goal.tell_form-end-requires
 tell_form-end-requires c =
@@ -31,26 +31,18 @@ tell_form-end-requires c =
 
 pub line_behind-q-requires : goal.line_behind-q-requires
 line_behind-q-requires c =
-    (c.loop-left.invariant.0.inside, c.if-q-n.false)
+    (c.loop.invariant.0.inside, c.if-q-n.false)
 
-pub overflow_sub-left : goal.overflow_sub-left
-overflow_sub-left c =
-    omega (arith, c.loop-left-test.true)
-
-pub loop-left-smaller : goal.loop-left-smaller
-loop-left-smaller c =
-    omega (arith, c.loop-left-test.true)
-
-pub loop-left-preserved : goal.loop-left-preserved
-loop-left-preserved c =
-    let i = c.loop-left.invariant in (
-      lines_more c.args.s.now _ _ _ _ _ _ _ i.0 c.loop-left-test.true c.if-q-n.false _ c.form_at-r.ensures _ _ _ c.if-r-ne0.false
+pub loop-preserved : goal.loop-preserved
+loop-preserved c =
+    let i = c.loop.invariant in (
+      lines_more c.args.s.now _ _ _ _ _ _ _ i.0 (omega (arith, c.loop-test.true)) c.if-q-n.false _ c.form_at-r.ensures _ _ _ _ (omega (arith, c.loop-test.true)) c.if-r-ne0.false
           c.tell_form-end.ensures c.line_behind-q.ensures,
       c.tell_form-end.auto.out ∙ i.1,
     )
 
 pub shape_of-out : goal.shape_of-out
-shape_of-out c = c.loop-left.invariant.1
+shape_of-out c = c.loop.invariant.1
 
 pub returns : goal.returns
-returns c = lines-done _ _ _ _ _ _ _ _ c.loop-left.invariant.0 c.loop-left-test.false
+returns c = lines-done _ _ _ _ _ _ _ _ c.loop.invariant.0 (omega arith)

@@ -8,38 +8,38 @@ use Rattle.reduce_word.proofs.reduce_text.Goals as goal
 
 pub tell_line-requires : goal.tell_line-requires
 tell_line-requires c =
-    (c.read_header-h.ensures.inside, header-column _ _ _ _ c.read_header-h.ensures c.if-h-ne0.true)
+    (c.in-Err.ensures.inside, header-column _ _ _ _ c.in-Err.ensures)
 
-pub returns-then-h-ne0 : goal.returns-then-h-ne0
-returns-then-h-ne0 c =
-    header-answer _ _ _ _ c.read_header-h.ensures c.if-h-ne0.true _ _ c.tell_line.ensures
+pub returns-in-Err : goal.returns-in-Err
+returns-in-Err c =
+    header-answer _ _ _ _ c.in-Err.ensures _ c.number.ensures _ _ c.tell_line.ensures
 
 pub slice_bounds-names-end : goal.slice_bounds-names-end
-slice_bounds-names-end c = omega (arith, c.read_header-h.ensures.few c.if-h-ne0.false)
+slice_bounds-names-end c = omega (arith, c.in-Ok.ensures.few)
 
 pub slice_bounds-reduce_lines-end : goal.slice_bounds-reduce_lines-end
 slice_bounds-reduce_lines-end c =
-    sym (length-take-le _ _ (omega (arith, c.read_header-h.ensures.few c.if-h-ne0.false, c.read_header-h.auto.names)))
+    sym (length-take-le _ _ (omega (arith, c.in-Ok.ensures.few, c.read_header.auto.names)))
 
 pub slice_bounds-table-end : goal.slice_bounds-table-end
-slice_bounds-table-end c = omega (arith, c.read_header-h.ensures.few c.if-h-ne0.false)
+slice_bounds-table-end c = omega (arith, c.in-Ok.ensures.few)
 
 pub slice_bounds-reduce_lines-end-2 : goal.slice_bounds-reduce_lines-end-2
 slice_bounds-reduce_lines-end-2 c =
-    sym (length-take-le _ _ (omega (arith, c.read_header-h.ensures.few c.if-h-ne0.false, c.read_header-h.auto.table)))
+    sym (length-take-le _ _ (omega (arith, c.in-Ok.ensures.few, c.read_header.auto.table)))
 
 pub reduce_lines-r-requires : goal.reduce_lines-r-requires
 reduce_lines-r-requires c =
-    (header-table _ _ _ _ c.read_header-h.ensures c.if-h-ne0.false, c.read_header-h.ensures.inside)
+    (header-table _ _ _ _ c.in-Ok.ensures, c.in-Ok.ensures.inside)
 
 pub tell_line-requires-then-r-ne0 : goal.tell_line-requires-then-r-ne0
 tell_line-requires-then-r-ne0 c =
-    (c.reduce_lines-r.ensures.inside, line-column _ _ _ _ c.read_header-h.ensures c.if-h-ne0.false _ _ c.reduce_lines-r.ensures c.if-r-ne0.true)
+    (c.reduce_lines-r.ensures.inside, line-column _ _ _ _ c.in-Ok.ensures _ _ c.reduce_lines-r.ensures c.if-r-ne0.true)
 
 pub returns-then-r-ne0 : goal.returns-then-r-ne0
 returns-then-r-ne0 c =
-    line-answer _ _ _ _ c.read_header-h.ensures c.if-h-ne0.false _ _ c.reduce_lines-r.ensures c.if-r-ne0.true _ _ c.tell_line-then-r-ne0.ensures
+    line-answer _ _ _ _ c.in-Ok.ensures _ _ c.reduce_lines-r.ensures c.if-r-ne0.true _ _ c.tell_line-then-r-ne0.ensures
 
 pub returns : goal.returns
 returns c =
-    forms-answer _ _ _ _ c.read_header-h.ensures c.if-h-ne0.false _ _ c.reduce_lines-r.ensures c.if-r-ne0.false
+    forms-answer _ _ _ _ c.in-Ok.ensures _ _ c.reduce_lines-r.ensures c.if-r-ne0.false

@@ -10,9 +10,9 @@ pub slice_bounds-out-end : goal.slice_bounds-out-end
 slice_bounds-out-end c =
     omega (
       arith,
-      printed-inside _ _ _ _ _ c.print_shortening.ensures c.in-Printed.is,
+      printed-inside _ _ _ _ _ c.print_shortening.ensures c.in-Ok.is,
       c.print_shortening.auto.out,
     )
 
 pub slice_bounds-write_all-end : goal.slice_bounds-write_all-end
-slice_bounds-write_all-end c = sym (length-take-le _ _ (printed-inside _ _ _ _ _ c.print_shortening.ensures c.in-Printed.is))
+slice_bounds-write_all-end c = sym (length-take-le _ _ (printed-inside _ _ _ _ _ c.print_shortening.ensures c.in-Ok.is))

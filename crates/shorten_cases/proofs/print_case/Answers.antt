@@ -7,7 +7,7 @@ use Rattle.shorten_call.proofs.Calls.{printed-inside}
 use Rattle.shorten_cases.proofs.print_case.Goals as goal
 
 pub slice_bounds-out-end : goal.slice_bounds-out-end
-slice_bounds-out-end c = let w = c.print_shortening in omega (arith, printed-inside _ _ _ _ _ w.ensures c.in-Printed.is, w.auto.out)
+slice_bounds-out-end c = let w = c.print_shortening in omega (arith, printed-inside _ _ _ _ _ w.ensures c.in-Ok.is, w.auto.out)
 
 pub slice_bounds-write_all-end : goal.slice_bounds-write_all-end
-slice_bounds-write_all-end c = sym (length-take-le _ _ (printed-inside _ _ _ _ _ c.print_shortening.ensures c.in-Printed.is))
+slice_bounds-write_all-end c = sym (length-take-le _ _ (printed-inside _ _ _ _ _ c.print_shortening.ensures c.in-Ok.is))

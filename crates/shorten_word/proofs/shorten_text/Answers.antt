@@ -20,54 +20,54 @@ last_places c = search rules
 
 pub tell_line-requires : goal.tell_line-requires
 tell_line-requires c =
-    (c.read_header-h.ensures.inside, header-column _ _ _ _ c.read_header-h.ensures c.if-h-ne0.true)
+    (c.in-Err.ensures.inside, header-column _ _ _ _ c.in-Err.ensures)
 
-pub returns-then-h-ne0 : goal.returns-then-h-ne0
-returns-then-h-ne0 c =
-    names-told _ _ _ _ _ _ c.read_header-h.ensures c.if-h-ne0.true c.tell_line.ensures
+pub returns-in-Err : goal.returns-in-Err
+returns-in-Err c =
+    names-told _ _ _ _ c.in-Err.ensures _ c.number.ensures _ _ c.tell_line.ensures
 
 pub slice_bounds-names-end : goal.slice_bounds-names-end
-slice_bounds-names-end c = omega (arith, c.read_header-h.ensures.few c.if-h-ne0.false)
+slice_bounds-names-end c = omega (arith, c.in-Ok.ensures.few)
 
 pub slice_bounds-form_at-end : goal.slice_bounds-form_at-end
 slice_bounds-form_at-end c =
-    sym (length-take-le _ _ (omega (arith, c.read_header-h.ensures.few c.if-h-ne0.false, c.read_header-h.auto.names)))
+    sym (length-take-le _ _ (omega (arith, c.in-Ok.ensures.few, c.read_header.auto.names)))
 
 pub slice_bounds-table-end : goal.slice_bounds-table-end
-slice_bounds-table-end c = omega (arith, c.read_header-h.ensures.few c.if-h-ne0.false)
+slice_bounds-table-end c = omega (arith, c.in-Ok.ensures.few)
 
 pub slice_bounds-form_at-end-2 : goal.slice_bounds-form_at-end-2
 slice_bounds-form_at-end-2 c =
-    sym (length-take-le _ _ (omega (arith, c.read_header-h.ensures.few c.if-h-ne0.false, c.read_header-h.auto.table)))
+    sym (length-take-le _ _ (omega (arith, c.in-Ok.ensures.few, c.read_header.auto.table)))
 
 pub form_at-r-requires : goal.form_at-r-requires
 form_at-r-requires c =
-    (header-table _ _ _ _ c.read_header-h.ensures c.if-h-ne0.false, c.read_header-h.ensures.inside)
+    (header-table _ _ _ _ c.in-Ok.ensures, c.in-Ok.ensures.inside)
 
 pub tell_line-requires-then-r-ne0 : goal.tell_line-requires-then-r-ne0
 tell_line-requires-then-r-ne0 c =
-    (c.read_header-h.ensures.inside, formula_column _ [] 0 _ _ _ c.read_header-h.ensures c.if-h-ne0.false _ c.form_at-r.ensures c.if-r-ne0.true)
+    (c.in-Ok.ensures.inside, formula_column _ [] 0 _ _ _ c.in-Ok.ensures _ c.form_at-r.ensures c.if-r-ne0.true)
 
 pub returns-then-r-ne0 : goal.returns-then-r-ne0
 returns-then-r-ne0 c =
-    formula_told _ _ _ _ _ _ c.read_header-h.ensures c.if-h-ne0.false _ c.form_at-r.ensures c.if-r-ne0.true c.tell_line-then-r-ne0.ensures
+    formula_told _ _ _ _ _ _ c.in-Ok.ensures _ c.form_at-r.ensures c.if-r-ne0.true c.tell_line-then-r-ne0.ensures
 
 pub line_behind-q-requires : goal.line_behind-q-requires
 line_behind-q-requires c =
-    (c.read_header-h.ensures.inside, text-inside _ _ _ c.read_header-h.result.place _ c.form_at-r.ensures c.if-r-ne0.false)
+    (c.in-Ok.ensures.inside, text-inside _ _ _ c.in-Ok.h.place _ c.form_at-r.ensures c.if-r-ne0.false)
 
 pub returns-then-q-s : goal.returns-then-q-s
 returns-then-q-s c =
-    more_told _ _ _ _ _ _ c.read_header-h.ensures c.if-h-ne0.false _ c.form_at-r.ensures c.if-r-ne0.false _ c.line_behind-q.ensures c.if-q-s.true
+    more_told _ _ _ _ _ _ c.in-Ok.ensures _ c.form_at-r.ensures c.if-r-ne0.false _ c.line_behind-q.ensures c.if-q-s.true
     c.tell_line-then-q-s.ensures
 
 pub slice_bounds-table-end-2 : goal.slice_bounds-table-end-2
 slice_bounds-table-end-2 c =
-    omega (arith, c.read_header-h.ensures.few c.if-h-ne0.false)
+    omega (arith, c.in-Ok.ensures.few)
 
 pub slice_bounds-derive-end : goal.slice_bounds-derive-end
 slice_bounds-derive-end c =
-    sym (length-take-le _ _ (omega (arith, c.read_header-h.ensures.few c.if-h-ne0.false, c.read_header-h.auto.table)))
+    sym (length-take-le _ _ (omega (arith, c.in-Ok.ensures.few, c.read_header.auto.table)))
 
 pub derive-d-requires : goal.derive-d-requires
 derive-d-requires c =
@@ -75,27 +75,27 @@ derive-d-requires c =
 
 pub slice_bounds-names-end-2 : goal.slice_bounds-names-end-2
 slice_bounds-names-end-2 c =
-    omega (arith, c.read_header-h.ensures.few c.if-h-ne0.false, c.read_header-h.auto.names)
+    omega (arith, c.in-Ok.ensures.few, c.read_header.auto.names)
 
 pub slice_bounds-tell_log-end : goal.slice_bounds-tell_log-end
 slice_bounds-tell_log-end c =
-    sym (length-take-le _ _ (omega (arith, c.read_header-h.ensures.few c.if-h-ne0.false, c.read_header-h.auto.names)))
+    sym (length-take-le _ _ (omega (arith, c.in-Ok.ensures.few, c.read_header.auto.names)))
 
 pub slice_bounds-table-end-3 : goal.slice_bounds-table-end-3
 slice_bounds-table-end-3 c =
-    omega (arith, c.read_header-h.ensures.few c.if-h-ne0.false, c.read_header-h.auto.table)
+    omega (arith, c.in-Ok.ensures.few, c.read_header.auto.table)
 
 pub slice_bounds-tell_log-end-2 : goal.slice_bounds-tell_log-end-2
 slice_bounds-tell_log-end-2 c =
-    sym (length-take-le _ _ (omega (arith, c.read_header-h.ensures.few c.if-h-ne0.false, c.read_header-h.auto.table)))
+    sym (length-take-le _ _ (omega (arith, c.in-Ok.ensures.few, c.read_header.auto.table)))
 
 pub tell_log-requires : goal.tell_log-requires
 tell_log-requires c =
-    let p = log_tellable _ [] 0 _ _ _ c.read_header-h.ensures c.if-h-ne0.false _ c.form_at-r.ensures c.if-r-ne0.false _ c.line_behind-q.ensures _
+    let p = log_tellable _ [] 0 _ _ _ c.in-Ok.ensures _ c.form_at-r.ensures c.if-r-ne0.false _ c.line_behind-q.ensures _
     c.derive-d.ensures in
-    (p.0, p.1, p.2, names_fit _ [] 0 _ _ _ c.read_header-h.ensures c.if-h-ne0.false _ c.form_at-r.ensures c.if-r-ne0.false _ c.line_behind-q.ensures _ c.derive-d.ensures)
+    (p.0, p.1, p.2, names_fit _ [] 0 _ _ _ c.in-Ok.ensures _ c.form_at-r.ensures c.if-r-ne0.false _ c.line_behind-q.ensures _ c.derive-d.ensures)
 
 pub returns : goal.returns
 returns c =
-    log-told _ _ _ _ _ _ c.read_header-h.ensures c.if-h-ne0.false _ c.form_at-r.ensures c.if-r-ne0.false _ c.line_behind-q.ensures _
+    log-told _ _ _ _ _ _ c.in-Ok.ensures _ c.form_at-r.ensures c.if-r-ne0.false _ c.line_behind-q.ensures _
     c.derive-d.ensures c.if-q-s.false (form-places (goal.at.returns c).After-form_at-r) (last_places (goal.at.returns c).After-derive-d) (told_first c.tell_log.ensures)

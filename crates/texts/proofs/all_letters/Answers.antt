@@ -10,21 +10,21 @@ use Rattle.specification.specs.Text.{is_letter}
 use Rattle.texts.proofs.Naming.{letter-missing, letter-there, letters-end}
 use Rattle.texts.proofs.all_letters.Goals as goal
 
-pub loop-i-init : goal.loop-i-init
-loop-i-init c = refl
+pub loop-b-init : goal.loop-b-init
+loop-b-init c = refl
 
 pub returns-then-not-is_letter : goal.returns-then-not-is_letter
 returns-then-not-is_letter c =
     sym
-    (c.loop-i.invariant ∙ letter-missing c.args.names.now
-    c.loop-i.i c.loop-i-test.true (sym c.is_letter.ensures ∙ not-true _
+    (c.loop-b.invariant ∙ letter-missing c.args.names.now
+    c.loop-b.b-index c.loop-b-test.true (sym c.is_letter.ensures ∙ not-true _
     c.if-not-is_letter.true-raw))
 
-pub loop-i-preserved : goal.loop-i-preserved
-loop-i-preserved c =
-    c.loop-i.invariant ∙ letter-there c.args.names.now
-    c.loop-i.i c.loop-i-test.true
+pub loop-b-preserved : goal.loop-b-preserved
+loop-b-preserved c =
+    c.loop-b.invariant ∙ letter-there c.args.names.now
+    c.loop-b.b-index c.loop-b-test.true
     (sym c.is_letter.ensures ∙ c.if-not-is_letter.false)
 
 pub returns : goal.returns
-returns c = sym (c.loop-i.invariant ∙ letters-end c.args.names.now c.loop-i.i c.loop-i-test.false)
+returns c = sym (c.loop-b.invariant ∙ letters-end c.args.names.now c.loop-b.b-index c.loop-b-test.false)

@@ -9,8 +9,5 @@ use Rattle.specification.specs.Text.{is_letter}
 use Rattle.texts.proofs.Naming.{letter-missing, letter-there, letters-end}
 use Rattle.texts.proofs.all_letters.Given as goal
 
-abbrev pub invariant-loop-i : goal.invariant-loop-i
-invariant-loop-i l = all is_letter l.names ≡ all is_letter (drop l.i l.names)
-
-abbrev pub decreases-loop-i : goal.decreases-loop-i
-decreases-loop-i l = length l.names - l.i
+abbrev pub invariant-loop-b : goal.invariant-loop-b
+invariant-loop-b l = all is_letter l.names ≡ all is_letter (drop l.b-index l.names)

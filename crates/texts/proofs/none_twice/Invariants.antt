@@ -9,6 +9,3 @@ use Rattle.texts.proofs.none_twice.Given as goal
 
 abbrev pub invariant-loop-i : goal.invariant-loop-i
 invariant-loop-i l = distinct l.names ≡ distinct (drop l.i l.names)
-
-abbrev pub decreases-loop-i : goal.decreases-loop-i
-decreases-loop-i l = length l.names - l.i

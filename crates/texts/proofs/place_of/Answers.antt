@@ -20,4 +20,6 @@ loop-i-preserved c =
     sym (place-passed c4.args.names.now c3.loop-i.i c4.args.b (omega arith) c.if-names-i.false) ∙ c3.loop-i.invariant
 
 pub returns : goal.returns
-returns c = sym (place_none c.args.names.now c.loop-i.i c.args.b (omega arith)) ∙ c.loop-i.invariant
+returns c =
+    let e : c.loop-i.i ≡ length c.args.names.now = omega arith in
+    sym e ∙ sym (place_none c.args.names.now c.loop-i.i c.args.b (omega arith)) ∙ c.loop-i.invariant

@@ -9,6 +9,3 @@ use Rattle.texts.proofs.place_of.Given as goal
 -- the names passed are others
 abbrev pub invariant-loop-i : goal.invariant-loop-i
 invariant-loop-i l = l.i + place_of (drop l.i l.names) l.b ≡ place_of l.names l.b
-
-abbrev pub decreases-loop-i : goal.decreases-loop-i
-decreases-loop-i l = length l.names - l.i

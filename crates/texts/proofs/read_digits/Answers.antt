@@ -4,9 +4,10 @@ use Rattle.std.proofs.Common.{rules}
 use mathlib.Core.Path.{sym, ◌∙◌}
 use Prim.Native.Nat.{◌-◌}
 use native.Mathlib.Omega.{arith}
+use mathlib.Core.Logic.{inl, inr}
 use lib.ListN.{length}
 use borrow.Author.Tests.{not-true, not-false}
-use Rattle.texts.proofs.Standing.{DigitsAt, digits-small, digits-begin, digit-from, digits_more, digits-stop, no_digit-behind}
+use Rattle.texts.proofs.Standing.{DigitsAt, digits-small, digits-begin, digit-from, digits_more, digits-stop, no_digit-behind, passed-to_end}
 use Rattle.texts.proofs.read_digits.Goals as goal
 
 pub loop-i-init : goal.loop-i-init
@@ -38,7 +39,8 @@ loop-i-preserved c = digits_more _ _ _ _ _ _ c.loop-i.invariant c.is_digit.ensur
 
 pub returns : goal.returns
 returns c =
-    let c1 = c in
-    let c3 = c in
-    let w = digits-stop _ _ _ _ c1.loop-i.invariant (no_digit-behind c3.args.s.now c1.loop-i.i c.loop-i-test.false) in
-    record { value = w.0; next = w.1 }
+    let w = digits-stop _ _ _ _ c.loop-i.invariant (no_digit-behind c.args.s.now c.loop-i.i c.loop-i-test.false) in
+    elim (passed-to_end c.args.s.now c.args.at c.loop-i.i _ c.loop-i-test.false c.loop-i.auto.i c.loop-i.auto.i-end c.max.ensures) [
+      | inl e ↦ record { value = w.0; next = e ∙ w.1 }
+      | inr e ↦ record { value = w.0; next = e.0 ∙ (digits-stop _ _ _ _ (digits-begin c.args.s.now c.args.at) (no_digit-behind c.args.s.now c.args.at e.1)).1 }
+    ]

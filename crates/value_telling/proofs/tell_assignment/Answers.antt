@@ -30,9 +30,6 @@ overflow_sub-n-in-loop-i c = omega (arith, c.loop-i-test.true)
 pub tell_entry-next-requires : goal.tell_entry-next-requires
 tell_entry-next-requires c = letter-small _ _ _ c.vector_of-v.ensures
 
-pub overflow_add-i : goal.overflow_add-i
-overflow_add-i c = omega (arith, c.loop-i-test.true)
-
 pub loop-i-smaller : goal.loop-i-smaller
 loop-i-smaller c = omega (arith, c.loop-i-test.true)
 

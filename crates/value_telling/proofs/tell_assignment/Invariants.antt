@@ -7,6 +7,3 @@ use Rattle.value_telling.proofs.tell_assignment.Given as goal
 
 abbrev pub invariant-loop-i : goal.invariant-loop-i
 invariant-loop-i l = EntriesTold l.initial.out l.out l.at l.next l.names l.table l.s l.i × (length l.out ≡ length l.initial.out)
-
-abbrev pub decreases-loop-i : goal.decreases-loop-i
-decreases-loop-i l = length l.names - l.i

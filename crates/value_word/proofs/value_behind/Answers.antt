@@ -17,44 +17,43 @@ pub line_behind-q-requires : goal.line_behind-q-requires
 line_behind-q-requires c =
     (c.requires.1, text-inside _ _ _ c.args.p _ c.form_at-r.ensures c.if-r-ne0.false)
 
-pub assigned_at-a-requires : goal.assigned_at-a-requires
-assigned_at-a-requires c =
+pub assigned_at-requires : goal.assigned_at-requires
+assigned_at-requires c =
     (names-named _ _ c.requires.0, c.line_behind-q.ensures.inside, c.requires.2)
 
-pub tell_line-requires-then-a-ne0 : goal.tell_line-requires-then-a-ne0
-tell_line-requires-then-a-ne0 c = (
+pub tell_line-requires-in-Err : goal.tell_line-requires-in-Err
+tell_line-requires-in-Err c = (
   c.line_behind-q.ensures.inside,
-  assigned-column _ _ _ c.args.p _ c.form_at-r.ensures c.if-r-ne0.false _ c.line_behind-q.ensures _ _ c.assigned_at-a.ensures c.if-a-ne0.true,
+  assigned-column _ _ _ c.args.p _ c.form_at-r.ensures c.if-r-ne0.false _ c.line_behind-q.ensures _ _ c.in-Err.ensures,
 )
 
-pub returns-then-a-ne0 : goal.returns-then-a-ne0
-returns-then-a-ne0 c =
-    assigned-told _ _ _ c.args.p _ c.form_at-r.ensures c.if-r-ne0.false _ c.line_behind-q.ensures _ _ c.assigned_at-a.ensures c.if-a-ne0.true
-    _ _ c.tell_line-then-a-ne0.ensures
+pub returns-in-Err : goal.returns-in-Err
+returns-in-Err c =
+    assigned-told _ _ _ c.args.p _ c.form_at-r.ensures c.if-r-ne0.false _ c.line_behind-q.ensures _ _ c.in-Err.ensures _ c.number.ensures
+    _ _ c.tell_line-in-Err.ensures
 
 pub line_behind-end-requires : goal.line_behind-end-requires
 line_behind-end-requires c =
-    (c.line_behind-q.ensures.inside, assigned-inside _ _ _ _ c.line_behind-q.result _ c.assigned_at-a.ensures c.if-a-ne0.false)
+    (c.line_behind-q.ensures.inside, assigned-inside _ _ _ _ c.line_behind-q.result _ c.in-Ok.ensures)
 
 pub returns-then-end-s : goal.returns-then-end-s
 returns-then-end-s c =
-    more_told _ _ _ c.args.p _ c.form_at-r.ensures c.if-r-ne0.false _ c.line_behind-q.ensures _ _ c.assigned_at-a.ensures c.if-a-ne0.false _
+    more_told _ _ _ c.args.p _ c.form_at-r.ensures c.if-r-ne0.false _ c.line_behind-q.ensures _ _ c.in-Ok.ensures _
     c.line_behind-end.ensures c.if-end-s.true _ _ c.tell_line-then-end-s.ensures
 
 pub form_value-v-requires : goal.form_value-v-requires
 form_value-v-requires c = (
-  assigned-small c.args.s.now c.args.names.now c.args.table.now _ c.line_behind-q.result _ c.assigned_at-a.ensures
-      c.if-a-ne0.false,
+  assigned-small c.args.s.now c.args.names.now c.args.table.now _ c.line_behind-q.result _ c.in-Ok.ensures,
   c.form_at-r.ensures.valid c.if-r-ne0.false,
 )
 
 pub tell_value-at-requires : goal.tell_value-at-requires
 tell_value-at-requires c =
     form_small _ _ _
-    (assigned-small c.args.s.now c.args.names.now c.args.table.now _ c.line_behind-q.result _ c.assigned_at-a.ensures c.if-a-ne0.false)
+    (assigned-small c.args.s.now c.args.names.now c.args.table.now _ c.line_behind-q.result _ c.in-Ok.ensures)
     (c.form_at-r.ensures.valid c.if-r-ne0.false) c.form_value-v.ensures
 
 pub returns : goal.returns
 returns c =
-    value_told _ _ _ c.args.p _ c.form_at-r.ensures c.if-r-ne0.false _ c.line_behind-q.ensures _ _ c.assigned_at-a.ensures c.if-a-ne0.false _
+    value_told _ _ _ c.args.p _ c.form_at-r.ensures c.if-r-ne0.false _ c.line_behind-q.ensures _ _ c.in-Ok.ensures _
     c.line_behind-end.ensures c.if-end-s.false _ c.form_value-v.ensures _ _ (told_first (tells-then c.tell_value-at.ensures c.put_byte.ensures))

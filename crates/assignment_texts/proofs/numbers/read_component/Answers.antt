@@ -6,14 +6,15 @@ use Rattle.assignment_texts.proofs.numbers.read_component.Goals as goal
 pub returns-then-not-is_digit : goal.returns-then-not-is_digit
 returns-then-not-is_digit c =
     let a = c.args in
-    component-torn a.line.now a.at _ _ _ _ c.byte_at-sign.ensures c.digit_at-first.ensures c.byte_at-b.ensures c.is_digit.ensures _
-    c.if-not-is_digit.true c.no_component.ensures
+    component-torn a.line.now a.at _ _ _ _ c.byte_at-sign.ensures c.digit_at-first.ensures c.byte_at-b.ensures c.is_digit.ensures
+    c.if-not-is_digit.true
 
 pub returns-then-b-gt54 : goal.returns-then-b-gt54
 returns-then-b-gt54 c =
     let a = c.args in
     component-beyond a.line.now a.at _ _ _ _ c.byte_at-sign.ensures c.digit_at-first.ensures c.byte_at-b.ensures c.is_digit.ensures
-    c.if-not-is_digit.false _ c.if-b-gt54.true c.no_component-then-b-gt54.ensures
+    c.if-not-is_digit.false
+    c.if-b-gt54.true
 
 pub overflow_add-first : goal.overflow_add-first
 overflow_add-first c =
@@ -27,7 +28,8 @@ pub returns-then-is_digit : goal.returns-then-is_digit
 returns-then-is_digit c =
     let a = c.args in
     component-long a.line.now a.at _ _ _ _ c.byte_at-sign.ensures c.digit_at-first.ensures c.byte_at-b.ensures c.is_digit.ensures
-    c.if-not-is_digit.false c.if-b-gt54.false _ _ c.byte_at.ensures c.is_digit-2.ensures _ c.if-is_digit.true c.no_component-then-is_digit.ensures
+    c.if-not-is_digit.false c.if-b-gt54.false _ _ c.byte_at.ensures c.is_digit-2.ensures
+    c.if-is_digit.true
 
 pub overflow_sub-b : goal.overflow_sub-b
 overflow_sub-b c =

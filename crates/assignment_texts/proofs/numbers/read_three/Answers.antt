@@ -1,31 +1,28 @@
--- `assignment_texts::numbers::read_three` meets its contract: one number after the other. Assumes nothing.
+-- `assignment_texts::numbers::read_three` meets its contract. Assumes nothing.
+use native.Mathlib.Omega.{arith}
+use Rattle.std.proofs.lemmas.Result.{err_from_is_err_and}
 use Rattle.assignment_texts.proofs.Values.{three_first, three-second, three_third, three-open, three-there}
 use Rattle.assignment_texts.proofs.numbers.read_three.Goals as goal
 
-pub returns-then-x-ne0 : goal.returns-then-x-ne0
-returns-then-x-ne0 c =
-    let a = c.args in
-    three_first a.line.now a.at _ c.read_led-x.ensures _ c.if-x-ne0.true c.no_numbers.ensures
+pub returns-in_err-x : goal.returns-in_err-x
+returns-in_err-x c =
+    let p = err_from_is_err_and c.from_residual.result c.from_residual.ensures.1 in
+    rw (p.1, p.2) (three_first c.args.line.now c.args.at _ c.in_err-x.ensures)
 
-pub returns-then-y-ne0 : goal.returns-then-y-ne0
-returns-then-y-ne0 c =
-    let a = c.args in
-    three-second a.line.now a.at _ c.read_led-x.ensures c.if-x-ne0.false _ c.read_led-y.ensures _ c.if-y-ne0.true c.no_numbers-then-y-ne0.ensures
+pub returns-in_err-y : goal.returns-in_err-y
+returns-in_err-y c =
+    let p = err_from_is_err_and c.from_residual-in_err-y.result c.from_residual-in_err-y.ensures.1 in
+    rw (p.1, p.2) (three-second c.args.line.now c.args.at _ c.in_ok-x.ensures _ c.in_err-y.ensures)
 
-pub returns-then-z-ne0 : goal.returns-then-z-ne0
-returns-then-z-ne0 c =
-    let a = c.args in
-    three_third a.line.now a.at _ c.read_led-x.ensures c.if-x-ne0.false _ c.read_led-y.ensures c.if-y-ne0.false _
-    c.read_led-z.ensures _ c.if-z-ne0.true c.no_numbers-then-z-ne0.ensures
+pub returns-in_err-z : goal.returns-in_err-z
+returns-in_err-z c =
+    let p = err_from_is_err_and c.from_residual-in_err-z.result c.from_residual-in_err-z.ensures.1 in
+    rw (p.1, p.2) (three_third c.args.line.now c.args.at _ c.in_ok-x.ensures _ c.in_ok-y.ensures _ c.in_err-z.ensures)
 
-pub returns-then-end-ne0 : goal.returns-then-end-ne0
-returns-then-end-ne0 c =
-    let a = c.args in
-    three-open a.line.now a.at _ c.read_led-x.ensures c.if-x-ne0.false _ c.read_led-y.ensures c.if-y-ne0.false _
-    c.read_led-z.ensures c.if-z-ne0.false _ c.read_mark-end.ensures _ c.if-end-ne0.true c.no_numbers-then-end-ne0.ensures
+pub returns-in_err-end : goal.returns-in_err-end
+returns-in_err-end c =
+    let p = err_from_is_err_and c.from_residual-in_err-end.result c.from_residual-in_err-end.ensures.1 in
+    rw (p.1, p.2) (three-open c.args.line.now c.args.at _ c.in_ok-x.ensures _ c.in_ok-y.ensures _ c.in_ok-z.ensures _ c.in_err-end.ensures)
 
 pub returns : goal.returns
-returns c =
-    let a = c.args in
-    three-there a.line.now a.at _ c.read_led-x.ensures c.if-x-ne0.false _ c.read_led-y.ensures c.if-y-ne0.false _
-    c.read_led-z.ensures c.if-z-ne0.false _ c.read_mark-end.ensures c.if-end-ne0.false
+returns c = three-there c.args.line.now c.args.at _ c.in_ok-x.ensures _ c.in_ok-y.ensures _ c.in_ok-z.ensures _ c.in_ok-end.ensures

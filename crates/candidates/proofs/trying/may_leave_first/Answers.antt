@@ -1,4 +1,3 @@
-use Rattle.std.proofs.Common.{rules}
 use mathlib.Core.Path.{subst}
 use lib.Dec.{T}
 use Rattle.candidates.proofs.trying.may_leave_first.Goals as goal

@@ -1,13 +1,11 @@
 -- `candidates::trying::next_pick` meets its contract: nothing is to be hoped for from the picks passed. Assumes nothing.
-use Rattle.std.proofs.Common.{rules}
 use mathlib.Core.Path.{◌≡◌, ap, sym, subst, ◌∙◌}
-use Prim.Native.Nat.{ℕ, ◌≤◌, ◌<◌, ◌-◌, ◌^◌}
+use Prim.Native.Nat.{ℕ, ◌≤◌, ◌<◌, ◌^◌}
 use native.Mathlib.Omega.{arith}
-use borrow.Author.Tests.{not-true}
 use lib.ListN.{length}
 use lib.Pow.{pow_mono}
 use Rattle.picks.specs.Choosing.{bit_digits}
-use Rattle.candidates.proofs.Trials.{block-few, takes-no_block, PicksPassed, picks_none, picks-skipped, picks_more, picks-found, picks-end}
+use Rattle.candidates.proofs.Trials.{block-few, takes-no_block, picks_none, picks-skipped, picks_more, picks-found, picks-end}
 use Rattle.candidates.proofs.trying.next_pick.Goals.{After-bit_digits-digits, After-mask_count-end}
 use Rattle.candidates.proofs.trying.next_pick.Goals as goal
 
@@ -54,12 +52,6 @@ may_take_block-requires c = (
   ),
 )
 
-pub overflow_add-j : goal.overflow_add-j
-overflow_add-j c = omega (arith, c.loop-j-test.true, few (goal.at.overflow_add-j c).After-mask_count-end)
-
-pub loop-j-smaller-then-not-may_take_block : goal.loop-j-smaller-then-not-may_take_block
-loop-j-smaller-then-not-may_take_block c = omega (arith, c.loop-j-test.true)
-
 pub loop-j-preserved-then-not-may_take_block : goal.loop-j-preserved-then-not-may_take_block
 loop-j-preserved-then-not-may_take_block c = let w = c in let v =
     c.loop-j in (
@@ -68,8 +60,8 @@ loop-j-preserved-then-not-may_take_block c = let w = c in let v =
           (λ kind k op inside can. takes-no_block w.args.t w.args.rule w.args.o v.j kind k op inside can _ _ _ c.bit_digits-digits.ensures c.block_size-block.ensures c.may_leave_first-first.ensures (c.may_take_block.ensures c.if-not-may_take_block.true)),
     )
 
-pub try_pick-r-requires : goal.try_pick-r-requires
-try_pick-r-requires c = let w = c in (
+pub try_pick-requires : goal.try_pick-requires
+try_pick-requires c = let w = c in (
   w.requires.0,
   w.requires.1,
   w.requires.2,
@@ -80,39 +72,26 @@ try_pick-r-requires c = let w = c in (
       c.loop-j-test.true,
 )
 
-pub overflow_add-j-in-loop-j : goal.overflow_add-j-in-loop-j
-overflow_add-j-in-loop-j c = omega (
-  arith,
-  c.loop-j-test.true,
-  few (goal.at.overflow_add-j-in-loop-j c).After-mask_count-end,
-)
-
-pub returns-then-r : goal.returns-then-r
-returns-then-r c = let w = c in let v =
+pub returns-in-Some : goal.returns-in-Some
+returns-in-Some c = let w = c in let v =
     c.loop-j in
     picks-found w.args.marks.now w.args.t w.args.rule w.args.o w.args.from v.j v.invariant.1 v.invariant.0
-    _ c.try_pick-r.ensures c.if-r.true (omega (
+    _ c.in-Some.ensures (omega (
       arith,
       c.loop-j-test.true,
-      few (goal.at.returns-then-r c).After-mask_count-end,
+      few (goal.at.returns-in-Some c).After-mask_count-end,
     ))
-
-pub loop-j-smaller : goal.loop-j-smaller
-loop-j-smaller c = omega (arith, c.loop-j-test.true)
 
 pub loop-j-preserved : goal.loop-j-preserved
 loop-j-preserved c = let w = c in let v =
     c.loop-j in (
       omega (arith, v.invariant.0),
       picks_more w.args.marks.now w.args.t w.args.rule w.args.o w.args.from v.j v.invariant.1 v.invariant.0
-          _ c.try_pick-r.ensures c.if-r.false,
+          c.in_default.ensures,
     )
-
-pub no_step-s-requires : goal.no_step-s-requires
-no_step-s-requires c = tt
 
 pub returns : goal.returns
 returns c = let w = c in let v = c.loop-j in
-    picks-end w.args.marks.now w.args.t w.args.rule w.args.o w.args.from v.j v.invariant.1 v.invariant.0 _ c.no_step-s.ensures
+    picks-end w.args.marks.now w.args.t w.args.rule w.args.o w.args.from v.j v.invariant.1 v.invariant.0
     (subst (λ (n : ℕ). n ≤ v.j) (c.mask_count-end.ensures ∙ ap (λ (n : ℕ). 2 ^ n)
     c.rule_letters.ensures.0) c.loop-j-test.false) w.requires.4

@@ -1,5 +1,4 @@
 -- `candidates::trying::try_pick` meets its contract: no pick, surely no fewer terms, or the one step whose M takes the term away. Assumes nothing.
-use Rattle.std.proofs.Common.{rules}
 use mathlib.Core.Path.{◌≡◌, ap, sym, refl, subst, ◌∙◌}
 use Prim.Native.Nat.{ℕ, ◌≤◌, ◌<◌}
 use native.Mathlib.Omega.{arith}
@@ -11,7 +10,8 @@ use Rattle.theory.specs.Elements.{All}
 use Rattle.theory.specs.Shape.Terms.{in_limit}
 use Rattle.terms.specs.Abstraction.{term_of}
 use Rattle.marking.specs.Marks.{size_mark}
-use Rattle.candidates.proofs.Trials.{unit-step-valid, unit-step_fits, tried_none, tried-long, tried-sized, tried-by}
+use Rattle.candidates.specs.Trying.{Tried}
+use Rattle.candidates.proofs.Trials.{unit-step-valid, unit-step_fits, tried_none, tried-long, tried_inexact, tried-sized, tried-by}
 use Rattle.candidates.proofs.trying.try_pick.Goals.{After-neg, After-struct_told-2-1}
 use Rattle.candidates.proofs.trying.try_pick.Goals as goal
 
@@ -37,17 +37,16 @@ negated-small c = let w = c in omega (
 quotient : (c : After-struct_told-2-1) → back c.divide-q.result.value ≡ c.divide-q.result.value
 quotient c = back_is {z = c.divide-q.result.value} (record { sfits = c.type_inv.q.1.0.1 })
 
-pub pick-p-requires : goal.pick-p-requires
-pick-p-requires c = let w = c in let s = w.requires.3 in record {
+pub pick-requires : goal.pick-requires
+pick-requires c = let w = c in let s = w.requires.3 in record {
   rule = (w.requires.2, s.opened.places, w.requires.4);
   small = subst (All (λ (x : ℕ). x < 256))
       (sym s.opened.letters) s.opened.small;
 }
 
-pub returns-then-not-p : goal.returns-then-not-p
-returns-then-not-p c = let w = c in tried_none w.args.marks.now w.args.t w.args.rule
-    w.args.o w.args.j c.pick-p.result c.pick-p.ensures _ w.requires.3.opened.m.counted
-    (not-true _ c.if-not-p.true)
+pub returns-in_err-letters : goal.returns-in_err-letters
+returns-in_err-letters c = let w = c in subst (Tried w.args.marks.now w.args.t w.args.rule w.args.o w.args.j) (sym c.from_residual.ensures)
+    (tried_none w.args.marks.now w.args.t w.args.rule w.args.o w.args.j c.in_err-letters.ensures)
 
 pub mark_step-w-requires : goal.mark_step-w-requires
 mark_step-w-requires c = c.requires.3.opened.m.counted
@@ -63,9 +62,8 @@ surely_longer-requires c = let w = c in (
 
 pub returns-then-surely_longer : goal.returns-then-surely_longer
 returns-then-surely_longer c = let w = c in tried-long w.args.marks.now w.args.t
-    w.args.rule w.args.o w.args.j c.pick-p.result
-    c.pick-p.ensures _ refl w.requires.3.opened.m.counted w.requires.1
-    (not-false _ c.if-not-p.false) (c.surely_longer.ensures c.if-surely_longer.true)
+    w.args.rule w.args.o w.args.j _ c.in_ok-letters.ensures _ refl w.requires.1
+    (c.surely_longer.ensures c.if-surely_longer.true)
 
 pub neg-requires : goal.neg-requires
 unfolding term_of
@@ -99,27 +97,29 @@ surely_longer-requires-2 c = let w = c in (
   w.requires.0,
 )
 
+pub returns-then-not-q : goal.returns-then-not-q
+returns-then-not-q c = let w = c in
+    tried_inexact w.args.marks.now w.args.t w.args.rule w.args.o w.args.j _ c.in_ok-letters.ensures
+    c.divide-q.result _ _ w.requires.1
+    (back_is (record { sfits = c.gain.type_inv }) ∙ c.gain.ensures)
+    (negated (goal.at.returns-then-not-q c).After-neg) c.divide-q.ensures (not-true _ c.if-not-q.true)
+
 pub returns-then-surely_longer-2 : goal.returns-then-surely_longer-2
 returns-then-surely_longer-2 c = let w = c in
-    tried-sized w.args.marks.now w.args.t w.args.rule w.args.o w.args.j
-    c.pick-p.result
-    c.pick-p.ensures
-    c.divide-q.result _ _ w.requires.1 (not-false _ c.if-not-p.false)
+    tried-sized w.args.marks.now w.args.t w.args.rule w.args.o w.args.j _ c.in_ok-letters.ensures
+    c.divide-q.result _ _ w.requires.1
     (back_is (record { sfits = c.gain.type_inv }) ∙ c.gain.ensures)
-    (negated (goal.at.returns-then-surely_longer-2 c).After-neg) c.divide-q.ensures
-    _ _ refl w.requires.3.opened.m.counted (c.size_mark.ensures ∙ ap size_mark (quotient (goal.at.returns-then-surely_longer-2 c).After-struct_told-2-1))
+    (negated (goal.at.returns-then-surely_longer-2 c).After-neg) c.divide-q.ensures (not-false _ c.if-not-q.false)
+    _ _ refl (c.size_mark.ensures ∙ ap size_mark (quotient (goal.at.returns-then-surely_longer-2 c).After-struct_told-2-1))
     (c.surely_longer-2.ensures c.if-surely_longer-2.true)
 
 pub returns : goal.returns
 returns c = let w = c in
     let o = w.args.o in
-    tried-by w.args.marks.now w.args.t w.args.rule w.args.o w.args.j
-    c.pick-p.result
-    c.pick-p.ensures
+    tried-by w.args.marks.now w.args.t w.args.rule w.args.o w.args.j _ c.in_ok-letters.ensures
     c.divide-q.result _ _ w.requires.1
-    (not-false _ c.if-not-p.false)
-    (back_is (record { sfits = c.gain.type_inv })
-    ∙ c.gain.ensures) (negated (goal.at.returns c).After-neg) c.divide-q.ensures _ w.requires.3.opened.m.counted
+    (back_is (record { sfits = c.gain.type_inv }) ∙ c.gain.ensures)
+    (negated (goal.at.returns c).After-neg) c.divide-q.ensures (not-false _ c.if-not-q.false) _ w.requires.3.opened.m.counted
     (c.with_coef-n.ensures ∙ (λ i. record {
       coef = back_is {z = c.divide-q.result.value} (record {
         sfits =

@@ -57,9 +57,6 @@ overflow_add-n c =
       words c.args.work.now,
     )
 
-pub overflow_add-k : goal.overflow_add-k
-overflow_add-k c = omega (arith, c.requires.valid.few)
-
 pub loop-k-preserved : goal.loop-k-preserved
 loop-k-preserved c = (
   c.expand_term-n.auto.work ∙ c.loop-k.invariant.0,

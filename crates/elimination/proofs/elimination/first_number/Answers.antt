@@ -14,11 +14,8 @@ leaves-requires c = (c.requires.0, first_asks _ _ _ _ c.loop-v-test.true c.requi
 pub returns-then-leaves : goal.returns-then-leaves
 returns-then-leaves c = first_found _ _ _ _ c.loop-v.invariant.0 c.loop-v.invariant.1 (sym c.if-leaves.true ∙ c.leaves.ensures)
 
-pub overflow_add-v : goal.overflow_add-v
-overflow_add-v c = omega (arith, c.requires.1)
-
 pub loop-v-preserved : goal.loop-v-preserved
 loop-v-preserved c = (omega arith, first_on _ _ _ c.loop-v.invariant.1 (sym c.leaves.ensures ∙ c.if-leaves.false))
 
 pub returns : goal.returns
-returns c = first_last _ _ _ _ c.loop-v.invariant.0 c.loop-v-test.false c.loop-v.invariant.1
+returns c = first_last _ _ _ _ c.loop-v-test.false c.loop-v.invariant.1

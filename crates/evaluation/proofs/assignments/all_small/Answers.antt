@@ -5,22 +5,22 @@ use Rattle.specification.specs.Evaluation.{six_or_less}
 use Rattle.evaluation.proofs.Assigned.{byte-fails, byte-passes, bytes-end}
 use Rattle.evaluation.proofs.assignments.all_small.Goals as goal
 
-pub loop-i-init : goal.loop-i-init
-loop-i-init c = (omega arith, refl)
+pub loop-b-init : goal.loop-b-init
+loop-b-init c = (omega arith, refl)
 
 pub returns-then-not-six_or_less : goal.returns-then-not-six_or_less
 returns-then-not-six_or_less c =
-    let v = c.loop-i in
+    let v = c.loop-b in
     sym
-    (v.invariant.1 ∙ byte-fails six_or_less _ _ c.loop-i-test.true (sym c.six_or_less.ensures ∙ c.if-not-six_or_less.true))
+    (v.invariant.1 ∙ byte-fails six_or_less _ _ c.loop-b-test.true (sym c.six_or_less.ensures ∙ c.if-not-six_or_less.true))
 
-pub loop-i-preserved : goal.loop-i-preserved
-loop-i-preserved c =
-    let v = c.loop-i in (
+pub loop-b-preserved : goal.loop-b-preserved
+loop-b-preserved c =
+    let v = c.loop-b in (
       omega arith,
-      v.invariant.1 ∙ byte-passes six_or_less _ _ c.loop-i-test.true
+      v.invariant.1 ∙ byte-passes six_or_less _ _ c.loop-b-test.true
           (sym c.six_or_less.ensures ∙ c.if-not-six_or_less.false),
     )
 
 pub returns : goal.returns
-returns c = sym (c.loop-i.invariant.1 ∙ bytes-end six_or_less _ _ c.loop-i-test.false)
+returns c = sym (c.loop-b.invariant.1 ∙ bytes-end six_or_less _ _ c.loop-b-test.false)

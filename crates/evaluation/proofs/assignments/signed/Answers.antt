@@ -1,13 +1,11 @@
 -- `evaluation::assignments::signed` meets its contract. Assumes nothing.
-use native.Mathlib.Omega.{arith}
-use Rattle.evaluation.proofs.Assigned.{low_byte, high_byte-asks, high_byte}
+use mathlib.Core.Path.{◌∙◌}
+use mir.Syntax.{w8}
+use mir.ValLaws.{to_z-of_z}
+use Rattle.integers.proofs.Machine.{back_is}
+use Rattle.evaluation.proofs.Assigned.{byte_signed}
 use Rattle.evaluation.proofs.assignments.signed.Goals as goal
 
-pub overflow_sub-result : goal.overflow_sub-result
-overflow_sub-result c = high_byte-asks c.if-b-lt128.false (omega arith)
-
-pub returns-then-b-lt128 : goal.returns-then-b-lt128
-returns-then-b-lt128 c = low_byte c.if-b-lt128.true
-
-pub returns-else-b-lt128 : goal.returns-else-b-lt128
-returns-else-b-lt128 c = high_byte c.if-b-lt128.false (omega arith)
+pub returns : goal.returns
+returns c = back_is (record { sfits = c.from.type_inv }) ∙ c.from.ensures ∙ to_z-of_z w8 _ (record { sfits = c.cast_signed.type_inv })
+    ∙ c.cast_signed.ensures ∙ byte_signed c.args.b

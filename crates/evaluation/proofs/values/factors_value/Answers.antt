@@ -18,9 +18,6 @@ places c = search rules
 few : (c : Start) → c.args.t.factor_count ≤ length c.args.t.factors
 few c = omega (arith, places c, c.requires.1.counted.few)
 
-pub overflow_cast-i : goal.overflow_cast-i
-overflow_cast-i c = omega (arith, c.requires.1.counted.few)
-
 pub loop-i-init : goal.loop-i-init
 loop-i-init c = let w = c in (le_refl _, no-factors _ _ _ (few (goal.at.loop-i-init c).Start))
 

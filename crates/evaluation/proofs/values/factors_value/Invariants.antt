@@ -9,6 +9,3 @@ use Rattle.evaluation.proofs.values.factors_value.Given as goal
 
 abbrev pub invariant-loop-i : goal.invariant-loop-i
 invariant-loop-i l = (l.i ≤ l.t.factor_count) × (l.v ≡ factors_value (assignment l.s) (map letters_of (drop l.i (take l.t.factor_count l.t.factors))))
-
-abbrev pub decreases-loop-i : goal.decreases-loop-i
-decreases-loop-i l = l.i

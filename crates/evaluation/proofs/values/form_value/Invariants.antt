@@ -10,6 +10,3 @@ use Rattle.evaluation.proofs.values.form_value.Given as goal
 
 abbrev pub invariant-loop-n : goal.invariant-loop-n
 invariant-loop-n l = (l.n ≤ l.f.count) × (vec_of l.v ≡ terms_value (assignment l.s) (map term_of (drop l.n (take l.f.count l.f.terms))))
-
-abbrev pub decreases-loop-n : goal.decreases-loop-n
-decreases-loop-n l = l.n

@@ -8,14 +8,14 @@ use native.Mathlib.Omega.{arith}
 use Rattle.lines.proofs.Ends.{not_empty, blank-passed, all_blank}
 use Rattle.lines.proofs.places.is_empty_line.Goals as goal
 
-pub loop-i-init : goal.loop-i-init
-loop-i-init c = refl
+pub loop-b-init : goal.loop-b-init
+loop-b-init c = refl
 
-pub returns-then-line-i-ne32 : goal.returns-then-line-i-ne32
-returns-then-line-i-ne32 c = not_empty _ _ c.loop-i.invariant (omega arith) c.if-line-i-ne32.true
+pub returns-then-b-ne32 : goal.returns-then-b-ne32
+returns-then-b-ne32 c = not_empty _ _ c.loop-b.invariant (omega arith) c.if-b-ne32.true
 
-pub loop-i-preserved : goal.loop-i-preserved
-loop-i-preserved c = blank-passed _ _ c.loop-i.invariant (omega arith) c.if-line-i-ne32.false
+pub loop-b-preserved : goal.loop-b-preserved
+loop-b-preserved c = blank-passed _ _ c.loop-b.invariant (omega arith) c.if-b-ne32.false
 
 pub returns : goal.returns
-returns c = all_blank _ _ c.loop-i.invariant c.loop-i-test.false
+returns c = all_blank _ _ c.loop-b.invariant c.loop-b-test.false

@@ -7,8 +7,5 @@ use native.Mathlib.Omega.{arith}
 use Rattle.lines.proofs.Ends.{not_empty, blank-passed, all_blank}
 use Rattle.lines.proofs.places.is_empty_line.Given as goal
 
-abbrev pub invariant-loop-i : goal.invariant-loop-i
-invariant-loop-i l = is_empty_line l.line ≡ is_empty_line (drop l.i l.line)
-
-abbrev pub decreases-loop-i : goal.decreases-loop-i
-decreases-loop-i l = length l.line - l.i
+abbrev pub invariant-loop-b : goal.invariant-loop-b
+invariant-loop-b l = is_empty_line l.line ≡ is_empty_line (drop l.b-index l.line)

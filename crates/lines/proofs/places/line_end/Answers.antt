@@ -1,6 +1,8 @@
 -- `lines::places::line_end` meets its contract. The loop's invariant: no newline so far (`NoEnd`). Assumes nothing.
 use Rattle.std.proofs.Common.{rules}
 use lib.ListN.{length}
+use mathlib.Core.Path.{subst}
+use Rattle.lines.specs.Places.{LineEnd}
 use Prim.Native.Nat.{◌-◌}
 use native.Mathlib.Omega.{arith}
 use Rattle.lines.proofs.Ends.{NoEnd, none_passed, byte-passed, newline-there, text-ends}
@@ -16,4 +18,4 @@ pub loop-i-preserved : goal.loop-i-preserved
 loop-i-preserved c = byte-passed _ _ _ c.loop-i.invariant (omega arith) c.if-s-i-eq10.false
 
 pub returns : goal.returns
-returns c = text-ends _ _ _ c.loop-i.invariant c.loop-i-test.false
+returns c = subst (LineEnd _ _) (omega arith) (text-ends _ _ _ c.loop-i.invariant c.loop-i-test.false)

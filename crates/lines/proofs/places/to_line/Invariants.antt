@@ -2,11 +2,9 @@
 use Rattle.lines.specs.Places.{place_of}
 use borrow.Author.Tests.{not-true, not-false}
 use native.Mathlib.Omega.{arith}
+use Prim.Native.Nat.{◌-◌}
 use Rattle.lines.proofs.Ends.{PassingFrom, passing_begins, passing-done, passing-ends, passing-stands, passing_on}
 use Rattle.lines.proofs.places.to_line.Given as goal
 
-abbrev pub invariant-loop-left : goal.invariant-loop-left
-invariant-loop-left l = PassingFrom l.s (place_of l.s l.initial.q) l.q l.left
-
-abbrev pub decreases-loop-left : goal.decreases-loop-left
-decreases-loop-left l = l.left
+abbrev pub invariant-loop : goal.invariant-loop
+invariant-loop l = PassingFrom l.s (place_of l.s l.initial.q) l.q (l.n - l.counter)

@@ -9,6 +9,3 @@ use Rattle.lines.proofs.words.stands_at.Given as goal
 
 abbrev pub invariant-loop-i : goal.invariant-loop-i
 invariant-loop-i l = same_bytes (take (length l.word) (drop l.at l.line)) l.word ≡ same_bytes (drop l.i (take (length l.word) (drop l.at l.line))) (drop l.i l.word)
-
-abbrev pub decreases-loop-i : goal.decreases-loop-i
-decreases-loop-i l = length l.word - l.i

@@ -44,9 +44,6 @@ bounds-out-next-in-loop-i c = simp length-set (omega (arith, c.loop-i.invariant.
 pub overflow_add-next : goal.overflow_add-next
 overflow_add-next c = omega (arith, c.loop-i.invariant.0, c.loop-i.invariant.1.kept)
 
-pub overflow_add-i : goal.overflow_add-i
-overflow_add-i c = omega (arith, c.requires.0)
-
 pub loop-i-preserved : goal.loop-i-preserved
 loop-i-preserved c =
     let i = c.loop-i-test.true in

@@ -9,6 +9,3 @@ abbrev pub invariant-loop-i : goal.invariant-loop-i
 invariant-loop-i l =
     (l.next + 2 * (l.n - l.i) ≤ length l.out)
     × UnderWay l.initial.out l.out l.at l.next (letters_from l.names l.letters l.n 0) (letters_from l.names l.letters l.n l.i)
-
-abbrev pub decreases-loop-i : goal.decreases-loop-i
-decreases-loop-i l = l.n - l.i

@@ -33,9 +33,6 @@ print_step-next-requires c =
       omega (arith, t, v.invariant.0),
     )
 
-pub overflow_add-i : goal.overflow_add-i
-overflow_add-i c = omega (arith, c.requires.0.valid.few)
-
 pub loop-i-preserved : goal.loop-i-preserved
 loop-i-preserved c =
     let v = c.loop-i in

@@ -9,6 +9,3 @@ abbrev pub invariant-loop-i : goal.invariant-loop-i
 invariant-loop-i l =
     (l.next + 55 * (l.n - l.i) ≤ length l.out)
     × UnderWay l.initial.out l.out l.at l.next (steps_from l.names l.q.steps l.n 0) (steps_from l.names l.q.steps l.n l.i)
-
-abbrev pub decreases-loop-i : goal.decreases-loop-i
-decreases-loop-i l = l.n - l.i

@@ -6,6 +6,3 @@ use Rattle.log_texts.proofs.naming.read_letters.Given as goal
 
 abbrev pub invariant-loop-i : goal.invariant-loop-i
 invariant-loop-i l = LettersFrom (read_letters_at l.n l.names l.line l.at) l.names l.line l.n l.letters l.next l.i
-
-abbrev pub decreases-loop-i : goal.decreases-loop-i
-decreases-loop-i l = l.n - l.i

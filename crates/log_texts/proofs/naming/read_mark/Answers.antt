@@ -7,12 +7,12 @@ returns-then-byte_at-b c =
     let a = c.args in
     mark-other a.b a.line.now a.at _ c.byte_at.ensures c.if-byte_at-b.true
 
-pub behind-next-requires : goal.behind-next-requires
-behind-next-requires c =
+pub behind-requires : goal.behind-requires
+behind-requires c =
     let a = c.args in
     mark-inside a.b a.line.now a.at _ c.byte_at.ensures c.requires c.if-byte_at-b.false
 
 pub returns : goal.returns
 returns c =
     let a = c.args in
-    mark-there a.b a.line.now a.at _ c.byte_at.ensures _ c.requires c.if-byte_at-b.false c.behind-next.ensures
+    mark-there a.b a.line.now a.at _ c.byte_at.ensures _ c.requires c.if-byte_at-b.false c.behind.ensures

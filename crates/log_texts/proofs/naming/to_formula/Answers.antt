@@ -1,18 +1,17 @@
 -- `log_texts::naming::to_formula` meets its contract: one byte after the other. Assumes nothing.
+use Rattle.std.proofs.lemmas.Result.{err_from_is_err_and}
 use Rattle.log_texts.proofs.Marks.{no_comma, no_m, formula_at}
 use Rattle.log_texts.proofs.naming.to_formula.Goals as goal
 
-pub returns-then-comma-ne0 : goal.returns-then-comma-ne0
-returns-then-comma-ne0 c =
-    let a = c.args in
-    no_comma a.line.now a.at _ c.read_mark-comma.ensures c.if-comma-ne0.true
+pub returns-in_err-letter : goal.returns-in_err-letter
+returns-in_err-letter c =
+    let p = err_from_is_err_and c.from_residual.result c.from_residual.ensures.1 in
+    rw (p.1, p.2) (no_comma c.args.line.now c.args.at _ c.in_err-letter.ensures)
 
-pub returns-then-letter-ne0 : goal.returns-then-letter-ne0
-returns-then-letter-ne0 c =
-    let a = c.args in
-    no_m a.line.now a.at _ c.read_mark-comma.ensures c.if-comma-ne0.false _ c.read_mark-letter.ensures c.if-letter-ne0.true
+pub returns-in_err-equals : goal.returns-in_err-equals
+returns-in_err-equals c =
+    let p = err_from_is_err_and c.from_residual-in_err-equals.result c.from_residual-in_err-equals.ensures.1 in
+    rw (p.1, p.2) (no_m c.args.line.now c.args.at _ c.in_ok-letter.ensures _ c.in_err-equals.ensures)
 
 pub returns : goal.returns
-returns c =
-    let a = c.args in
-    formula_at a.line.now a.at _ c.read_mark-comma.ensures c.if-comma-ne0.false _ c.read_mark-letter.ensures c.if-letter-ne0.false _ c.read_mark.ensures
+returns c = formula_at c.args.line.now c.args.at _ c.in_ok-letter.ensures _ c.in_ok-equals.ensures _ c.read_mark-3.ensures

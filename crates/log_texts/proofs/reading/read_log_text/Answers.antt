@@ -5,38 +5,38 @@ use lib.Seq.{length-take-le}
 use Rattle.log_texts.proofs.Lines.{header_refused, log_text_read}
 use Rattle.log_texts.proofs.reading.read_log_text.Goals as goal
 
-pub returns-then-h-ne0 : goal.returns-then-h-ne0
-returns-then-h-ne0 c =
-    header_refused c.args.s.now _ _ _ c.read_header-h.ensures _ c.if-h-ne0.true c.no_log.ensures
+pub returns-in-Err : goal.returns-in-Err
+returns-in-Err c =
+    header_refused c.args.s.now _ _ _ c.in-Err.ensures _ _ c.number.ensures c.no_log.ensures
 
 pub slice_bounds-read_log_lines-end : goal.slice_bounds-read_log_lines-end
 slice_bounds-read_log_lines-end c =
-    omega (arith, c.read_header-h.ensures.few c.if-h-ne0.false, c.requires.0, c.read_header-h.auto.names)
+    omega (arith, c.in-Ok.ensures.few, c.requires.0, c.read_header.auto.names)
 
 pub slice_bounds-read_log_lines-end-2 : goal.slice_bounds-read_log_lines-end-2
 slice_bounds-read_log_lines-end-2 c =
-    sym (length-take-le c.read_header-h.result.count c.read_header-h.new.names
-    (omega (arith, c.read_header-h.ensures.few c.if-h-ne0.false, c.requires.0, c.read_header-h.auto.names)))
+    sym (length-take-le c.in-Ok.h.count c.read_header.new.names
+    (omega (arith, c.in-Ok.ensures.few, c.requires.0, c.read_header.auto.names)))
 
 pub slice_bounds-read_log_lines-end-3 : goal.slice_bounds-read_log_lines-end-3
 slice_bounds-read_log_lines-end-3 c =
-    omega (arith, c.read_header-h.ensures.few c.if-h-ne0.false, c.requires.1, c.read_header-h.auto.table)
+    omega (arith, c.in-Ok.ensures.few, c.requires.1, c.read_header.auto.table)
 
 pub slice_bounds-read_log_lines-end-4 : goal.slice_bounds-read_log_lines-end-4
 slice_bounds-read_log_lines-end-4 c =
-    sym (length-take-le c.read_header-h.result.count c.read_header-h.new.table
-    (omega (arith, c.read_header-h.ensures.few c.if-h-ne0.false, c.requires.1, c.read_header-h.auto.table)))
+    sym (length-take-le c.in-Ok.h.count c.read_header.new.table
+    (omega (arith, c.in-Ok.ensures.few, c.requires.1, c.read_header.auto.table)))
 
 pub read_log_lines-requires : goal.read_log_lines-requires
 read_log_lines-requires c =
-    let x = length-take-le c.read_header-h.result.count c.read_header-h.new.names
-    (omega (arith, c.read_header-h.ensures.few c.if-h-ne0.false, c.requires.0, c.read_header-h.auto.names)) in
-    let y = length-take-le c.read_header-h.result.count c.read_header-h.new.table
-    (omega (arith, c.read_header-h.ensures.few c.if-h-ne0.false, c.requires.1, c.read_header-h.auto.table)) in
-    (c.read_header-h.ensures.inside, record { fit = omega (arith, x, y); few = omega (arith, y, c.read_header-h.ensures.few c.if-h-ne0.false) })
+    let x = length-take-le c.in-Ok.h.count c.read_header.new.names
+    (omega (arith, c.in-Ok.ensures.few, c.requires.0, c.read_header.auto.names)) in
+    let y = length-take-le c.in-Ok.h.count c.read_header.new.table
+    (omega (arith, c.in-Ok.ensures.few, c.requires.1, c.read_header.auto.table)) in
+    (c.in-Ok.ensures.inside, record { fit = omega (arith, x, y); few = omega (arith, y, c.in-Ok.ensures.few) })
 
 pub returns : goal.returns
 returns c =
-    log_text_read c.args.s.now _ _ _ c.read_header-h.ensures _ c.if-h-ne0.false
-    (length-take-le c.read_header-h.result.count c.read_header-h.new.names
-    (omega (arith, c.read_header-h.ensures.few c.if-h-ne0.false, c.requires.0, c.read_header-h.auto.names))) c.read_log_lines.ensures
+    log_text_read c.args.s.now _ _ _ c.in-Ok.ensures _
+    (length-take-le c.in-Ok.h.count c.read_header.new.names
+    (omega (arith, c.in-Ok.ensures.few, c.requires.0, c.read_header.auto.names))) c.read_log_lines.ensures

@@ -39,14 +39,6 @@ pub line_behind-q-requires : goal.line_behind-q-requires
 line_behind-q-requires c =
     (c.loop-i.invariant.inside, step-inside c.args.s.now c.loop-i.q _ c.stands_step.ensures c.if-not-stands_step.false)
 
-pub overflow_add-i : goal.overflow_add-i
-overflow_add-i c =
-    omega (arith, c.loop-i-test.true)
-
-pub loop-i-smaller : goal.loop-i-smaller
-loop-i-smaller c =
-    omega (arith, c.loop-i-test.true)
-
 pub loop-i-preserved : goal.loop-i-preserved
 loop-i-preserved c =
     steps_more c.args.s.now c.args.names.now c.args.table.now _ _ _ _ c.loop-i.invariant _ c.stands_step.ensures

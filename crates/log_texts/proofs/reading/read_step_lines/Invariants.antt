@@ -8,6 +8,3 @@ use Rattle.log_texts.proofs.reading.read_step_lines.Given as goal
 
 abbrev pub invariant-loop-i : goal.invariant-loop-i
 invariant-loop-i l = StepsFrom l.s l.names l.table (read_step_lines 64 l.names l.table (place_of l.s l.initial.q) []) l.q l.steps l.i
-
-abbrev pub decreases-loop-i : goal.decreases-loop-i
-decreases-loop-i l = 64 - l.i

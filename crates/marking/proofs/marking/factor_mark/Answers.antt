@@ -1,4 +1,3 @@
-use Rattle.std.proofs.Common.{rules}
 use native.Mathlib.Omega.{arith}
 use Rattle.marking.proofs.MarkSizes.{two_small, three-small, scalar-mark, dot-mark, triple-mark}
 use Rattle.marking.proofs.marking.factor_mark.Goals as goal

@@ -1,5 +1,4 @@
 -- `marking::marking::factors_mark`. The loop: the sum is the mark of the factors from factor i on, and leaves room for those before. Assumes nothing.
-use Rattle.std.proofs.Common.{rules}
 use mathlib.Core.Path.{◌≡◌, subst}
 use Prim.Native.Nat.{ℕ, ◌+◌, ◌*◌, ◌-◌, ◌≤◌, ◌<◌}
 use mathlib.Core.List.{map}

@@ -1,15 +1,14 @@
 -- `marking::marking::mark_rows` meets its contract: the marks cover the terms passed. Assumes nothing.
-use Rattle.std.proofs.Common.{rules}
 use mathlib.Core.Path.{◌≡◌, refl, ap, subst, ◌∙◌}
 use mathlib.Core.List.{[]}
-use Prim.Native.Nat.{ℕ, ◌-◌, ◌≤◌}
+use Prim.Native.Nat.{ℕ, ◌≤◌}
 use native.Mathlib.Omega.{arith}
 use lib.IntN.{ℤ, pos, nat_abs}
-use lib.ListN.{length, length-set, get_or, take}
+use lib.ListN.{length-set, get_or}
 use Rattle.integers.proofs.Machine.{back, back_is}
 use Rattle.terms.proofs.Arrays.{all-at}
-use Rattle.rows.specs.Rows.{term_by, RowValid, run_of, Light}
-use Rattle.marking.specs.Marks.{mark_of, size_mark, Covering, Joint}
+use Rattle.rows.specs.Rows.{term_by, RowValid, Light}
+use Rattle.marking.specs.Marks.{mark_of, size_mark, Joint}
 use Rattle.marking.proofs.MarkSizes.{covering_none, covering_more, covering_all}
 use Rattle.marking.proofs.marking.mark_rows.Goals.{After-c-1, In-loop-i}
 use Rattle.marking.proofs.marking.mark_rows.Goals as goal
@@ -59,13 +58,6 @@ joint_mark-requires c = tt
 
 pub bounds-marks-h-in-loop-i : goal.bounds-marks-h-in-loop-i
 bounds-marks-h-in-loop-i c = omega (arith, c.term_mark-h.ensures.1, c.loop-i.invariant.1)
-
-pub overflow_add-i : goal.overflow_add-i
-overflow_add-i c = omega (
-  arith,
-  c.requires.0.room,
-  c.loop-i-test.true,
-)
 
 pub loop-i-preserved : goal.loop-i-preserved
 loop-i-preserved c = let v = c.loop-i in

@@ -1,4 +1,3 @@
-use Rattle.std.proofs.Common.{rules}
 use Rattle.marking.proofs.MarkSizes.{term-mark_is}
 use Rattle.marking.proofs.marking.term_mark.Goals as goal
 

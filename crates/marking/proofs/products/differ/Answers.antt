@@ -1,4 +1,3 @@
-use Rattle.std.proofs.Common.{rules}
 use mathlib.Core.Path.{sym, subst}
 use lib.Dec.{T}
 use Rattle.marking.proofs.products.differ.Goals as goal

@@ -1,4 +1,3 @@
-use Rattle.std.proofs.Common.{rules}
 use Rattle.marking.proofs.MarkSizes.{letters-marked}
 use Rattle.marking.proofs.products.letter_marks.Goals as goal
 

@@ -1,4 +1,3 @@
-use Rattle.std.proofs.Common.{rules}
 use Prim.Native.Nat.{◌/◌, ◌%◌}
 use native.Mathlib.Omega.{arith}
 use Rattle.marking.proofs.MarkSizes.{two_small, three-small, no-places, some_places}

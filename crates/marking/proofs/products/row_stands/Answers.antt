@@ -1,7 +1,5 @@
-use Rattle.std.proofs.Common.{rules}
 use mathlib.Core.Path.{sym, subst}
 use lib.Dec.{T}
-use borrow.Author.Tests.{not-false}
 use Rattle.marking.proofs.products.row_stands.Goals as goal
 
 pub returns-then-not-differ : goal.returns-then-not-differ

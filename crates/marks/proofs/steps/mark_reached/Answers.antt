@@ -1,11 +1,11 @@
 -- `marks::steps::mark_reached` meets its contract: 255 stands at the marks of the products passed. Assumes nothing.
 use Rattle.std.proofs.Common.{rules}
 use mathlib.Core.Path.{◌≡◌}
-use Prim.Native.Nat.{◌-◌, ◌≤◌}
+use Prim.Native.Nat.{◌≤◌}
 use native.Mathlib.Omega.{arith}
 use lib.ListN.{length}
 use Rattle.rule_table.proofs.Tied.{rows_few}
-use Rattle.marks.proofs.RowsPassed.{Raised, raised_none, raised_more, raised_all}
+use Rattle.marks.proofs.RowsPassed.{raised_none, raised_more, raised_all}
 use Rattle.marks.proofs.steps.mark_reached.Goals.{After-row_count-n, Start}
 use Rattle.marks.proofs.steps.mark_reached.Goals as goal
 
@@ -49,9 +49,6 @@ product_mark-h-requires c = let m = c.mark_step-w.ensures in record {
 
 pub bounds-marks-h : goal.bounds-marks-h
 bounds-marks-h c = omega (arith, c.product_mark-h.ensures.1, c.loop-i.invariant.1.long)
-
-pub overflow_add-i : goal.overflow_add-i
-overflow_add-i c = omega (arith, c.loop-i-test.true, few (goal.at.overflow_add-i c).After-row_count-n)
 
 pub loop-i-preserved : goal.loop-i-preserved
 loop-i-preserved c = let v = c.loop-i in (

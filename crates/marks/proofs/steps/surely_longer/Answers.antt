@@ -1,12 +1,13 @@
 -- `marks::steps::surely_longer` meets its contract: the score is that of the rows passed. Assumes nothing.
 use Rattle.std.proofs.Common.{rules}
-use mathlib.Core.Path.{◌≡◌, refl, ◌∙◌}
-use Prim.Native.Nat.{◌-◌, ◌*◌, ◌≤◌}
+use mathlib.Core.Path.{◌≡◌, refl, sym, ◌∙◌}
+use Prim.Native.Nat.{◌≤◌}
 use native.Mathlib.Omega.{arith}
+use lib.Seq.{length-take-le}
 use borrow.Author.Tests.{leb-true}
 use lib.ListN.{length, length-set}
 use Rattle.rule_table.proofs.Tied.{rows_few}
-use Rattle.marks.proofs.RowsPassed.{Fitting, AllPassed, all_none, all_seen, all_more, all_enough}
+use Rattle.marks.proofs.RowsPassed.{Fitting, all_none, all_seen, all_more, all_enough, not_contained}
 use Rattle.marks.proofs.steps.surely_longer.Goals.{After-rule_rows-rows, Start}
 use Rattle.marks.proofs.steps.surely_longer.Goals as goal
 
@@ -53,15 +54,12 @@ bounds-rows-i c = omega (arith, c.loop-i-test.true, few (goal.at.bounds-rows-i c
 pub product_mark-h-requires : goal.product_mark-h-requires
 product_mark-h-requires c = let m = c.requires.2 in record { small = (m.few_factors, m.small_part); letters = (m.letters.places, m.letters.small) }
 
-pub is_among-seen-requires : goal.is_among-seen-requires
-is_among-seen-requires c = (
-  omega (
-    arith,
-    c.loop-i-test.true,
-    few (goal.at.is_among-seen-requires c).After-rule_rows-rows,
-  ),
-  c.loop-i.invariant.1,
-)
+pub slice_bounds-hs-end : goal.slice_bounds-hs-end
+slice_bounds-hs-end c = omega (arith, c.loop-i-test.true, few (goal.at.slice_bounds-hs-end c).After-rule_rows-rows, c.loop-i.invariant.1)
+
+pub slice_bounds-contains-end : goal.slice_bounds-contains-end
+slice_bounds-contains-end c =
+    sym (length-take-le _ _ (omega (arith, c.loop-i-test.true, few (goal.at.slice_bounds-contains-end c).After-rule_rows-rows, c.loop-i.invariant.1)))
 
 pub offset_bounds-hs-i : goal.offset_bounds-hs-i
 offset_bounds-hs-i c = omega (
@@ -76,13 +74,6 @@ bounds-hs-i c = omega (
   c.loop-i-test.true,
   few (goal.at.bounds-hs-i c).After-rule_rows-rows,
   c.loop-i.invariant.1,
-)
-
-pub overflow_add-i : goal.overflow_add-i
-overflow_add-i c = omega (
-  arith,
-  c.loop-i-test.true,
-  few (goal.at.overflow_add-i c).After-rule_rows-rows,
 )
 
 pub loop-i-preserved-then-seen : goal.loop-i-preserved-then-seen
@@ -123,7 +114,7 @@ loop-i-preserved c = let v = c.loop-i in
         arith,
         few (goal.at.loop-i-preserved c).After-rule_rows-rows,
       )) c.product_mark-h.ensures.0
-          (c.is_among-seen.ensures c.if-seen.false) c.row_score-score.ensures,
+          (not_contained _ _ (sym c.contains-seen.ensures.value ∙ c.if-seen.false)) c.row_score-score.ensures,
     )
 
 pub returns : goal.returns

@@ -1,4 +1,3 @@
-use Rattle.std.proofs.Common.{rules}
 use Rattle.terms.proofs.Letters.{scalar_is, dot_is, triple_is}
 use Rattle.picks.proofs.Pools.{adds_both, adds_as}
 use Rattle.picks.proofs.choosing.add_factor.Goals as goal

@@ -1,5 +1,4 @@
 -- `picks::choosing::add_factors`. The loop: the letters of the factors from factor i on are in the pool. Assumes nothing.
-use Rattle.std.proofs.Common.{rules}
 use native.Mathlib.Omega.{arith}
 use Rattle.picks.proofs.Pools.{factors_none, factors_more}
 use Rattle.picks.specs.Choosing.{Adds}

@@ -1,4 +1,3 @@
-use Rattle.std.proofs.Common.{rules}
 use mathlib.Core.Path.{refl}
 use lib.Count.{ones, ones_in}
 use Rattle.picks.specs.Choosing.{bit_digits}

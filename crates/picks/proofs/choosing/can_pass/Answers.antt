@@ -1,6 +1,4 @@
-use Rattle.std.proofs.Common.{rules}
 use Rattle.terms.specs.Abstraction.{term_of}
-use borrow.Author.Tests.{not-true, not-false}
 use Rattle.rules.specs.Steps.{step_of}
 use Rattle.picks.proofs.Openings.{out_of_shape, in_shape-by, tests_by}
 use Rattle.picks.proofs.choosing.can_pass.Goals as goal

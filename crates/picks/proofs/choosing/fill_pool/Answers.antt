@@ -4,7 +4,6 @@ use Prim.Native.Nat.{ℕ, ◌-◌}
 use mathlib.Core.List.{[]}
 use lib.ListN.{length}
 use Rattle.terms.specs.Abstraction.{part_of}
-use mathlib.Core.Logic.{⊎_elim}
 use Rattle.specification.specs.Results.{when◌then◌else◌}
 use lib.Dec.{eqb}
 use Rattle.specification.specs.Rules.{rule_kind}

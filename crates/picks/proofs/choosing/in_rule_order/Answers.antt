@@ -1,9 +1,7 @@
-use Rattle.std.proofs.Common.{rules}
 use mathlib.Core.Path.{◌≡◌, ◌∙◌, ap}
 use Prim.Native.Nat.{ℕ, ◌%◌}
 use mathlib.Core.List.{◌∷◌, []}
 use lib.ListN.{get_or}
-use mathlib.Core.Logic.{⊎_elim}
 use lib.Dec.{eqb}
 use Rattle.specification.specs.Results.{when◌then◌else◌}
 use Rattle.picks.proofs.Picks.{rule-ordered, chosen, not_chosen}

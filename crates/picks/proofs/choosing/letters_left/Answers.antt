@@ -1,15 +1,11 @@
 -- `picks::choosing::letters_left`. The loop: the letters counted and those that the mask leaves from factor i on are all that it leaves, and no scalar letter
 -- was left so far. Assumes nothing.
-use Rattle.std.proofs.Common.{rules}
 use Rattle.terms.proofs.Letters.{letters-long}
 use native.Mathlib.Omega.{arith}
 use mathlib.Core.Path.{sym, ◌∙◌, ◌≡◌}
-use Prim.Native.Nat.{◌≤◌, ◌-◌, ◌*◌, ◌+◌}
-use mathlib.Core.List.{map}
-use lib.ListN.{length, take, drop, get_or}
-use mathlib.Core.Logic.{⊎_elim}
-use Rattle.terms.specs.Numbers.{letters_of}
-use Rattle.picks.proofs.LettersLeft.{Counting, counting_none, scalar-stays, counting_all, counting_as, vectors-stay, factor-goes}
+use Prim.Native.Nat.{◌≤◌, ◌+◌}
+use lib.ListN.{length, get_or}
+use Rattle.picks.proofs.LettersLeft.{counting_none, scalar-stays, counting_all, counting_as, vectors-stay, factor-goes}
 use Rattle.picks.proofs.choosing.letters_left.Goals.{Start, else-b-eq0, then-b-eq0+else-l-eq1}
 use Rattle.picks.proofs.choosing.letters_left.Goals as goal
 
@@ -47,12 +43,6 @@ overflow_add-c c =
       c.letter_count-l.ensures,
       (letters-long (get_or c.args.f.now c.loop-i.i 0)).1,
     )
-
-pub overflow_add-i : goal.overflow_add-i
-overflow_add-i c = omega (arith, c.requires.0)
-
-pub loop-i-smaller : goal.loop-i-smaller
-loop-i-smaller c = omega (arith, c.loop-i-test.true)
 
 pub loop-i-preserved : goal.loop-i-preserved
 loop-i-preserved c = let v = c.loop-i in

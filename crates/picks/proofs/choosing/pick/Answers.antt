@@ -1,10 +1,7 @@
-use Rattle.std.proofs.Common.{rules}
 use native.Mathlib.Omega.{arith}
 use mathlib.Core.Path.{◌≡◌, ap, sym, subst, ◌∙◌}
 use Prim.Native.Nat.{ℕ, ◌≤◌, ◌<◌, ◌-◌, ◌^◌}
 use lib.ListN.{length, take}
-use mathlib.Core.Logic.{⊎_elim}
-use borrow.Author.Tests.{not-true, not-false}
 use lib.Seq.{length-take-le}
 use Rattle.theory.specs.Elements.{All}
 use Rattle.specification.specs.Rules.{rule_letters}
@@ -20,8 +17,7 @@ returns-then-a-block_size c = let w = c in
     let long : length (take n p) ≡ n = length-take-le n p (omega (arith, c.rule_letters-n.ensures.1, w.requires.rule.1)) in
     let few : length (take n p) ≤ 7 = omega (arith, long, c.rule_letters-n.ensures.1) in
     picked_as p e
-    (wrong_size (take n p) w.args.rule w.args.j _ _ c.take_by_mask-a.ensures few c.no_pick.result
-    c.no_pick.ensures _ c.block_size.ensures c.if-a-block_size.true)
+    (wrong_size (take n p) w.args.rule w.args.j _ _ c.take_by_mask-a.ensures few _ c.block_size.ensures c.if-a-block_size.true)
 
 pub ascend_strictly-requires : goal.ascend_strictly-requires
 ascend_strictly-requires c = let w = c in let m = c.take_by_mask-a.ensures in (
@@ -50,8 +46,7 @@ returns-then-not-ascend_strictly c = let w = c in
     )) in
     let few : length (take n p) ≤ 7 = omega (arith, long, c.rule_letters-n.ensures.1) in
     picked_as p e
-    (block_falls (take n p) w.args.rule w.args.j _ _ c.take_by_mask-a.ensures few _ c.block_size.ensures c.if-a-block_size.false c.no_pick-then-not-ascend_strictly.result c.no_pick-then-not-ascend_strictly.ensures
-    _ c.ascend_strictly.ensures c.if-not-ascend_strictly.true)
+    (block_falls (take n p) w.args.rule w.args.j _ _ c.take_by_mask-a.ensures few _ c.block_size.ensures c.if-a-block_size.false _ c.ascend_strictly.ensures c.if-not-ascend_strictly.true)
 
 pub overflow_sub-left : goal.overflow_sub-left
 overflow_sub-left c = let w = c in omega (
@@ -104,7 +99,7 @@ returns-then-not-ascend_strictly-2 c = let w = c in
     _ c.ascend_strictly.ensures
     c.if-not-ascend_strictly.false _ _ _ (subst (λ (m : ℕ). w.args.j < 2 ^ m) (sym (long ∙ e))
     w.requires.rule.2) (ap (λ (m : ℕ). m - 1 - w.args.j) (c.mask_count.ensures ∙ ap (λ (m : ℕ). 2 ^ m)
-    (sym long))) c.take_by_mask-b.ensures c.no_pick-then-not-ascend_strictly-2.result c.no_pick-then-not-ascend_strictly-2.ensures
+    (sym long))) c.take_by_mask-b.ensures
     _ c.ascend_strictly-2.ensures c.if-not-ascend_strictly-2.true)
 
 pub returns-then-x-y : goal.returns-then-x-y
@@ -128,7 +123,7 @@ returns-then-x-y c = let w = c in
     c.if-not-ascend_strictly.false _ _ _ (subst (λ (m : ℕ). w.args.j < 2 ^ m)
     (sym (long ∙ e)) w.requires.rule.2) (ap (λ (m : ℕ). m - 1 - w.args.j) (c.mask_count.ensures ∙ ap (λ (m : ℕ). 2 ^ m) (sym long))) c.take_by_mask-b.ensures
     _ c.ascend_strictly-2.ensures c.if-not-ascend_strictly-2.false w.requires.rule.0 (long ∙ e)
-    c.no_pick-then-x-y.result c.no_pick-then-x-y.ensures c.if-rule-eq5.true c.if-x-y.true)
+    c.if-rule-eq5.true c.if-x-y.true)
 
 pub returns : goal.returns
 returns c = let w = c in
@@ -152,4 +147,4 @@ returns c = let w = c in
     (c.mask_count.ensures ∙ ap (λ (m : ℕ). 2 ^ m) (sym long)))
     c.take_by_mask-b.ensures
     _ c.ascend_strictly-2.ensures c.if-not-ascend_strictly-2.false w.requires.rule.0
-    (long ∙ e) _ c.in_rule_order-letters.ensures (subst (λ (m : ℕ). All (λ (x : ℕ). x < 256) (take m p)) (sym e) w.requires.small) (λ q. elim c.if-rule-eq5.branch [ then-rule-eq5+else-x-y w ↦ w.if-x-y.false | else-rule-eq5 w ↦ absurd (w.if-rule-eq5.false q) ]))
+    (long ∙ e) _ c.in_rule_order.ensures (subst (λ (m : ℕ). All (λ (x : ℕ). x < 256) (take m p)) (sym e) w.requires.small) (λ q. elim c.if-rule-eq5.branch [ then-rule-eq5+else-x-y w ↦ w.if-x-y.false | else-rule-eq5 w ↦ absurd (w.if-rule-eq5.false q) ]))

@@ -1,10 +1,8 @@
 -- `picks::choosing::take_by_mask`. The loop: the numbers taken are those of the first i at which the mask has a 1. Assumes nothing.
-use Rattle.std.proofs.Common.{rules}
 use native.Mathlib.Omega.{arith}
-use Prim.Native.Nat.{◌-◌, ◌≤◌}
-use lib.ListN.{length, take}
-use Rattle.picks.proofs.Masks.{Under, under_none, under_all, under_as, under_taken, under_left}
-use mathlib.Core.Logic.{⊎_elim}
+use Prim.Native.Nat.{◌≤◌}
+use lib.ListN.{length}
+use Rattle.picks.proofs.Masks.{under_none, under_all, under_as, under_taken, under_left}
 use Rattle.picks.proofs.choosing.take_by_mask.Goals.{Start, else-b-eq1, then-b-eq1}
 use Rattle.picks.proofs.choosing.take_by_mask.Goals as goal
 
@@ -25,9 +23,6 @@ bounds-to-k c = let v = c.loop-i in omega (arith, v.invariant.1.few, v.invariant
 
 pub overflow_add-c : goal.overflow_add-c
 overflow_add-c c = let v = c.loop-i in omega (arith, v.invariant.1.few, c.requires.0)
-
-pub overflow_add-i : goal.overflow_add-i
-overflow_add-i c = omega (arith, c.requires.0)
 
 pub loop-i-preserved : goal.loop-i-preserved
 loop-i-preserved c = let w = c in

@@ -1,13 +1,8 @@
 -- `picks::choosing::take_by_mask`. The loop: the numbers taken are those of the first i at which the mask has a 1. Assumes nothing.
-use native.Mathlib.Omega.{arith}
-use Prim.Native.Nat.{◌-◌, ◌≤◌}
-use lib.ListN.{length, take}
-use Rattle.picks.proofs.Masks.{Under, under_none, under_all, under_as, under_taken, under_left}
-use mathlib.Core.Logic.{⊎_elim}
+use Prim.Native.Nat.{◌≤◌}
+use lib.ListN.{take}
+use Rattle.picks.proofs.Masks.{Under}
 use Rattle.picks.proofs.choosing.take_by_mask.Given as goal
 
 abbrev pub invariant-loop-i : goal.invariant-loop-i
 invariant-loop-i l = (l.i ≤ l.n) × Under (take l.n l.from) l.mask l.to l.b l.c l.i
-
-abbrev pub decreases-loop-i : goal.decreases-loop-i
-decreases-loop-i l = l.n - l.i

@@ -1,6 +1,5 @@
 use Rattle.std.proofs.Common.{rules}
 use mathlib.Core.Path.{◌≡◌, ◌∙◌, ap, sym}
-use mathlib.Core.Logic.{⊎_elim}
 use lib.ListN.{length}
 use Rattle.picks.proofs.Openings.{unit-multiplier_is, part-gone, part_stays}
 use Rattle.terms.specs.Abstraction.{part_of}

@@ -11,8 +11,8 @@ count-m-requires c = tt
 pub loop-j-init : goal.loop-j-init
 loop-j-init c = (refl, le_of_eq c.count-m.ensures, multiply_first _ _ _ _ c.requires _ c.count-m.ensures)
 
-pub piece_at-p-requires : goal.piece_at-p-requires
-piece_at-p-requires c = (omega (arith, c.loop-j.invariant.1), c.requires.small)
+pub piece_at-requires : goal.piece_at-requires
+piece_at-requires c = (omega (arith, c.loop-j.invariant.1), c.requires.small)
 
 pub overflow_mul-j : goal.overflow_mul-j
 overflow_mul-j c =
@@ -35,7 +35,7 @@ overflow_add-start c =
 pub spread-requires : goal.spread-requires
 spread-requires c =
     spread-asks _ _ _ _ c.requires _ c.loop-j-test.true c.loop-j.invariant.1 _
-    c.loop-j.invariant.2 _ c.piece_at-p.ensures
+    c.loop-j.invariant.2 _ c.piece_at.ensures
 
 pub loop-j-preserved : goal.loop-j-preserved
 loop-j-preserved c = (
@@ -43,7 +43,7 @@ loop-j-preserved c = (
   omega (arith, c.loop-j.invariant.1),
   multiply_back _ _ _ _ c.requires _
       c.loop-j-test.true c.loop-j.invariant.1 _
-      c.loop-j.invariant.2 _ c.piece_at-p.ensures _ c.spread.ensures,
+      c.loop-j.invariant.2 _ c.piece_at.ensures _ c.spread.ensures,
 )
 
 pub overflow_mul-result : goal.overflow_mul-result

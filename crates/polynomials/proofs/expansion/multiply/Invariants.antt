@@ -9,6 +9,3 @@ use Rattle.polynomials.proofs.expansion.multiply.Given as goal
 
 abbrev pub invariant-loop-j : goal.invariant-loop-j
 invariant-loop-j l = (length l.work ≡ length l.initial.work) × (l.j ≤ count_of l.f) × (summands l.work ≡ over (summands l.initial.work) (l.start + l.j * l.n) (times_pieces (drop l.j (pieces l.f)) (take l.n (drop l.start (summands l.initial.work)))))
-
-abbrev pub decreases-loop-j : goal.decreases-loop-j
-decreases-loop-j l = l.j

@@ -19,9 +19,6 @@ few c = omega (arith, places c, c.requires.valid.counted.few)
 pub loop-k-init : goal.loop-k-init
 loop-k-init c = (refl, turn-starts _ _ _ c.requires)
 
-pub overflow_cast-t : goal.overflow_cast-t
-overflow_cast-t c = omega (arith, c.requires.valid.counted.few)
-
 pub offset_bounds-t-k : goal.offset_bounds-t-k
 offset_bounds-t-k c = omega (arith, c.requires.valid.counted.few)
 
@@ -37,9 +34,6 @@ pub multiply-n-requires : goal.multiply-n-requires
 multiply-n-requires c =
     turn_asks _ _ _ c.requires (few (goal.at.multiply-n-requires c).Start) _
     c.loop-k-test.true _ _ c.loop-k.invariant.1 _ c.block_of.ensures
-
-pub overflow_add-k : goal.overflow_add-k
-overflow_add-k c = omega (arith, c.requires.valid.counted.few)
 
 pub loop-k-preserved : goal.loop-k-preserved
 loop-k-preserved c = (

@@ -1,6 +1,5 @@
 -- `polynomials::expansion::times_factors` meets its contract: the summands after k factors stand from `start` on. Assumes nothing.
 use mathlib.Core.Path.{◌≡◌}
-use Prim.Native.Nat.{◌-◌}
 use lib.ListN.{length}
 use Rattle.polynomials.specs.Memory.{summands}
 use Rattle.polynomials.proofs.Expansions.{Turned}
@@ -8,6 +7,3 @@ use Rattle.polynomials.proofs.expansion.times_factors.Given as goal
 
 abbrev pub invariant-loop-k : goal.invariant-loop-k
 invariant-loop-k l = (length l.work ≡ length l.initial.work) × Turned l.start l.t (summands l.initial.work) l.k l.n (summands l.work)
-
-abbrev pub decreases-loop-k : goal.decreases-loop-k
-decreases-loop-k l = l.t.factor_count - l.k

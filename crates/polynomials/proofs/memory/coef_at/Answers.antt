@@ -17,4 +17,4 @@ pub get8-requires : goal.get8-requires
 get8-requires c = omega (arith, within _ _ c.requires)
 
 pub returns : goal.returns
-returns c = coef_read _ _ _ c.requires (back_is (record { sfits = c.of_bits.type_inv }) ∙ c.of_bits.ensures ∙ ap (to_z w64) c.get8.ensures)
+returns c = coef_read _ _ _ c.requires (back_is (record { sfits = c.cast_signed.type_inv }) ∙ c.cast_signed.ensures ∙ ap (to_z w64) c.get8.ensures)

@@ -5,4 +5,4 @@ use Rattle.polynomials.proofs.memory.get8.Goals as goal
 
 pub returns : goal.returns
 unfolding eight
-returns c = omega arith
+returns c = omega (arith, c.from_le_bytes.ensures)

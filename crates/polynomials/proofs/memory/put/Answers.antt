@@ -24,4 +24,4 @@ returns c =
     let w = c in
     summand-put w.args.work.now _ _ w.args.i w.args.key _ _ w.requires w.ranges.key.fits w.ranges.coef
     c.put8.ensures c.put8-2.ensures
-    (c.bits_of.ensures ∙ ap (of_z w64) (back_is w.ranges.coef))
+    (c.cast_unsigned.ensures ∙ ap (of_z w64) (back_is w.ranges.coef))

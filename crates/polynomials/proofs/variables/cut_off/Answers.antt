@@ -7,8 +7,8 @@ use Rattle.polynomials.proofs.variables.cut_off.Goals.{then-a-ne0+else-a-d, else
 pub loop-k-init : goal.loop-k-init
 loop-k-init c = cut-starts _ _ c.ranges.key.fits
 
-pub overflow_mul-m : goal.overflow_mul-m
-overflow_mul-m c = omega (arith, product-most _ _ _ _ _ c.loop-k.invariant, c.ranges.key.fits)
+pub overflow_mul-result : goal.overflow_mul-result
+overflow_mul-result c = omega (arith, product-most _ _ _ _ _ c.loop-k.invariant, c.ranges.key.fits)
 
 pub returns-then-a-d : goal.returns-then-a-d
 returns-then-a-d c = cut-other _ _ _ _ _ c.loop-k.invariant c.loop-k-test.true c.if-a-ne0.true c.if-a-d.true
@@ -26,14 +26,14 @@ loop-k-preserved c =
       | else-a-ne0 w ↦ counted_as w.e-is (cut_none _ _ _ _ _ c.loop-k.invariant c.loop-k-test.true w.if-a-ne0.false)
     ]
 
-pub overflow_add-f : goal.overflow_add-f
-overflow_add-f c = omega (arith, count_few _ _ _ _ _ c.loop-k.invariant)
+pub overflow_add-result : goal.overflow_add-result
+overflow_add-result c = omega (arith, count_few _ _ _ _ _ c.loop-k.invariant)
 
 pub returns-then-k-d : goal.returns-then-k-d
 returns-then-k-d c = cut_last _ _ _ _ _ c.loop-k.invariant c.loop-k-test.false c.requires c.if-k-d.true
 
-pub overflow_mul-m-2 : goal.overflow_mul-m-2
-overflow_mul-m-2 c = omega (arith, product-most _ _ _ _ _ c.loop-k.invariant, c.ranges.key.fits)
+pub overflow_mul-result-2 : goal.overflow_mul-result-2
+overflow_mul-result-2 c = omega (arith, product-most _ _ _ _ _ c.loop-k.invariant, c.ranges.key.fits)
 
 pub returns : goal.returns
 returns c = cut-kept _ _ _ _ _ c.loop-k.invariant c.loop-k-test.false c.if-k-d.false

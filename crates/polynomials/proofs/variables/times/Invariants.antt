@@ -5,7 +5,4 @@ use Rattle.polynomials.proofs.Digits.{Put}
 use Rattle.polynomials.proofs.variables.times.Given as goal
 
 abbrev pub invariant-loop-i : goal.invariant-loop-i
-invariant-loop-i l = Put (placed 7 l.d (l.key / 256)) l.low l.place (7 - l.i) l.d l.left
-
-abbrev pub decreases-loop-i : goal.decreases-loop-i
-decreases-loop-i l = 7 - l.i
+invariant-loop-i l = Put (placed 7 l.d (l.key / 256)) l.low l.place (7 - l._i) l.d l.left

@@ -8,10 +8,10 @@ use Rattle.searching.specs.Searching.{SearchedBy}
 use Rattle.shortening.specs.Derived.{Leads}
 use Rattle.shortening.proofs.rounds.take_rounds.Given as goal
 
-abbrev pub invariant-loop-r : goal.invariant-loop-r
-invariant-loop-r l = Leads l.table (form_by l.kind l.held l.initial.rows l.initial.coefs) l.steps l.n (form_by l.kind l.count l.rows l.coefs) × FormRun l.kind l.count l.rows l.coefs
-    × (length l.marks ≡ 512) × Covering l.marks (run_of l.count l.rows l.coefs) × SearchedBy l.r.found 0 l.table (form_by l.kind l.count l.rows l.coefs) l.r l.to l.tos
+abbrev pub invariant-loop-found : goal.invariant-loop-found
+invariant-loop-found l = Leads l.table (form_by l.kind l.held l.initial.rows l.initial.coefs) l.steps l.n (form_by l.kind l.count l.rows l.coefs) × FormRun l.kind l.count l.rows l.coefs
+    × (length l.marks ≡ 512) × Covering l.marks (run_of l.count l.rows l.coefs) × SearchedBy 0 l.table (form_by l.kind l.count l.rows l.coefs) l.found l.to l.tos
     × (length l.rows ≡ length l.initial.rows) × (length l.coefs ≡ length l.initial.coefs) × (length l.to ≡ length l.initial.to) × (length l.tos ≡ length l.initial.tos)
 
-abbrev pub decreases-loop-r : goal.decreases-loop-r
-decreases-loop-r l = l.count
+abbrev pub decreases-loop-found : goal.decreases-loop-found
+decreases-loop-found l = l.count
