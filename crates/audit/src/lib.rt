@@ -5,17 +5,18 @@ ghost use Rattle.specification.specs.Auditing.{Audited};
 ghost use Rattle.audit.specs.Answers.{verdict_of};
 ghost use Rattle.audit.specs.Auditing.{Said, LogAudited};
 
-use checker::{Checked, check, first_form, last_form};
+use checker::{check, first_form, last_form};
 use decision::{BUFFER_BYTES, Decision, WORK_BYTES, decide};
 use letters::check_table;
-use shortening::{Shortening, shorten};
+use refusal::Refusal;
+use shortening::{Written, shorten};
 
 // What the audit says: the log's length and its steps, where shortening, the checker and the decision agree; or refused with its number.
 // That they do not agree never comes: the contract says so.
 #[derive(Clone, Copy)]
 pub enum Verdict {
-    Agreed(usize, usize),
-    Refused(u8),
+    Agreed(Written),
+    Refused(Refusal),
     Apart,
 }
 
@@ -34,19 +35,15 @@ fn says_holds(d: Decision) -> bool
 pub fn ends_hold(table: &[u8], log: &[u8], steps: usize, buffer: &mut [u8], work: &mut [u8]) -> bool
     ensures { LogAudited table.now log.now steps buffer.old work.old result buffer.new work.new }
 {
-    let c = check(table, log);
-    match c {
-        Checked::Refused(_, _) => false,
-        Checked::Accepted(a, b, n) => {
-            if n != steps {
-                return false;
-            }
-            let first = first_form(log, a);
-            let last = last_form(log, b);
-            let d = decide(table, first, last, buffer, work);
-            says_holds(d)
-        }
+    let Ok(a) = check(table, log) else {
+        return false;
+    };
+    if a.steps != steps {
+        return false;
     }
+    let first = first_form(log, a.first_end);
+    let last = last_form(log, a.last_start);
+    says_holds(decide(table, first, last, buffer, work))
 }
 
 // A form shortened, its log checked, and the ends decided.
@@ -60,24 +57,22 @@ pub fn audit(
 ) -> Verdict
     ensures { Audited table.now form.now out.old buffer.old work.old (verdict_of result) out.new buffer.new work.new }
 {
-    let bad = check_table(table);
-    if bad != 0 {
-        return Verdict::Refused(bad);
+    if let Err(e) = check_table(table) {
+        return Verdict::Refused(e);
     }
     if buffer.len() < BUFFER_BYTES {
-        return Verdict::Refused(2);
+        return Verdict::Refused(Refusal::NoRoom);
     }
     if work.len() < WORK_BYTES {
-        return Verdict::Refused(2);
+        return Verdict::Refused(Refusal::NoRoom);
     }
-    let s = shorten(table, form, out);
-    match s {
-        Shortening::Refused(n) => Verdict::Refused(n),
-        Shortening::Written(size, steps) => {
-            if ends_hold(table, &out[..size], steps, buffer, work) {
-                return Verdict::Agreed(size, steps);
+    match shorten(table, form, out) {
+        Ok(w) => {
+            if ends_hold(table, &out[..w.size], w.steps, buffer, work) {
+                return Verdict::Agreed(w);
             }
             Verdict::Apart
         }
+        Err(e) => Verdict::Refused(e),
     }
 }

@@ -195,13 +195,13 @@ fn run_shortened(table: &[u8], form: &[u8], p: usize, q: usize) {
 // What the audit says: the terms of the log's first form and of its last where all agree.
 fn print_verdict(v: Verdict, table: &[u8], form: &[u8], out: &[u8], work: &[u8]) {
     match v {
-        Verdict::Agreed(size, steps) => {
+        Verdict::Agreed(w) => {
             io::write_all(1, b"agreed ");
-            print_log(table, form, front(out, size), steps);
-            print_standing(behind(out, size));
+            print_log(table, form, front(out, w.size), w.steps);
+            print_standing(behind(out, w.size));
         }
-        Verdict::Refused(n) => {
-            print_refusal(n);
+        Verdict::Refused(why) => {
+            print_refusal(why);
             print_standing(out);
             print_standing(work);
         }

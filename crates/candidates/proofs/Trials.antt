@@ -1,6 +1,6 @@
 -- The candidate by a pick: none, or the one step whose M takes the term away exactly. Assumes nothing.
 use mathlib.Core.Path.{◌≡◌, refl, sym, ap, subst, ◌∙◌}
-use mathlib.Core.Bool.{Bool, true, false, ◌&&◌}
+use mathlib.Core.Bool.{Bool, true, false, ◌&&◌, true≢false}
 use mathlib.Core.Logic.{◌⊎◌, inl, inr, ⊎_elim}
 use mathlib.Core.List.{List, [], ◌++◌}
 use Prim.Native.Nat.{ℕ, ◌+◌, ◌*◌, ◌/◌, ◌%◌, ◌^◌, ◌<◌, ◌≤◌}
@@ -13,7 +13,6 @@ use lib.IntN as I
 use lib.ListN.{length, length-map, get_or, take}
 use lib.Seq.{length-take-le, get_or-take}
 use Rattle.algebra.specs.Integers.{NonZero, zero_or_not, *ℤ_cancel, nat_abs-neg, nat_abs_zero}
-use Rattle.integers.specs.declared.Quotient.{Quotient}
 use Rattle.integers.specs.Arithmetic.{Divided}
 use Rattle.specification.specs.Results.{when◌then◌else◌}
 use Rattle.specification.specs.Lists.{ascend, joined}
@@ -38,7 +37,7 @@ use Rattle.rules.specs.declared.steps.Step.{Step}
 use Rattle.rules.specs.Steps.{step_of, StepValid, StepFits}
 use Rattle.rules.proofs.Taking.{few-letters}
 use Rattle.picks.specs.declared.choosing.Opening.{Opening}
-use Rattle.std.specs.Prelude.{Option, Some, None}
+use Rattle.std.specs.Prelude.{Option, Some, None, is_some}
 use Rattle.candidates.specs.declared.trying.Next.{Next}
 use Rattle.picks.specs.Choosing.{bit_digits, Shut, Opened, OpenedBy, picks, PickedBy}
 use Rattle.marking.specs.Marks.{size_mark, Sized}
@@ -49,6 +48,9 @@ use Rattle.picks.proofs.Openings.{candidate-opens}
 
 neg-zero : (z : ℤ) → neg_ℤ z ≡ pos 0 → z ≡ pos 0
 neg-zero z e = nat_abs_zero z (sym (nat_abs-neg z) ∙ ap nat_abs e)
+
+some-not_none : (q : ℤ) → ◌≡◌ {A = Option ℤ} (Some q) None → ⊥
+some-not_none q e = true≢false (ap is_some e)
 
 -- a factor of a number that is not 0
 factor-alive : (c g z : ℤ) → NonZero z → c *ℤ g ≡ neg_ℤ z → NonZero c
@@ -152,44 +154,45 @@ module _ (marks : List ℕ) (t : Term) (rule : ℕ) (o : Opening) (j : ℕ) (ls 
   tried-long s es valid long = record { is = λ kind k opened. long_hopeless 0 kind k s es opened valid long (λ c ex. inl refl); counted = tt }
 
   -- the quotient decides
-  module _ (q : Quotient) (g c : ℤ) (valid : TermValid t) (eg : g ≡ coeff (monomial (term_of t))
+  module _ (g c : ℤ) (valid : TermValid t) (eg : g ≡ coeff (monomial (term_of t))
       (gather (step_terms (step_of (record { rule = rule; letters = ls; m = o.m })))))
-      (ec : c ≡ neg_ℤ t.coef) (d : Divided c g q) where
+      (ec : c ≡ neg_ℤ t.coef) where
     alive : NonZero t.coef
     unfolding term_of
     alive = (term-opens (term_of t) valid.in_shape).nonzero
 
+    -- what M takes away exactly, by the gain
+    exact_is : (kind k : ℕ) → Opened kind t k rule o → (n : ℤ) → n *ℤ gain (term_of t) k rule j ≡ neg_ℤ t.coef → n *ℤ g ≡ c
+    exact_is kind k opened n e = ap (λ (z : ℤ). n *ℤ z) (gain_is kind k opened g eg) ∙ e ∙ sym ec
+
     -- no quotient
-    none : (kind k : ℕ) → Opened kind t k rule o → q.exact ≡ false → (n : ℤ) → n *ℤ gain (term_of t) k rule j ≡ neg_ℤ t.coef → ⊥
-    none kind k opened x n e =
-        let is : g ≡ gain (term_of t) k rule j = gain_is kind k opened g eg in
-        let product : n *ℤ g ≡ c = ap (λ (z : ℤ). n *ℤ z) is ∙ e ∙ sym ec in
-        ⊎_elim (λ z. alive (neg-zero t.coef (sym e ∙ ap (λ (z : ℤ). n *ℤ z) (sym is ∙ z) ∙ I.*ℤ-zero n)))
-        (λ z. subst T (sym (d.found n product z) ∙ x) tt) (zero_or_not g)
+    none : Divided c g None → (kind k : ℕ) → Opened kind t k rule o → (n : ℤ) → n *ℤ gain (term_of t) k rule j ≡ neg_ℤ t.coef → ⊥
+    none d kind k opened n e =
+        ⊎_elim (λ z. alive (neg-zero t.coef (sym ec ∙ sym (exact_is kind k opened n e) ∙ ap (λ (y : ℤ). n *ℤ y) z ∙ I.*ℤ-zero n)))
+        (λ z. true≢false (sym (d.found n (exact_is kind k opened n e) z))) (zero_or_not g)
 
     -- one quotient
-    one : (kind k : ℕ) → Opened kind t k rule o → q.exact ≡ true → (n : ℤ) → n *ℤ gain (term_of t) k rule j ≡ neg_ℤ t.coef → n ≡ q.value
-    one kind k opened x n e =
-        let is : g ≡ gain (term_of t) k rule j = gain_is kind k opened g eg in
-        *ℤ_cancel g n q.value (λ z. subst T (sym x ∙ d.by_zero z) tt)
-        (I.*ℤ_comm g n ∙ ap (λ (z : ℤ). n *ℤ z) is ∙ e ∙ sym ec ∙ sym (d.product x) ∙ I.*ℤ_comm q.value g)
+    one : (q : ℤ) → Divided c g (Some q) → (kind k : ℕ) → Opened kind t k rule o → (n : ℤ) → n *ℤ gain (term_of t) k rule j ≡ neg_ℤ t.coef → n ≡ q
+    one q d kind k opened n e =
+        *ℤ_cancel g n q (λ z. some-not_none q (d.by_zero z))
+        (I.*ℤ_comm g n ∙ exact_is kind k opened n e ∙ sym d.product ∙ I.*ℤ_comm q g)
 
     -- there is none
-    pub tried_inexact : q.exact ≡ false → Tried marks t rule o j None
+    pub tried_inexact : Divided c g None → Tried marks t rule o j None
     unfolding Settled Hopeless term_of
-    tried_inexact x = record { is = λ kind k opened hk hj table f n h shape cover r known can e s. absurd (none kind k opened x n e); counted = tt }
+    tried_inexact d = record { is = λ kind k opened hk hj table f n h shape cover r known can e s. absurd (none d kind k opened n e); counted = tt }
 
     -- M's coefficient has the size of the quotient, and with it the step surely leads to no fewer terms
-    pub tried-sized : q.exact ≡ true → (s : Step) (size : ℕ) → s ≡ record { rule = rule; letters = ls; m = o.m } → size ≡ size_mark q.value
+    pub tried-sized : (q : ℤ) → Divided c g (Some q) → (s : Step) (size : ℕ) → s ≡ record { rule = rule; letters = ls; m = o.m } → size ≡ size_mark q
         → NotShorter marks size (step_of s) → Tried marks t rule o j None
     unfolding Settled Sized
-    tried-sized x s size es e long = record {
-      is = λ kind k opened. long_hopeless size kind k s es opened valid long (λ n ex. inr (e ∙ ap size_mark (sym (one kind k opened x n ex))));
+    tried-sized q d s size es e long = record {
+      is = λ kind k opened. long_hopeless size kind k s es opened valid long (λ n ex. inr (e ∙ ap size_mark (sym (one q d kind k opened n ex))));
       counted = tt;
     }
 
-    pub tried-by : q.exact ≡ true → (m : Term) → Counted o.m → m ≡ record {
-      coef = q.value;
+    pub tried-by : (q : ℤ) → Divided c g (Some q) → (m : Term) → Counted o.m → m ≡ record {
+      coef = q;
       factors = o.m.factors;
       factor_count = o.m.factor_count;
       part =
@@ -197,8 +200,8 @@ module _ (marks : List ℕ) (t : Term) (rule : ℕ) (o : Opening) (j : ℕ) (ls 
     }
         → Tried marks t rule o j (Some (record { rule = rule; letters = ls; m = m }))
     unfolding Settled OnlyStep term_of
-    tried-by x m counted em = record {
-      is = λ kind k opened. inr (λ n can e. ap (candidate (term_of t) k rule j) (one kind k opened x n e) ∙ step_is kind k opened q.value
+    tried-by q d m counted em = record {
+      is = λ kind k opened. inr (λ n can e. ap (candidate (term_of t) k rule j) (one q d kind k opened n e) ∙ step_is kind k opened q
           ∙ ap (λ (u : Term). step_of (record { rule = rule; letters = ls; m = u })) (sym em));
       counted = subst Counted (sym em) (record { few = counted.few; small = counted.small });
     }

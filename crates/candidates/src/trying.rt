@@ -42,18 +42,14 @@ fn try_pick(marks: &[u8; 512], t: Term, rule: u8, o: Opening, j: usize) -> Optio
     if surely_longer(marks, 0, s, w) {
         return None;
     }
-    let q = divide(neg(t.coef), gain(t, s, w));
-    if !q.exact {
+    let q = divide(neg(t.coef), gain(t, s, w))?;
+    if surely_longer(marks, size_mark(q), s, w) {
         return None;
     }
-    if surely_longer(marks, size_mark(q.value), s, w) {
-        return None;
-    }
-    let n = with_coef(q.value, m);
     Some(Step {
         rule,
         letters,
-        m: n,
+        m: with_coef(q, m),
     })
 }
 

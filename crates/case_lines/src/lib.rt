@@ -5,9 +5,10 @@ ghost use Rattle.std.specs.Prelude.{◌≡◌, ◌+◌, ◌*◌, ◌^◌, ◌≤
 ghost use Rattle.case_lines.specs.Filling.{AllFilling, Stand};
 ghost use Rattle.evaluation.specs.Vectors.{vec_of, Within};
 
+use evaluation::value;
 use evaluation::vectors::Vector;
-use evaluation::{Valued, value};
 use integers::{is_negative, less, size};
+use refusal::Refusal;
 
 // A byte as a number.
 pub fn byte_at(s: &[u8], i: usize) -> usize
@@ -81,9 +82,9 @@ pub fn print_signed(a: i64) {
 }
 
 // R and the number of a refusal.
-pub fn print_refusal(n: u8) {
+pub fn print_refusal(why: Refusal) {
     print_character(b'R');
-    io::print_decimal(1, n as u64);
+    io::print_decimal(1, why.number() as u64);
 }
 
 // What every byte lent is before a call: no number of an assignment, and in a record only a byte of a coefficient.
@@ -166,10 +167,9 @@ fn print_vector(v: Vector)
 
 // What the value call answers.
 pub fn print_values(table: &[u8], form: &[u8], assignment: &[u8]) {
-    let r = value(table, form, assignment);
-    match r {
-        Valued::Given(v) => print_vector(v),
-        Valued::Refused(n) => print_refusal(n),
+    match value(table, form, assignment) {
+        Ok(v) => print_vector(v),
+        Err(why) => print_refusal(why),
     }
 }
 

@@ -5,7 +5,8 @@
 ghost use Rattle.std.specs.Prelude.{◌<◌, length};
 
 use case_lines::{byte_at, print_character, print_refusal};
-use checker::{Checked, check};
+use checker::{Accepted, check};
+use logs::steps::RefusedAt;
 
 // A number behind a blank.
 fn print_number(n: u64) {
@@ -14,25 +15,24 @@ fn print_number(n: u64) {
 }
 
 // An accepted log.
-fn print_accepted(a: usize, b: usize, n: usize) {
+fn print_accepted(a: Accepted) {
     io::write_all(1, b"accepted");
-    print_number(a as u64);
-    print_number(b as u64);
-    print_number(n as u64);
+    print_number(a.first_end as u64);
+    print_number(a.last_start as u64);
+    print_number(a.steps as u64);
 }
 
 // A refused log.
-fn print_refused(n: u8, k: u8) {
-    print_refusal(n);
-    print_number(k as u64);
+fn print_refused(e: RefusedAt) {
+    print_refusal(e.why);
+    print_number(e.step as u64);
 }
 
 // The line of a case.
 fn print_case(table: &[u8], log: &[u8]) {
-    let r = check(table, log);
-    match r {
-        Checked::Accepted(a, b, n) => print_accepted(a, b, n),
-        Checked::Refused(n, k) => print_refused(n, k),
+    match check(table, log) {
+        Ok(a) => print_accepted(a),
+        Err(e) => print_refused(e),
     }
     print_character(b'\n');
 }

@@ -5,91 +5,99 @@ use mathlib.Core.List.{List}
 use Prim.Native.Nat.{ℕ, ◌+◌}
 use borrow.Author.Tests.{eq-eqb, ne_eqb}
 use lib.ListN.{length}
-use Rattle.specification.specs.Results.{Test, refused, given, when◌then◌else◌}
+use Rattle.specification.specs.Results.{Result, Test}
 use Rattle.specification.specs.Letters.{test_table}
 use Rattle.specification.specs.Records.{test_terms}
-use Rattle.specification.specs.Logs.{Log, refused_at, accepted, at_step, read_log, steps_letters, replay, check_call}
+use Rattle.specification.specs.Logs.{Log, refused_at, accepted, read_log, steps_letters, replay, check_call}
 use Rattle.specification.specs.Logs as L
 use Rattle.terms.specs.declared.types.Form.{Form}
 use Rattle.terms.specs.Abstraction.{form_of, terms_of}
-use Rattle.letters.specs.Tested.{test_of}
-use Rattle.letters.proofs.LetterTests.{test-passed, test_refused}
 use Rattle.logs.specs.declared.steps.Steps.{Steps}
-use Rattle.logs.specs.declared.steps.Refusal.{Refusal}
-use Rattle.replaying.specs.declared.Replayed.{Replayed}
+use Rattle.std.specs.Prelude.{Ok, Err}
+use Rattle.std.specs.Prelude as Std
+use Rattle.refusal.specs.declared.Refusal.{Refusal}
+use Rattle.refusal.specs.Numbers.{number_of}
+use Rattle.refusal.specs.Tests.{answer_of, test_of}
+use Rattle.logs.specs.declared.steps.RefusedAt.{RefusedAt}
+use Rattle.logs.specs.declared.reading.LogReading.{LogReading}
+use Rattle.logs.specs.Reading.{parts_of, log_read_of}
+use Rattle.logs.specs.Steps.{at_step}
+use Rattle.logs.proofs.AtSteps.{ends_at, goes_on_at}
 use Rattle.logs.specs.Steps.{steps_of, found_of, StepsTested}
 use Rattle.replaying.specs.Replaying.{ReplayedAs}
 
 -- ════ the call
 
-module _ (table s : List ℕ) (bad : ℕ) (tb : test_of bad ≡ test_table table) where
-  pub table-bad : (bad ≡ 0 → ⊥) → refused_at bad 0 ≡ check_call table s
+module _ (table s : List ℕ) (bad : Std.Result (Unit {0}) Refusal) (tb : test_of bad ≡ test_table table) where
+  abbrev behind_shape : Log → L.Checked
+  behind_shape log =
+      L.at_step 0 (test_terms table log.first.terms) λ _.
+      steps_letters table 1 log.steps
+      (L.at_step (length log.steps + 1) (test_terms table log.last.terms) λ _.
+      replay log 1 log.first log.steps)
+
+  by_table : check_call table s ≡ L.at_step 0 (test_of bad) (λ _. L.at_step 0 (read_log s) behind_shape)
   unfolding check_call
-  table-bad h = sym (rw (← tb, test_refused bad h))
+  by_table = ap (λ (t : Test). L.at_step 0 t (λ _. L.at_step 0 (read_log s) behind_shape)) (sym tb)
 
-  module _ (z : bad ≡ 0) where
-    pub shape-bad : read_log s ≡ refused 11 → refused_at 11 0 ≡ check_call table s
-    unfolding check_call
-    shape-bad e = sym (rw (← tb, test-passed bad z, e))
+  pub table-bad : (e : RefusedAt) → Err e ≡ at_step bad 0 → check_call table s ≡ refused_at (number_of e.why) e.step
+  table-bad e h = by_table ∙ ends_at (λ _. tt) 0 _ bad e h
 
-    module _ (f g : Form) (a b : ℕ) (q : Steps)
-        (e : read_log s ≡ given (record { first = form_of f; first_end = a; steps = steps_of q; last_start = b; last = form_of g })) where
-      -- the log
-      abbrev log : Log
-      log = record { first = form_of f; first_end = a; steps = steps_of q; last_start = b; last = form_of g }
+  module _ (z : Unit {0}) (hz : Ok z ≡ at_step bad 0) (read : Std.Result LogReading Refusal) (tr : log_read_of read ≡ read_log s) where
+    by_shape : check_call table s ≡ L.at_step 0 (answer_of parts_of read) behind_shape
+    unfolding log_read_of
+    by_shape = by_table ∙ goes_on_at (λ _. tt) 0 _ bad z hz ∙ ap (λ (x : Result Log). L.at_step 0 x behind_shape) (sym tr)
+
+    pub shape-bad : (e : RefusedAt) → Err e ≡ at_step read 0 → check_call table s ≡ refused_at (number_of e.why) e.step
+    shape-bad e h = by_shape ∙ ends_at parts_of 0 behind_shape read e h
+
+    module _ (q : LogReading) (hq : Ok q ≡ at_step read 0) (first : Std.Result (Unit {0}) Refusal) (tf : test_of first ≡ test_terms table (terms_of q.first)) where
+      by_log : check_call table s ≡ behind_shape (parts_of q)
+      by_log = by_shape ∙ goes_on_at parts_of 0 behind_shape read q hq
 
       -- what follows the letters of the first form
+      abbrev behind_steps : L.Checked
+      behind_steps = L.at_step (length (steps_of q.steps) + 1) (test_terms table (terms_of q.last)) λ _. replay (parts_of q) 1 (form_of q.first) (steps_of q.steps)
+
       abbrev behind_first : L.Checked
-      behind_first =
-          steps_letters table 1 (steps_of q)
-          (at_step (length (steps_of q) + 1) (test_terms table (terms_of g)) λ _. replay log 1 (form_of f) (steps_of q))
+      behind_first = steps_letters table 1 (steps_of q.steps) behind_steps
 
-      by_log : check_call table s ≡ at_step 0 (test_terms table (terms_of f)) (λ _. behind_first)
-      unfolding check_call form_of terms_of
-      by_log = rw (← tb, test-passed bad z, e)
+      by_first : check_call table s ≡ L.at_step 0 (test_of first) (λ _. behind_first)
+      unfolding parts_of form_of terms_of
+      by_first = by_log ∙ ap (λ (t : Test). L.at_step 0 t (λ _. behind_first)) (sym tf)
 
-      module _ (r : ℕ) (tr : test_of r ≡ test_terms table (terms_of f)) where
-        pub first_letters : (r ≡ 0 → ⊥) → refused_at r 0 ≡ check_call table s
-        first_letters h = sym (by_log ∙ ap (λ (t : Test). at_step 0 t (λ _. behind_first)) (sym tr ∙ test_refused r h))
+      pub first_letters : (e : RefusedAt) → Err e ≡ at_step first 0 → check_call table s ≡ refused_at (number_of e.why) e.step
+      first_letters e h = by_first ∙ ends_at (λ _. tt) 0 _ first e h
 
-        module _ (zr : r ≡ 0) (d : Refusal) (td : StepsTested table q d) where
-          by_steps : check_call table s ≡ found_of d.number d.step (at_step (length (steps_of q) + 1)
-              (test_terms table (terms_of g)) λ _. replay log 1 (form_of f) (steps_of q))
-          by_steps =
-              by_log ∙ ap (λ (t : Test). at_step 0 t (λ _. behind_first)) (sym tr ∙ test-passed r zr)
-              ∙ td.is (at_step (length (steps_of q) + 1) (test_terms table (terms_of g)) λ _. replay log 1 (form_of f) (steps_of q))
+      module _ (zf : Unit {0}) (hf : Ok zf ≡ at_step first 0) where
+        behind-first : check_call table s ≡ behind_first
+        behind-first = by_first ∙ goes_on_at (λ _. tt) 0 _ first zf hf
 
-          pub step-letters : (d.number ≡ 0 → ⊥) → refused_at d.number d.step ≡ check_call table s
+        pub step-letters : (e : RefusedAt) → StepsTested table q.steps (Err e) → check_call table s ≡ refused_at (number_of e.why) e.step
+        unfolding found_of
+        step-letters e td = behind-first ∙ td.is behind_steps
+
+        module _ (zs : Unit {0}) (td : StepsTested table q.steps (Ok zs)) (long : length (steps_of q.steps) ≡ q.steps.count)
+            (last : Std.Result (Unit {0}) Refusal) (tl : test_of last ≡ test_terms table (terms_of q.last)) where
+          by_last : check_call table s ≡ L.at_step (q.steps.count + 1) (test_of last) (λ _. replay (parts_of q) 1 (form_of q.first) (steps_of q.steps))
           unfolding found_of
-          step-letters h = sym (by_steps ∙ rw (ne_eqb d.number 0 h))
+          by_last = behind-first ∙ td.is behind_steps ∙ (λ i. L.at_step (long i + 1) (sym tl i) (λ _. replay (parts_of q) 1 (form_of q.first) (steps_of q.steps)))
 
-          module _ (zd : d.number ≡ 0) (n : ℕ) (long : length (steps_of q) ≡ n) (l : ℕ) (tl : test_of l ≡ test_terms table (terms_of g)) where
-            by_last : check_call table s ≡ at_step (n + 1) (test_terms table (terms_of g)) (λ _. replay log 1 (form_of f) (steps_of q))
+          pub last_letters_lem : (e : RefusedAt) → Err e ≡ at_step last (q.steps.count + 1) → check_call table s ≡ refused_at (number_of e.why) e.step
+          last_letters_lem e h = by_last ∙ ends_at (λ _. tt) (q.steps.count + 1) _ last e h
+
+          module _ (zl : Unit {0}) (hl : Ok zl ≡ at_step last (q.steps.count + 1)) where
+            by-replay : (p : Std.Result (Unit {0}) RefusedAt) → ReplayedAs q.first q.steps q.last p
+                → check_call table s ≡ found_of p (λ _. accepted q.first_end q.last_start (length (steps_of q.steps)))
+            unfolding parts_of
+            by-replay p w = by_last ∙ goes_on_at (λ _. tt) (q.steps.count + 1) _ last zl hl ∙ w.is (parts_of q) refl
+
+            -- a step is refused, or another form reached
+            pub step_taken : (e : RefusedAt) → ReplayedAs q.first q.steps q.last (Err e) → check_call table s ≡ refused_at (number_of e.why) e.step
             unfolding found_of
-            by_last = by_steps ∙ rw (eq-eqb d.number 0 zd) (ap (λ (m : ℕ). at_step (m + 1) (test_terms table (terms_of g)) (λ _. replay log 1 (form_of f)
-                (steps_of q))) long)
+            step_taken e w = by-replay (Err e) w
 
-            pub last_letters_lem : (l ≡ 0 → ⊥) → refused_at l (n + 1) ≡ check_call table s
-            last_letters_lem h = sym (by_last ∙ ap (λ (t : Test). at_step (n + 1) t (λ _. replay log 1 (form_of f) (steps_of q))) (sym tl ∙ test_refused l h))
-
-            module _ (zl : l ≡ 0) (p : Replayed) (w : ReplayedAs f q g p) where
-              by-replay : check_call table s ≡ found_of p.number p.step (when p.same then accepted a b (length (steps_of q)) else refused_at 13 (q.count + 1))
-              by-replay = by_last ∙ ap (λ (t : Test). at_step (n + 1) t (λ _. replay log 1 (form_of f) (steps_of q))) (sym tl ∙ test-passed l zl) ∙ w.is log refl
-
-              pub step_taken : (p.number ≡ 0 → ⊥) → refused_at p.number p.step ≡ check_call table s
-              unfolding found_of
-              step_taken h = sym (by-replay ∙ rw (ne_eqb p.number 0 h))
-
-              module _ (zp : p.number ≡ 0) (c : q.count ≡ n) where
-                by-ends : check_call table s ≡ (when p.same then accepted a b (length (steps_of q)) else refused_at 13 (n + 1))
-                unfolding found_of
-                by-ends = by-replay ∙ rw (eq-eqb p.number 0 zp) (ap (λ (m : ℕ). when p.same then accepted a b (length (steps_of q)) else refused_at 13 (m + 1))
-                    c)
-
-                -- another form was reached
-                pub not-reached : p.same ≡ false → refused_at 13 (n + 1) ≡ check_call table s
-                not-reached h = sym (by-ends ∙ rw h)
-
-                -- accepted
-                pub all_accepted : p.same ≡ true → accepted a b n ≡ check_call table s
-                all_accepted h = sym (by-ends ∙ rw h (ap (accepted a b) long))
+            -- accepted
+            pub all_accepted : (zp : Unit {0}) → ReplayedAs q.first q.steps q.last (Ok zp) → check_call table s ≡ accepted q.first_end q.last_start q.steps.count
+            unfolding found_of
+            all_accepted zp w = by-replay (Ok zp) w ∙ ap (accepted q.first_end q.last_start) long

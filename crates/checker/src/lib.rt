@@ -7,50 +7,32 @@ ghost use Rattle.checker.specs.Answers.{checked_of};
 
 use letters::{check_table, test_terms};
 use logs::reading::read_log;
-use logs::steps::test_steps;
+use logs::steps::{RefusedAt, at_step, test_steps};
 use replaying::replay;
 
-// The checker's answer: accepted, with where the first form ends, where the last begins and the number of steps; or refused with number and step.
+// An accepted log: where its first form ends, where the last begins, and the number of its steps.
 #[derive(Clone, Copy)]
-pub enum Checked {
-    Accepted(usize, usize, usize),
-    Refused(u8, u8),
+pub struct Accepted {
+    pub first_end: usize,
+    pub last_start: usize,
+    pub steps: usize,
 }
 
-// The answer for a table and a log.
-pub fn check(table: &[u8], log: &[u8]) -> Checked
+// The answer for a table and a log: accepted, or refused with number and step.
+pub fn check(table: &[u8], log: &[u8]) -> Result<Accepted, RefusedAt>
     ensures { checked_of result ≡ check_call table.now log.now }
 {
-    let bad = check_table(table);
-    if bad != 0 {
-        return Checked::Refused(bad, 0);
-    }
-    let q = read_log(log);
-    if !q.ok {
-        return Checked::Refused(11, 0);
-    }
-    let n = q.steps.count;
-    let behind = (n + 1) as u8;
-    let at_first = test_terms(table, q.first);
-    if at_first != 0 {
-        return Checked::Refused(at_first, 0);
-    }
-    let found = test_steps(table, q.steps);
-    if found.number != 0 {
-        return Checked::Refused(found.number, found.step);
-    }
-    let at_last = test_terms(table, q.last);
-    if at_last != 0 {
-        return Checked::Refused(at_last, behind);
-    }
-    let reached = replay(q.first, q.steps, q.last);
-    if reached.number != 0 {
-        return Checked::Refused(reached.number, reached.step);
-    }
-    if !reached.same {
-        return Checked::Refused(13, behind);
-    }
-    Checked::Accepted(q.first_end, q.last_start, n)
+    at_step(check_table(table), 0)?;
+    let q = at_step(read_log(log), 0)?;
+    at_step(test_terms(table, q.first), 0)?;
+    test_steps(table, q.steps)?;
+    at_step(test_terms(table, q.last), q.steps.count as u8 + 1)?;
+    replay(q.first, q.steps, q.last)?;
+    Ok(Accepted {
+        first_end: q.first_end,
+        last_start: q.last_start,
+        steps: q.steps.count,
+    })
 }
 
 // The first form of an accepted log as a part of it, by where it ends; the whole log where that is past its end.

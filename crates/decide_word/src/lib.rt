@@ -7,6 +7,7 @@ ghost use Rattle.telling.specs.Told.{AnswerTold};
 use decision_telling::tell_decision;
 use declarations::read_header;
 use lines::places::line_behind;
+use refusal::Refusal;
 use refusals::tell_line;
 use sides::sides_at;
 
@@ -22,15 +23,13 @@ pub fn decide_text(s: &[u8], out: &mut [u8]) -> usize
     };
     let p = h.place;
     let n = h.count;
-    let r = sides_at(&names[..n], &table[..n], s, p);
-    if r.refusal != 0 {
-        return tell_line(s, r.refusal, p, r.column, out);
-    }
+    let (f, g) = match sides_at(&names[..n], &table[..n], s, p) {
+        Ok(both) => both,
+        Err(e) => return tell_line(s, e.why.number(), p, e.column, out),
+    };
     let q = line_behind(s, p);
     if q.at < s.len() {
-        return tell_line(s, 4, q, 0, out);
+        return tell_line(s, Refusal::Torn.number(), q, 0, out);
     }
-    let f = r.first;
-    let g = r.second;
     tell_decision(out, &names[..n], &table[..n], f, g)
 }

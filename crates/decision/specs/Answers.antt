@@ -1,5 +1,6 @@
 -- The answer of the decision: document 01's number and value for each case. Assumes nothing.
 use Rattle.specification.specs.Decision as S
+use Rattle.refusal.specs.Numbers.{number_of}
 use Rattle.decision.specs.declared.Decision.{Decision}
 use Rattle.decision.specs.declared.Decision.TheVariants.{Holds, Differs, Refused}
 
@@ -7,4 +8,4 @@ use Rattle.decision.specs.declared.Decision.TheVariants.{Holds, Differs, Refused
 unfoldable pub decision_of : Decision → S.Decision
 decision_of Holds = S.holds
 decision_of Differs = S.differs
-decision_of (Refused n) = S.undecided n
+decision_of (Refused e) = S.undecided (number_of e)

@@ -1,7 +1,8 @@
 // The decision: whether two forms are equal under every assignment, or the first under which they differ.
 #![tactic(auto)]
 
-ghost use Rattle.specification.specs.Decision.{Decided};
+ghost use Rattle.specification.specs.Decision.{decide_tested, Decided};
+ghost use Rattle.forms.specs.Reading.{BothRead};
 ghost use Rattle.decision.specs.Settling.{Components, Decidable, DecidedSo};
 ghost use Rattle.decision.specs.Answers.{decision_of};
 
@@ -9,6 +10,7 @@ use elimination::components::compare;
 use firsts::keep_first;
 use forms::read_both;
 use letters::check_table;
+use refusal::Refusal;
 use terms::types::Form;
 
 // Bytes of the buffer that the decision takes at least.
@@ -17,12 +19,12 @@ pub const BUFFER_BYTES: usize = 72;
 // Work bytes that it takes at least: 3,456 monomials.
 pub const WORK_BYTES: usize = 55296;
 
-// What the decision says.
+// What the decision says. An enum, since the customer's document asks for it: holds, differs, refused with its number.
 #[derive(Clone, Copy)]
 pub enum Decision {
     Holds,
     Differs,
-    Refused(u8),
+    Refused(Refusal),
 }
 
 // How many components of two forms of a kind are compared: scalar forms have one, and vector forms may differ in any of three first.
@@ -49,8 +51,31 @@ pub fn settle(table: &[u8], f: Form, g: Form, m: u8, buffer: &mut [u8], work: &m
     Decision::Holds
 }
 
-// Whether two forms are equal under every assignment, or the first under which they differ, in the buffer.
-// Refused with 1 for the table, 2 for short memory, 11 for either form, then 5 or 6 for letters, 6 for unlike kinds.
+// The two forms, if every test is passed: 1 for the table, 2 for short memory, 11 for either form, then 5 or 6 for letters, 6 for unlike kinds.
+fn two_forms(
+    table: &[u8],
+    first: &[u8],
+    second: &[u8],
+    buffer: &[u8],
+    work: &[u8],
+) -> Result<(Form, Form), Refusal>
+    ensures { BothRead (decide_tested table.now first.now second.now buffer.now work.now) result }
+{
+    check_table(table)?;
+    if buffer.len() < BUFFER_BYTES {
+        return Err(Refusal::NoRoom);
+    }
+    if work.len() < WORK_BYTES {
+        return Err(Refusal::NoRoom);
+    }
+    let (f, g) = read_both(table, first, second)?;
+    if f.kind != g.kind {
+        return Err(Refusal::WrongKind);
+    }
+    Ok((f, g))
+}
+
+// Whether two forms are equal under every assignment, or the first under which they differ, in the buffer; or the refusal of the first test that fails.
 pub fn decide(
     table: &[u8],
     first: &[u8],
@@ -60,26 +85,8 @@ pub fn decide(
 ) -> Decision
     ensures { Decided table.now first.now second.now buffer.old work.old (decision_of result) buffer.new work.new }
 {
-    let n = check_table(table);
-    if n != 0 {
-        return Decision::Refused(n);
+    match two_forms(table, first, second, buffer, work) {
+        Ok((f, g)) => settle(table, f, g, components(f.kind), buffer, work),
+        Err(e) => Decision::Refused(e),
     }
-    if buffer.len() < BUFFER_BYTES {
-        return Decision::Refused(2);
-    }
-    if work.len() < WORK_BYTES {
-        return Decision::Refused(2);
-    }
-    let b = read_both(table, first, second);
-    let p = b.refusal;
-    if p != 0 {
-        return Decision::Refused(p);
-    }
-    let f = b.first;
-    let g = b.second;
-    if f.kind != g.kind {
-        return Decision::Refused(6);
-    }
-    let m = components(f.kind);
-    settle(table, f, g, m, buffer, work)
 }

@@ -25,8 +25,8 @@ fn print_case(table: &[u8], first: &[u8], second: &[u8], buffer: &mut [u8], work
             io::write_all(1, b"differs");
             print_assignment(table, buffer);
         }
-        Decision::Refused(n) => {
-            print_refusal(n);
+        Decision::Refused(why) => {
+            print_refusal(why);
             print_standing(buffer);
             print_standing(work);
         }

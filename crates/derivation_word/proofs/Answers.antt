@@ -41,20 +41,19 @@ use Rattle.printing.proofs.Named.{printable}
 use Rattle.log_lines.specs.Printed.{StepsPrintable}
 use Rattle.log_lines.proofs.Named.{steps-printable}
 use Rattle.formulas.specs.Readings.{Named}
-use Rattle.formula_call.specs.declared.TextForm.{TextForm}
-use Rattle.formula_call.specs.Texts.{text_form_of, TextGives}
-use Rattle.formula_call.proofs.Given.{text_refused, text_given, gives_as}
+use Rattle.formula_call.specs.Texts.{TextGives}
 use Rattle.std.specs.Prelude.{Ok, Err}
+use Rattle.std.specs.Prelude as Std
+use Rattle.refusal.specs.declared.Refusal.{Refusal}
+use Rattle.refusal.specs.declared.Refusal.TheVariants.{BadTable, Torn}
 use Rattle.refusal.specs.Numbers.{number_of}
+use Rattle.refusal.specs.Tests.{test_of}
 use Rattle.texts.specs.declared.Unread.{Unread}
 use Rattle.declarations.specs.Names.{named_of, NamesRead}
-use Rattle.log_texts.specs.declared.steps.StepLine.{StepLine}
 use Rattle.log_texts.specs.Steps.{StepLineRead}
-use Rattle.open_log.specs.declared.adding.Answer as adding
-use Rattle.open_log.specs.declared.adding.Answer.TheVariants.{Taken, Refused}
 use Rattle.open_log.specs.declared.adding.Added.{Added}
 use Rattle.open_log.specs.States.{state_of, StateValid}
-use Rattle.open_log.specs.Added.{answer_of, AddedAs}
+use Rattle.open_log.specs.Added.{AddedAs}
 use Rattle.open_log.proofs.Additions.{stood_refused, stood_given}
 use Rattle.telling.specs.Told.{Tells}
 use Rattle.telling.proofs.Pieces.{tells-nothing}
@@ -176,43 +175,47 @@ module _ (d : Derivation) (valid : DerivationValid d) (e : d.begun ≡ false) (k
 
 module _ (names table line : List ℕ) where
   -- no names
-  pub first_nameless : (r : TextForm) → length names ≡ 0 → r.refusal ≡ 1 → r.column ≡ 0 → TextGives (read_first names table line) r
-  unfolding read_first text_form_of
-  first_nameless r e n c = record {
-    is = rw (ne_eqb r.refusal 0 (λ z. omega (arith, n, z)), n, c, lt-leb 1 (length names) (omega arith));
-    valid = λ z. absurd (omega (arith, n, z));
-  }
-
-  pub first_named : (r : TextForm) → (length names ≡ 0 → ⊥) → TextGives (read_form_line names table line) r → TextGives (read_first names table line) r
+  pub first_nameless : length names ≡ 0 → TextGives (read_first names table line) (Err (record { why = BadTable; column = 0 }))
   unfolding read_first
-  first_named r e g = gives_as _ _ r (sym (rw (le-leb 1 (length names) (omega arith)))) g
+  first_nameless e = record { is = rw (lt-leb 1 (length names) (omega arith)); valid = tt }
 
-module _ (d : Derivation) (valid : DerivationValid d) (e : d.begun ≡ false) (k : ℕ) (line : List ℕ) (t : TextForm)
-    (g : TextGives (read_first (names_of d) (kinds_of d) line) t) where
-  pub first_column : (t.refusal ≡ 0 → ⊥) → t.column ≤ length line
-  first_column h =
-      column_in line (read_first (names_of d) (kinds_of d) line) t.refusal t.column (first_within (names_of d) (kinds_of d) line) (text_refused _ t g h)
+  pub first_named : (r : Std.Result Form Unread) → (length names ≡ 0 → ⊥) → TextGives (read_form_line names table line) r → TextGives (read_first names table line) r
+  unfolding read_first
+  first_named r e g = record { is = g.is ∙ sym (rw (le-leb 1 (length names) (omega arith))); valid = g.valid }
 
-  module _ (z : t.refusal ≡ 0) where
-    first-is : read_first (names_of d) (kinds_of d) line ≡ placed (form_of t.form)
-    first-is = text_given _ t g z
+module _ (d : Derivation) (valid : DerivationValid d) (e : d.begun ≡ false) (k : ℕ) (line : List ℕ) where
+  module _ (r : Unread) (g : TextGives (read_first (names_of d) (kinds_of d) line) (Err r)) where
+    pub first_column : r.column ≤ length line
+    first_column =
+        column_in line (read_first (names_of d) (kinds_of d) line) (number_of r.why) r.column (first_within (names_of d) (kinds_of d) line) (sym g.is)
 
-    opens : Leading (names_of d) (form_of t.form) (record { table = kinds_of d; count = 0; form = form_of t.form }) []
-    opens = first_goes (names_of d) (kinds_of d) line (form_of t.form) (good d valid e) first-is
+    pub first_refused : (n : ℕ) → n ≡ number_of r.why → (before after : List ℕ) (at end : ℕ) → Tells before after at end (refusal_text n k r.column line)
+        → LineTold (line_read k line (derivation_of d) (read_first (names_of d) (kinds_of d) line) (first_answer (names_of d) (kinds_of d))) before after at
+        (record { derivation = d; end = end })
+    first_refused n q before after at end t =
+        refused_line d valid k line before after at (read_first (names_of d) (kinds_of d) line) (first_answer (names_of d) (kinds_of d)) n r.column end
+        (sym g.is ∙ ap (λ (m : ℕ). refused_at m r.column) (sym q)) t
 
-    pub first_printable : Printable (names_of d) t.form
+  module _ (f : Form) (g : TextGives (read_first (names_of d) (kinds_of d) line) (Ok f)) where
+    first-is : read_first (names_of d) (kinds_of d) line ≡ placed (form_of f)
+    first-is = sym g.is
+
+    opens : Leading (names_of d) (form_of f) (record { table = kinds_of d; count = 0; form = form_of f }) []
+    opens = first_goes (names_of d) (kinds_of d) line (form_of f) (good d valid e) first-is
+
+    pub first_printable : Printable (names_of d) f
     first_printable =
-        printable (kinds_of d) (names_of d) (omega (arith, names-long d valid, kinds-long d valid)) t.form (g.valid z) opens.derives.first_tested
+        printable (kinds_of d) (names_of d) (omega (arith, names-long d valid, kinds-long d valid)) f g.valid opens.derives.first_tested
 
     pub first_taken : (before after : List ℕ) (at end : ℕ) (steps : Steps) → steps.count ≡ 0 → length steps.steps ≡ 64
-        → Tells before after at end (form_line (names_of d) (form_of t.form))
+        → Tells before after at end (form_line (names_of d) (form_of f))
         → LineTold (line_read k line (derivation_of d) (read_first (names_of d) (kinds_of d) line) (first_answer (names_of d) (kinds_of d))) before after at
         (record {
           derivation = record {
             begun = true;
             names = d.names;
-            state = record { letters = d.state.letters; table = d.state.table; count = 0; form = t.form };
-            first = t.form;
+            state = record { letters = d.state.letters; table = d.state.table; count = 0; form = f };
+            first = f;
             steps = steps;
           };
           end = end;
@@ -222,13 +225,13 @@ module _ (d : Derivation) (valid : DerivationValid d) (e : d.begun ≡ false) (k
         let next : Derivation = record {
           begun = true;
           names = d.names;
-          state = record { letters = d.state.letters; table = d.state.table; count = 0; form = t.form };
-          first = t.form;
+          state = record { letters = d.state.letters; table = d.state.table; count = 0; form = f };
+          first = f;
           steps = steps;
         } in
         let nothing : map step_of (take steps.count steps.steps) ≡ [] = ap (λ (n : ℕ). map step_of (take n steps.steps)) none in
-        let same : derivation_of next ≡ underway (names_of d) (form_of t.form) (record { table = kinds_of d; count = 0; form = form_of t.form }) [] =
-        ap (underway (names_of d) (form_of t.form) (record { table = kinds_of d; count = 0; form = form_of t.form })) nothing in
+        let same : derivation_of next ≡ underway (names_of d) (form_of f) (record { table = kinds_of d; count = 0; form = form_of f }) [] =
+        ap (underway (names_of d) (form_of f) (record { table = kinds_of d; count = 0; form = form_of f })) nothing in
         let shapes : StepsValid steps = record { few = omega (arith, none); long = places; steps = subst (λ (n : ℕ). All StepValid (take n steps.steps)) (sym none) tt } in
         subst (λ x. LineTold (line_read k line (derivation_of d) x (first_answer (names_of d) (kinds_of d))) before after at (record { derivation = next; end = end })) (sym first-is)
         (record {
@@ -239,27 +242,23 @@ module _ (d : Derivation) (valid : DerivationValid d) (e : d.begun ≡ false) (k
             named = valid.named;
             kinds = valid.kinds;
             going = subst Going (sym same) opens;
-            whole = λ _. record { first = g.valid z; form = g.valid z; steps = shapes };
+            whole = λ _. record { first = g.valid; form = g.valid; steps = shapes };
           };
         })
 
 -- ════ a step
 
 -- the line is none
-pub step-none : (names table line : List ℕ) (b : Bool) (r : StepLine) → b ≡ is_step_line line → b ≡ false → r.refusal ≡ 4 → r.column ≡ skip line 0
-    → StepTyped (read_one_step names table line) r
+pub step-none : (names table line : List ℕ) (b : Bool) (at : ℕ) → b ≡ is_step_line line → b ≡ false → at ≡ skip line 0
+    → StepTyped (read_one_step names table line) (Err (record { why = Torn; column = at }))
 unfolding read_one_step
-step-none names table line b r e h n c = record {
-  refuses = λ _. rw (sym e ∙ h, n, c);
-  gives = λ z. absurd (omega (arith, n, z));
-  valid = λ z. absurd (omega (arith, n, z));
-}
+step-none names table line b at e h c = record { is = rw (sym e ∙ h, c); valid = tt }
 
-pub step-some : (names table line : List ℕ) (b : Bool) (r : StepLine) → b ≡ is_step_line line → b ≡ true → StepLineRead names table line r → StepTyped (read_one_step names table line) r
+pub step-some : (names table line : List ℕ) (b : Bool) (r : Std.Result Step Unread) → b ≡ is_step_line line → b ≡ true → StepLineRead names table line r → StepTyped (read_one_step names table line) r
 unfolding read_one_step
 step-some names table line b r e h read =
     let same : read_one_step names table line ≡ read_step_line names table line = rw (sym e ∙ h) in
-    record { refuses = λ z. same ∙ read.refuses z; gives = λ z. same ∙ read.gives z; valid = read.valid }
+    record { is = same ∙ read.is; valid = read.valid }
 
 -- what was written in front of bytes
 pub record-front : (l m : List ℕ) (n : ℕ) (xs : List ℕ) → Written l m 0 n xs → take n m ≡ xs
@@ -301,42 +300,51 @@ step-stored d valid e few step v f =
       };
     }
 
-module _ (d : Derivation) (valid : DerivationValid d) (e : d.begun ≡ true) (k : ℕ) (line : List ℕ) (q : StepLine)
-    (typed : StepTyped (read_one_step (names_of d) (kinds_of d) line) q) where
+module _ (d : Derivation) (valid : DerivationValid d) (e : d.begun ≡ true) (k : ℕ) (line : List ℕ) where
   -- what is done with a step
   abbrev added : R.Step → C.Derivation × List ℕ
   added step = step_answer (names_of d) (form_of d.first) (state_of d.state) (steps_of d.steps) step (add_to (state_of d.state) (write_step step))
 
-  pub step-column : (q.refusal ≡ 0 → ⊥) → q.column ≤ length line
-  step-column h =
-      column_in line (read_one_step (names_of d) (kinds_of d) line) q.refusal q.column (one_step-within (names_of d) (kinds_of d) line) (typed.refuses h)
+  module _ (r : Unread) (typed : StepTyped (read_one_step (names_of d) (kinds_of d) line) (Err r)) where
+    pub step-column : r.column ≤ length line
+    step-column =
+        column_in line (read_one_step (names_of d) (kinds_of d) line) (number_of r.why) r.column (one_step-within (names_of d) (kinds_of d) line) typed.is
 
-  module _ (z : q.refusal ≡ 0) (a : Added) (was : AddedAs (state_of d.state) (write_step (step_of q.step)) a) where
-    by-added : (end : ℕ) (before after : List ℕ) (at : ℕ) (next : Derivation) (x : Result O.State) → add_to (state_of d.state) (write_step (step_of q.step)) ≡ x
-        → LineTold (step_answer (names_of d) (form_of d.first) (state_of d.state) (steps_of d.steps) (step_of q.step) x) before after at (record { derivation = next; end = end })
+    pub step_unread : (n : ℕ) → n ≡ number_of r.why → (before after : List ℕ) (at end : ℕ) → Tells before after at end (refusal_text n k r.column line)
+        → LineTold (line_read k line (derivation_of d) (read_one_step (names_of d) (kinds_of d) line) added) before after at (record { derivation = d; end = end })
+    step_unread n w before after at end t =
+        refused_line d valid k line before after at (read_one_step (names_of d) (kinds_of d) line) added n r.column end
+        (typed.is ∙ ap (λ (m : ℕ). refused_at m r.column) (sym w)) t
+
+  module _ (q : Step) (typed : StepTyped (read_one_step (names_of d) (kinds_of d) line) (Ok q)) (a : Added) (was : AddedAs (state_of d.state) (write_step (step_of q)) a) where
+    by-added : (end : ℕ) (before after : List ℕ) (at : ℕ) (next : Derivation) (x : Result O.State) → add_to (state_of d.state) (write_step (step_of q)) ≡ x
+        → LineTold (step_answer (names_of d) (form_of d.first) (state_of d.state) (steps_of d.steps) (step_of q) x) before after at (record { derivation = next; end = end })
         → LineTold (line_read k line (derivation_of d) (read_one_step (names_of d) (kinds_of d) line) added) before after at (record { derivation = next; end = end })
     unfolding line_read
     by-added end before after at next x s t =
-        subst (λ y. LineTold (line_read k line (derivation_of d) y added) before after at (record { derivation = next; end = end })) (sym (typed.gives z))
-        (subst (λ y. LineTold (step_answer (names_of d) (form_of d.first) (state_of d.state) (steps_of d.steps) (step_of q.step) y) before after at (record { derivation = next; end = end }))
+        subst (λ y. LineTold (line_read k line (derivation_of d) y added) before after at (record { derivation = next; end = end })) (sym typed.is)
+        (subst (λ y. LineTold (step_answer (names_of d) (form_of d.first) (state_of d.state) (steps_of d.steps) (step_of q) y) before after at (record { derivation = next; end = end }))
         (sym s) t)
 
     -- the step is refused
-    pub add_refused_lem : (n : ℕ) → a.answer ≡ Refused n → (before after : List ℕ) (at end : ℕ) → Tells before after at end (checked_text 0 0 (L.refused_at n (d.state.count + 1)))
+    pub add_refused_lem : (w : Refusal) → a.answer ≡ Err w → (n : ℕ) → n ≡ number_of w → (before after : List ℕ) (at end : ℕ) → Tells before after at end (checked_text 0 0 (L.refused_at n (d.state.count + 1)))
         → LineTold (line_read k line (derivation_of d) (read_one_step (names_of d) (kinds_of d) line) added) before after at (record { derivation = d; end = end })
-    unfolding step_refused step_answer answer_of state_of
-    add_refused_lem n h before after at end t =
-        let s = stood_refused (state_of d.state) (state_of a.state) (add_to (state_of d.state) (write_step (step_of q.step))) n
-        (ap (λ (x : adding.Answer). (answer_of x, state_of a.state)) (sym h) ∙ was.is) in
-        by-added end before after at d (refused n) s (record { is = is_open d valid e; tells = t; valid = valid })
+    unfolding step_refused step_answer state_of
+    add_refused_lem w h n m before after at end t =
+        let s = stood_refused (state_of d.state) (state_of a.state) (add_to (state_of d.state) (write_step (step_of q))) (number_of w)
+        (ap (λ (x : Std.Result (Unit {0}) Refusal). (test_of x, state_of a.state)) (sym h) ∙ was.is) in
+        by-added end before after at d (refused (number_of w)) s (record {
+          is = is_open d valid e;
+          tells = subst (λ (j : ℕ). Tells before after at end (checked_text 0 0 (L.refused_at j (d.state.count + 1)))) m t;
+          valid = valid;
+        })
 
     -- it is taken
-    module _ (h : a.answer ≡ Taken) where
-      add_given : add_to (state_of d.state) (write_step (step_of q.step)) ≡ given (state_of a.state)
-      unfolding answer_of
+    module _ (u : Unit {0}) (h : a.answer ≡ Ok u) where
+      add_given : add_to (state_of d.state) (write_step (step_of q)) ≡ given (state_of a.state)
       add_given =
-          stood_given (state_of d.state) (state_of a.state) (add_to (state_of d.state) (write_step (step_of q.step)))
-          (ap (λ (x : adding.Answer). (answer_of x, state_of a.state)) (sym h) ∙ was.is)
+          stood_given (state_of d.state) (state_of a.state) (add_to (state_of d.state) (write_step (step_of q)))
+          (ap (λ (x : Std.Result (Unit {0}) Refusal). (test_of x, state_of a.state)) (sym h) ∙ was.is)
 
       -- there was room for it
       pub add-room : d.state.count < 64
@@ -348,38 +356,38 @@ module _ (d : Derivation) (valid : DerivationValid d) (e : d.begun ≡ true) (k 
       unfolding add_to state_of kinds_of
       reached_is =
           past (ltb d.state.count 64) 14 _ (state_of a.state) add_given λ _ e₁.
-          into (step_from (kinds_of d) (form_of d.state.form) (write_step (step_of q.step))) _ (state_of a.state) e₁ λ reached _ e₃.
+          into (step_from (kinds_of d) (form_of d.state.form) (write_step (step_of q))) _ (state_of a.state) e₁ λ reached _ e₃.
           let same = given_same e₃ in
           let form : reached ≡ form_of a.state.form = ap (λ (s : O.State). s.form) same in
           sym same ∙ ap (λ f. record { table = kinds_of d; count = d.state.count + 1; form = f }) form
 
       -- the step of a line is in shape
-      in_shape_lem : T (R.step_in_shape (step_of q.step))
+      in_shape_lem : T (R.step_in_shape (step_of q))
       unfolding read_one_step state_of kinds_of
-      in_shape_lem = go (is_step_line line) (typed.gives z)
+      in_shape_lem = go (is_step_line line) typed.is
         where
-          go : (b : Bool) → (when b then read_step_line (names_of d) (kinds_of d) line else refused_at 4 (skip line 0)) ≡ placed (step_of q.step) → T (R.step_in_shape (step_of q.step))
+          go : (b : Bool) → (when b then read_step_line (names_of d) (kinds_of d) line else refused_at 4 (skip line 0)) ≡ placed (step_of q) → T (R.step_in_shape (step_of q))
           go false p = absurd (refused≢placed p)
-          go true p = step-line-shape (names_of d) (kinds_of d) (leading d valid e).derives.table_good (leading d valid e).names_good line (step_of q.step) p
+          go true p = step-line-shape (names_of d) (kinds_of d) (leading d valid e).derives.table_good (leading d valid e).names_good line (step_of q) p
 
       leads : Leading (names_of d) (form_of d.first) (record { table = kinds_of d; count = d.state.count + 1; form = form_of a.state.form })
-          (steps_of d.steps ++ step_of q.step ∷ [])
+          (steps_of d.steps ++ step_of q ∷ [])
       leads =
-          subst (λ (s : O.State). Leading (names_of d) (form_of d.first) s (steps_of d.steps ++ step_of q.step ∷ [])) reached_is
-          (step-goes (names_of d) (form_of d.first) (state_of d.state) (steps_of d.steps) (step_of q.step) (state_of a.state) (leading d valid e) in_shape_lem add_given)
+          subst (λ (s : O.State). Leading (names_of d) (form_of d.first) s (steps_of d.steps ++ step_of q ∷ [])) reached_is
+          (step-goes (names_of d) (form_of d.first) (state_of d.state) (steps_of d.steps) (step_of q) (state_of a.state) (leading d valid e) in_shape_lem add_given)
 
       pub reached-printable : Printable (names_of d) a.state.form
       reached-printable =
           printable (kinds_of d) (names_of d) (omega (arith, names-long d valid, kinds-long d valid)) a.state.form was.valid.form leads.derives.last_tested
 
-      pub add_taken : (before after : List ℕ) (at end : ℕ) (next : Derivation) → StepAdded d q.step a.state.form next
+      pub add_taken : (before after : List ℕ) (at end : ℕ) (next : Derivation) → StepAdded d q a.state.form next
           → Tells before after at end (form_line (names_of d) (form_of a.state.form))
           → LineTold (line_read k line (derivation_of d) (read_one_step (names_of d) (kinds_of d) line) added) before after at (record { derivation = next; end = end })
       unfolding step_answer state_of Going
       add_taken before after at end next more t =
           by-added end before after at next (given (state_of a.state)) add_given (record {
             is = more.is
-                ∙ ap (λ (s : O.State). underway (names_of d) (form_of d.first) s (steps_of d.steps ++ step_of q.step ∷ [])) (sym reached_is);
+                ∙ ap (λ (s : O.State). underway (names_of d) (form_of d.first) s (steps_of d.steps ++ step_of q ∷ [])) (sym reached_is);
             tells = t;
             valid = record {
               few = more.few;

@@ -20,6 +20,8 @@ use Rattle.specification.proofs.Computing.{computing}
 use Rattle.specification.proofs.TextExamples.{computing_text}
 use Rattle.specification.proofs.LogTextExamples.{computing_lines}
 use Rattle.theory.proofs.Text.Derivations.{lines-first}
+use Rattle.refusal.specs.declared.Refusal.TheVariants.{FullLog}
+use Rattle.refusal.specs.Numbers.{number_of}
 use Rattle.terms.specs.Abstraction.{form_of}
 use Rattle.logs.specs.Steps.{steps_of}
 use Rattle.lines.specs.declared.places.Place.{Place}
@@ -68,11 +70,15 @@ module _ (d : D.Derivation) (k : ℕ) (line before after : List ℕ) (at : ℕ) 
         (λ step. step_answer (names_of d) (form_of d.first) (state_of d.state) (steps_of d.steps) step (add_to (state_of d.state) (write_step step)))) before after at r) q t)
 
     -- it is
-    pub open_full : c ≡ true → (end : ℕ) → Tells before after at end (checked_text 0 0 (Logs.refused_at 14 (d.state.count + 1)))
+    pub open_full : c ≡ true → (n : ℕ) → n ≡ number_of FullLog → (end : ℕ) → Tells before after at end (checked_text 0 0 (Logs.refused_at n (d.state.count + 1)))
         → LineTold (answer_line k line (derivation_of d)) before after at (record { derivation = d; end = end })
     unfolding step_refused state_of
-    open_full w end t =
-        told-open (record { derivation = d; end = end }) (rw w (record { is = is_open d valid o; tells = t; valid = valid }))
+    open_full w n m end t =
+        told-open (record { derivation = d; end = end }) (rw w (record {
+          is = is_open d valid o;
+          tells = subst (λ (j : ℕ). Tells before after at end (checked_text 0 0 (Logs.refused_at j (d.state.count + 1)))) m t;
+          valid = valid;
+        }))
 
     -- it is not
     pub open_step : c ≡ false → (r : Answered)

@@ -1,8 +1,9 @@
 -- A derivation as data, and what a line leaves of it. Assumes nothing.
-use Rattle.std.specs.Prelude.{◌≡◌, Bool, true, false, List, ◌∷◌, ◌++◌, [], ℕ, ◌+◌, ◌≤◌, length, take}
+use Rattle.std.specs.Prelude.{◌≡◌, IfOk, Bool, true, false, List, ◌∷◌, ◌++◌, [], ℕ, ◌+◌, ◌≤◌, length, take}
+use Rattle.std.specs.Prelude as Std
 use Rattle.specification.specs.Results.{when◌then◌else◌}
 use Rattle.specification.specs.Rules as R
-use Rattle.specification.specs.Text.{Placed, refused_at, placed}
+use Rattle.specification.specs.Text.{Placed}
 use Rattle.specification.specs.Commands.{unopened, underway}
 use Rattle.specification.specs.Commands as C
 use Rattle.specification.specs.OpenLogs.{add_to}
@@ -14,7 +15,8 @@ use Rattle.terms.specs.Valid.{FormValid}
 use Rattle.rules.specs.declared.steps.Step.{Step}
 use Rattle.rules.specs.Steps.{step_of, StepValid}
 use Rattle.logs.specs.Steps.{steps_of, StepsValid}
-use Rattle.log_texts.specs.declared.steps.StepLine.{StepLine}
+use Rattle.texts.specs.declared.Unread.{Unread}
+use Rattle.texts.specs.Readings.{placed_of}
 use Rattle.open_log.specs.States.{state_of}
 use Rattle.telling.specs.Told.{Tells}
 use Rattle.derivation_word.specs.declared.reading.Derivation.{Derivation}
@@ -64,10 +66,9 @@ pub record LineTold (x : C.Derivation × List ℕ) (before after : List ℕ) (at
   pub valid : DerivationValid r.derivation
 
 -- the step of a line, or the refusal at its column
-pub record StepTyped (x : Placed R.Step) (r : StepLine) : Type 0 where
-  pub refuses : (r.refusal ≡ 0 → ⊥) → x ≡ refused_at r.refusal r.column
-  pub gives : r.refusal ≡ 0 → x ≡ placed (step_of r.step)
-  pub valid : r.refusal ≡ 0 → StepValid r.step
+pub record StepTyped (x : Placed R.Step) (r : Std.Result Step Unread) : Type 0 where
+  pub is : x ≡ placed_of step_of r
+  pub valid : IfOk r StepValid
 
 -- one step more, and the form that it leads to
 pub record StepAdded (d : Derivation) (step : Step) (f : Form) (r : Derivation) : Type 0 where

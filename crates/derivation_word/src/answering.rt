@@ -10,15 +10,21 @@ use lines::places::is_empty_line;
 use log_texts::reading::is_step_line;
 use logs::steps::no_steps;
 use open_log::state::State;
-use terms::build::refuse;
+use refusal::Refusal;
+use terms::build::no_term;
+use terms::types::Form;
 use verdicts::tell_step_refusal;
 
 // Nothing is declared and nothing is open; the forms count for nothing.
 pub fn start() -> Derivation
     ensures { DerivationValid result × (derivation_of result ≡ unopened [] []) }
 {
-    let o = refuse(11);
-    let f = o.form;
+    let terms = [no_term(); 48];
+    let f = Form {
+        kind: 0,
+        count: 0,
+        terms,
+    };
     let table = [0u8; 24];
     let state = State {
         letters: 0,
@@ -54,7 +60,7 @@ fn open_line(d: Derivation, k: usize, line: &[u8], out: &mut [u8], at: usize) ->
     let state = d.state;
     let count = state.count;
     if is_one_too_many(count, line) {
-        let end = tell_step_refusal(out, at, 14, count + 1);
+        let end = tell_step_refusal(out, at, Refusal::FullLog.number(), count + 1);
         return Answered { derivation: d, end };
     }
     step_line(d, k, line, out, at)

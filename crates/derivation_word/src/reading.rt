@@ -11,19 +11,19 @@ ghost use Rattle.open_log.specs.Added.{AddedAs};
 ghost use Rattle.derivation_word.specs.Derivations.{names_of, kinds_of, derivation_of, DerivationValid, read_as_first, read_as_step, LineTold, StepTyped, StepAdded};
 
 use declarations::declare;
-use formula_call::TextForm;
 use log_telling::tell_form;
-use log_texts::kinds::{read_form_line, unread};
+use log_texts::kinds::read_form_line;
 use log_texts::reading::is_step_line;
-use log_texts::steps::{StepLine, no_step_line, read_step_line};
+use log_texts::steps::read_step_line;
 use logs::steps::{Steps, no_steps};
 use logs::writing::write_step;
-use open_log::adding::{Added, Answer, add_step};
+use open_log::adding::{Added, add_step};
 use open_log::state::State;
+use refusal::Refusal;
 use refusals::tell_refusal;
 use rules::steps::Step;
 use terms::types::Form;
-use texts::past_blanks;
+use texts::{Unread, past_blanks};
 use verdicts::tell_step_refusal;
 
 // A derivation: its names, and the table of their kinds in the state; where it is open, the state of its log, the first form and the steps taken.
@@ -81,12 +81,15 @@ pub fn names_line(d: Derivation, k: usize, line: &[u8], out: &mut [u8], at: usiz
 }
 
 // The first form: 1 where no names are declared.
-fn read_first(names: &[u8], table: &[u8], line: &[u8]) -> TextForm
+fn read_first(names: &[u8], table: &[u8], line: &[u8]) -> Result<Form, Unread>
     requires { Named names.now table.now }
     ensures { TextGives (read_first names.now table.now line.now) result }
 {
     if names.len() == 0 {
-        return unread(1, 0);
+        return Err(Unread {
+            why: Refusal::BadTable,
+            column: 0,
+        });
     }
     read_form_line(names, table, line)
 }
@@ -100,12 +103,13 @@ pub fn first_line(d: Derivation, k: usize, line: &[u8], out: &mut [u8], at: usiz
     let before = d.state;
     let n = before.letters;
     let table = before.table;
-    let t = read_first(&names[..n], &table[..n], line);
-    if t.refusal != 0 {
-        let end = tell_refusal(out, at, t.refusal, k, t.column, line);
-        return Answered { derivation: d, end };
-    }
-    let f = t.form;
+    let f = match read_first(&names[..n], &table[..n], line) {
+        Ok(f) => f,
+        Err(e) => {
+            let end = tell_refusal(out, at, e.why.number(), k, e.column, line);
+            return Answered { derivation: d, end };
+        }
+    };
     let end = tell_form(out, at, &names[..n], f);
     let state = State {
         letters: n,
@@ -128,13 +132,16 @@ pub fn first_line(d: Derivation, k: usize, line: &[u8], out: &mut [u8], at: usiz
 }
 
 // A step: 4 for a line that is none.
-fn read_one_step(names: &[u8], table: &[u8], line: &[u8]) -> StepLine
+fn read_one_step(names: &[u8], table: &[u8], line: &[u8]) -> Result<Step, Unread>
     requires { Named names.now table.now }
     ensures { StepTyped (read_one_step names.now table.now line.now) result }
 {
     if !is_step_line(line) {
         let at = past_blanks(line, 0);
-        return no_step_line(4, at);
+        return Err(Unread {
+            why: Refusal::Torn,
+            column: at,
+        });
     }
     read_step_line(names, table, line)
 }
@@ -187,20 +194,20 @@ pub fn step_line(d: Derivation, k: usize, line: &[u8], out: &mut [u8], at: usize
     let before = d.state;
     let n = before.letters;
     let table = before.table;
-    let q = read_one_step(&names[..n], &table[..n], line);
-    if q.refusal != 0 {
-        let end = tell_refusal(out, at, q.refusal, k, q.column, line);
-        return Answered { derivation: d, end };
-    }
-    let step = q.step;
+    let step = match read_one_step(&names[..n], &table[..n], line) {
+        Ok(step) => step,
+        Err(e) => {
+            let end = tell_refusal(out, at, e.why.number(), k, e.column, line);
+            return Answered { derivation: d, end };
+        }
+    };
     let a = add_typed(before, step);
-    let answer = a.answer;
-    match answer {
-        Answer::Refused(m) => {
-            let end = tell_step_refusal(out, at, m, before.count + 1);
+    match a.answer {
+        Err(why) => {
+            let end = tell_step_refusal(out, at, why.number(), before.count + 1);
             Answered { derivation: d, end }
         }
-        Answer::Taken => {
+        Ok(()) => {
             let reached = a.state;
             let f = reached.form;
             let end = tell_form(out, at, &names[..n], f);

@@ -1,23 +1,23 @@
 -- The value call from its tests, in their order. Assumes nothing.
-use mathlib.Core.Path.{◌≡◌, sym, ◌∙◌}
+use mathlib.Core.Path.{◌≡◌, sym}
 use mathlib.Core.Bool.{true, false, ◌&&◌}
 use mathlib.Core.List.{List}
 use Prim.Native.Nat.{ℕ, ◌*◌, ◌≤◌}
 use lib.Dec.{eqb}
 use lib.ListN.{length}
-use borrow.Author.Tests.{ne_eqb}
-use Rattle.specification.specs.Results.{refused, given}
 use Rattle.specification.specs.Lists.{all, each}
 use Rattle.specification.specs.Letters.{test_table}
 use Rattle.specification.specs.Records.{take_form}
 use Rattle.specification.specs.Evaluation.{six_or_less, rest_is_zero, good_assignment, assignment, value, value_call}
 use Rattle.theory.specs.Tests.{is_true, holds, and_split}
 use Rattle.theory.specs.Shape.Letters.{table_good_lem, good_short}
-use Rattle.terms.specs.Abstraction.{form_of, outcome_of}
-use Rattle.terms.specs.declared.types.Outcome.{Outcome}
-use Rattle.letters.specs.Tested.{test_of}
+use Rattle.std.specs.Prelude.{Ok, Err}
+use Rattle.refusal.specs.declared.Refusal.{Refusal}
+use Rattle.refusal.specs.declared.Refusal.TheVariants.{WrongAssignment}
+use Rattle.refusal.specs.Tests.{answer_of, test_of}
+use Rattle.terms.specs.declared.types.Form.{Form}
+use Rattle.terms.specs.Abstraction.{form_of}
 use Rattle.evaluation.specs.declared.vectors.Vector.{Vector}
-use Rattle.evaluation.specs.declared.Valued.TheVariants.{Given, Refused}
 use Rattle.evaluation.specs.Vectors.{vec_of}
 use Rattle.evaluation.specs.Answers.{valued_of}
 
@@ -30,38 +30,28 @@ good_small table s e =
     let r = each (length table) (rest_is_zero table s) in
     is_true q (and_split p q (and_split (p && q) r (holds (p && q && r) e)).0).1
 
--- a table that is taken
-module _ (table : List ℕ) (n : ℕ) (e : test_of n ≡ test_table table) (z : n ≡ 0) where
-  table-passed : test_table table ≡ given tt
-  unfolding test_of
-  table-passed = sym e ∙ rw z
-
-  pub table_short : length table ≤ 24
-  table_short = good_short table (table_good_lem table table-passed)
-
-module _ (table form s : List ℕ) (n : ℕ) (e : test_of n ≡ test_table table) where
+module _ (table form s : List ℕ) where
   -- 1 ends the call
-  pub table_refused : (n ≡ 0 → ⊥) → valued_of (Refused n) ≡ value_call table form s
-  unfolding valued_of value_call test_of
-  table_refused h = let q : test_table table ≡ refused n = sym e ∙ rw (ne_eqb n 0 h) in rw q
+  pub table_refused : (e : Refusal) → test_of (Err e) ≡ test_table table → valued_of (Err e) ≡ value_call table form s
+  unfolding value_call
+  table_refused e h = rw (← h)
 
-  module _ (z : n ≡ 0) (r : Outcome) (w : outcome_of r ≡ take_form table form) where
+  module _ (u : Unit {0}) (h : test_of (Ok u) ≡ test_table table) where
+    pub table_short : length table ≤ 24
+    table_short = good_short table (table_good_lem table (sym h))
+
     -- 11, 5 and 6 do
-    pub form_refused : (r.refusal ≡ 0 → ⊥) → valued_of (Refused r.refusal) ≡ value_call table form s
-    unfolding valued_of value_call outcome_of
-    form_refused h = let q : take_form table form ≡ refused r.refusal = sym w ∙ rw (ne_eqb r.refusal 0 h) in rw (table-passed table n e z, q)
+    pub form_refused : (e : Refusal) → answer_of form_of (Err e) ≡ take_form table form → valued_of (Err e) ≡ value_call table form s
+    unfolding value_call
+    form_refused e w = rw (← h, ← w)
 
-    module _ (o : r.refusal ≡ 0) where
-      form_taken_lem : take_form table form ≡ given (form_of r.form)
-      unfolding outcome_of
-      form_taken_lem = sym w ∙ rw o
-
+    module _ (f : Form) (w : answer_of form_of (Ok f) ≡ take_form table form) where
       -- 12 does
-      pub assignment_refused : good_assignment table s ≡ false → valued_of (Refused 12) ≡ value_call table form s
-      unfolding valued_of value_call
-      assignment_refused g = rw (table-passed table n e z, form_taken_lem, g)
+      pub assignment_refused : good_assignment table s ≡ false → valued_of (Err WrongAssignment) ≡ value_call table form s
+      unfolding value_call
+      assignment_refused g = rw (← h, ← w, g)
 
       -- or the value is given
-      pub value_given : good_assignment table s ≡ true → (v : Vector) → vec_of v ≡ value (assignment s) (form_of r.form) → valued_of (Given v) ≡ value_call table form s
-      unfolding valued_of value_call
-      value_given g v p = rw (table-passed table n e z, form_taken_lem, g, p)
+      pub value_given : good_assignment table s ≡ true → (v : Vector) → vec_of v ≡ value (assignment s) (form_of f) → valued_of (Ok v) ≡ value_call table form s
+      unfolding value_call
+      value_given g v p = rw (← h, ← w, g, p)

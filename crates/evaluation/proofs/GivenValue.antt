@@ -15,7 +15,9 @@ use Rattle.theory.specs.Elements.{all_T}
 use Rattle.theory.specs.Records.Positions.{Bytes}
 use Rattle.theory.specs.Records.Forms.{form_one_record}
 use Rattle.theory.specs.Tests.{is_true, given_same, required, tested, bound}
-use Rattle.evaluation.specs.declared.Valued.{Valued}
+use Rattle.std.specs.Prelude as Std
+use Rattle.refusal.specs.declared.Refusal.{Refusal}
+use Rattle.evaluation.specs.declared.vectors.Vector.{Vector}
 use Rattle.evaluation.specs.Vectors.{Within}
 use Rattle.evaluation.specs.Answers.{valued_of}
 use Rattle.evaluation.proofs.Bounds.{within_more, assignment-small, terms-small}
@@ -29,7 +31,7 @@ pub record ValueOf (table form s : List ℕ) (v : Vec) : Type 0 where
   pub assignment_taken : T (good_assignment table s)
   pub is : v ≡ value (assignment s) f
 
-module _ (table form s : List ℕ) (r : Valued) (contract : valued_of r ≡ value_call table form s) where
+module _ (table form s : List ℕ) (r : Std.Result Vector Refusal) (contract : valued_of r ≡ value_call table form s) where
   -- what the call gives
   pub value_at-call : (v : Vec) → valued_of r ≡ given v → ValueOf table form s v
   unfolding value_call

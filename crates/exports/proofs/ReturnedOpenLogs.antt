@@ -6,20 +6,16 @@ use native.Mathlib.Omega.{arith}
 use lib.IntN.{ℤ, pos}
 use Rattle.specification.specs.Results.{Result, Test, refused, given, ◌>>◌}
 use Rattle.specification.specs.OpenLogs.{open_call, add_call, look_call, close_call}
-use Rattle.specification.specs.Returns.{returned, handed, close_returned}
+use Rattle.specification.specs.Returns.{returned, close_returned}
 use Rattle.theory.specs.Records.Positions.{Bytes}
-use Rattle.open_log.specs.declared.Answered.{Answered}
-use Rattle.open_log.specs.declared.Closed.{Closed}
-use Rattle.open_log.specs.declared.Closed.TheVariants as C
+use Rattle.std.specs.Prelude.{Ok, Err}
+use Rattle.std.specs.Prelude as Std
+use Rattle.refusal.specs.declared.Refusal.{Refusal}
+use Rattle.refusal.specs.Numbers.{number_of}
 use Rattle.open_log.specs.Answers.{answered_of, closed_of}
 use Rattle.open_log.proofs.Lengths.{open-length, add_length, look-length}
 
--- what is returned of an answer, with the bytes as the call left them
-pub handed_as : (call : Result ℕ × List ℕ) (a : Answered) (after : List ℕ) (r : ℤ) → (answered_of a, after) ≡ call → r ≡ returned (answered_of a) → (r, after) ≡ handed call
-unfolding handed
-handed_as call a after r contract e = (λ i. (e i, after)) ∙ ap handed contract
-
-module _ (a : Answered) (after : List ℕ) (n : ℕ) (g : answered_of a ≡ given n) where
+module _ (a : Std.Result ℕ Refusal) (after : List ℕ) (n : ℕ) (g : answered_of a ≡ given n) where
   -- the number given by a call
   call_given : (call : Result ℕ × List ℕ) → (answered_of a, after) ≡ call → call.0 ≡ given n
   call_given call contract = ap (λ (x : Result ℕ × List ℕ). x.0) (sym contract) ∙ g
@@ -38,11 +34,11 @@ module _ (a : Answered) (after : List ℕ) (n : ℕ) (g : answered_of a ≡ give
 
 -- ════ closing
 
-module _ (state form : List ℕ) (c : Closed) (contract : closed_of c ≡ close_call state form) where
-  pub close-accepted : c ≡ C.Accepted → pos 0 ≡ close_returned state form
-  unfolding close_returned closed_of returned
-  close-accepted e = ap (λ (t : Test). returned (t >> given 0)) (sym (ap closed_of e) ∙ contract)
+module _ (state form : List ℕ) where
+  pub close-accepted : (u : Unit {0}) → closed_of (Ok u) ≡ close_call state form → pos 0 ≡ close_returned state form
+  unfolding close_returned returned
+  close-accepted u contract = ap (λ (t : Test). returned (t >> given 0)) contract
 
-  pub close_refused : (n : ℕ) → c ≡ C.Refused n → (r : ℤ) → r ≡ returned (refused n) → r ≡ close_returned state form
-  unfolding close_returned closed_of returned
-  close_refused n e r q = q ∙ ap (λ (t : Test). returned (t >> given 0)) (sym (ap closed_of e) ∙ contract)
+  pub close_refused : (e : Refusal) → closed_of (Err e) ≡ close_call state form → (n : ℕ) → n ≡ number_of e → (r : ℤ) → r ≡ returned (refused n) → r ≡ close_returned state form
+  unfolding close_returned returned
+  close_refused e contract n q r p = p ∙ ap (λ (k : ℕ). returned (refused k)) q ∙ ap (λ (t : Test). returned (t >> given 0)) contract

@@ -11,19 +11,19 @@ ghost use Rattle.decision.specs.Answers.{decision_of};
 ghost use Rattle.open_log.specs.Answers.{answered_of};
 
 use audit::{Verdict, audit};
-use checker::{Checked, check};
+use checker::check;
 use decision::{Decision, decide};
+use evaluation::value;
 use evaluation::vectors::Vector;
-use evaluation::{Valued, value};
-use formula_call::{FormulaRead, read_formula};
-use insertion::{Inserted, insert};
+use formula_call::read_formula;
+use insertion::insert;
 use letters::check_table;
 use named_printing::print_named;
-use open_log::{Answered, Closed, add, close, decide_open, look, open};
-use printer_call::Printing;
-use reduction::{Reduced, reduce};
+use open_log::{add, close, decide_open, look, open};
+use reduction::reduce;
+use refusal::Refusal;
 use returning::{put_places, refusal, refusal_at, written};
-use shortening::{Shortening, shorten};
+use shortening::shorten;
 
 // Three numbers in front of the memory lent.
 fn put(values: &mut [i64], v: Vector)
@@ -45,18 +45,18 @@ fn verdict_of(d: Decision) -> i64
     match d {
         Decision::Holds => 0,
         Decision::Differs => 1,
-        Decision::Refused(n) => refusal(n),
+        Decision::Refused(why) => refusal(why.number()),
     }
 }
 
-// What a call on an open log returns that writes a state or a form.
-fn returned_of(a: Answered) -> i64
+// What a call returns that gives a length.
+fn returned_of(a: Result<usize, Refusal>) -> i64
     requires { (n : ℕ) → answered_of a ≡ given n → n < 2 ^ 63 }
     ensures { result ≡ returned (answered_of a) }
 {
     match a {
-        Answered::Written(n) => written(n),
-        Answered::Refused(m) => refusal(m),
+        Ok(n) => written(n),
+        Err(why) => refusal(why.number()),
     }
 }
 
@@ -64,20 +64,19 @@ fn returned_of(a: Answered) -> i64
 pub fn kalzunbi_value(table: &[u8], form: &[u8], assignment: &[u8], values: &mut [i64]) -> i64
     ensures { (result, values.new) ≡ value_returned table.now form.now assignment.now values.old }
 {
-    let n = check_table(table);
-    if n != 0 {
-        return refusal(n);
+    match check_table(table) {
+        Ok(()) => {}
+        Err(why) => return refusal(why.number()),
     }
     if values.len() < 3 {
-        return refusal(2);
+        return refusal(Refusal::NoRoom.number());
     }
-    let r = value(table, form, assignment);
-    match r {
-        Valued::Given(v) => {
+    match value(table, form, assignment) {
+        Ok(v) => {
             put(values, v);
             0
         }
-        Valued::Refused(m) => refusal(m),
+        Err(why) => refusal(why.number()),
     }
 }
 
@@ -85,11 +84,7 @@ pub fn kalzunbi_value(table: &[u8], form: &[u8], assignment: &[u8], values: &mut
 pub fn kalzunbi_reduce(table: &[u8], expression: &[u8], out: &mut [u8]) -> i64
     ensures { (result, out.new) ≡ reduce_returned table.now expression.now out.old }
 {
-    let r = reduce(table, expression, out);
-    match r {
-        Reduced::Written(n) => written(n),
-        Reduced::Refused(m) => refusal(m),
-    }
+    returned_of(reduce(table, expression, out))
 }
 
 // A form with a vector form for one of its vector letters, the record written into the bytes lent: its length, or minus 1, 2, 11, then 5 or 6, then 7, 8, 9 or 10.
@@ -102,31 +97,26 @@ pub fn kalzunbi_insert(
 ) -> i64
     ensures { (result, out.new) ≡ insert_returned table.now form.now letter inserted.now out.old }
 {
-    let r = insert(table, form, letter, inserted, out);
-    match r {
-        Inserted::Written(n) => written(n),
-        Inserted::Refused(m) => refusal(m),
-    }
+    returned_of(insert(table, form, letter, inserted, out))
 }
 
 // The answer for a log: 0 where it is accepted, with where the first form ends, where the last begins and the steps in the first three of the numbers lent; or minus (number · 256 + step).
 pub fn kalzunbi_check(table: &[u8], log: &[u8], places: &mut [u64]) -> i64
     ensures { (result, places.new) ≡ check_returned table.now log.now places.old }
 {
-    let n = check_table(table);
-    if n != 0 {
-        return refusal_at(n, 0);
+    match check_table(table) {
+        Ok(()) => {}
+        Err(why) => return refusal_at(why.number(), 0),
     }
     if places.len() < 3 {
-        return refusal_at(2, 0);
+        return refusal_at(Refusal::NoRoom.number(), 0);
     }
-    let r = check(table, log);
-    match r {
-        Checked::Accepted(a, b, k) => {
-            put_places(places, a, b, k);
+    match check(table, log) {
+        Ok(a) => {
+            put_places(places, a.first_end, a.last_start, a.steps);
             0
         }
-        Checked::Refused(m, k) => refusal_at(m, k),
+        Err(e) => refusal_at(e.why.number(), e.step),
     }
 }
 
@@ -148,20 +138,19 @@ pub fn kalzunbi_decide(
 pub fn kalzunbi_shorten(table: &[u8], form: &[u8], out: &mut [u8], steps: &mut [u64]) -> i64
     ensures { ShortenReturned table.now form.now out.old steps.old result out.new steps.new }
 {
-    let n = check_table(table);
-    if n != 0 {
-        return refusal(n);
+    match check_table(table) {
+        Ok(()) => {}
+        Err(why) => return refusal(why.number()),
     }
     if steps.len() < 1 {
-        return refusal(2);
+        return refusal(Refusal::NoRoom.number());
     }
-    let s = shorten(table, form, out);
-    match s {
-        Shortening::Written(size, k) => {
-            steps[0] = k as u64;
-            written(size)
+    match shorten(table, form, out) {
+        Ok(w) => {
+            steps[0] = w.steps as u64;
+            written(w.size)
         }
-        Shortening::Refused(m) => refusal(m),
+        Err(why) => refusal(why.number()),
     }
 }
 
@@ -177,20 +166,20 @@ pub fn kalzunbi_audit(
 ) -> i64
     ensures { AuditReturned table.now form.now out.old buffer.old work.old steps.old result out.new buffer.new work.new steps.new }
 {
-    let n = check_table(table);
-    if n != 0 {
-        return refusal(n);
+    match check_table(table) {
+        Ok(()) => {}
+        Err(why) => return refusal(why.number()),
     }
     if steps.len() < 1 {
-        return refusal(2);
+        return refusal(Refusal::NoRoom.number());
     }
     let v = audit(table, form, out, buffer, work);
     match v {
-        Verdict::Agreed(size, count) => {
-            steps[0] = count as u64;
-            written(size)
+        Verdict::Agreed(l) => {
+            steps[0] = l.steps as u64;
+            written(l.size)
         }
-        Verdict::Refused(m) => refusal(m),
+        Verdict::Refused(why) => refusal(why.number()),
         Verdict::Apart => 0,
     }
 }
@@ -206,46 +195,35 @@ pub fn kalzunbi_read_text(
 ) -> i64
     ensures { (result, out.new, columns.new) ≡ read_text_returned table.now names.now line.now out.old columns.old }
 {
-    let r = read_formula(table, names, line, out, columns);
-    match r {
-        FormulaRead::Written(n) => written(n),
-        FormulaRead::Refused(m) => refusal(m),
-    }
+    returned_of(read_formula(table, names, line, out, columns))
 }
 
 // The text of a form with names for the table's letters, written into the bytes lent: its length, or minus 1, 2, 11, 5 or 6.
 pub fn kalzunbi_print(table: &[u8], names: &[u8], form: &[u8], out: &mut [u8]) -> i64
     ensures { (result, out.new) ≡ print_returned table.now names.now form.now out.old }
 {
-    let r = print_named(table, names, form, out);
-    match r {
-        Printing::Printed(n) => written(n),
-        Printing::Refused(m) => refusal(m),
-    }
+    returned_of(print_named(table, names, form, out))
 }
 
 // A log opened with a table and a first form, its state written into the bytes lent: the state's length, or minus 1, 2, 11, 5 or 6.
 pub fn kalzunbi_open(table: &[u8], form: &[u8], state: &mut [u8]) -> i64
     ensures { (result, state.new) ≡ open_returned table.now form.now state.old }
 {
-    let r = open(table, form, state);
-    returned_of(r)
+    returned_of(open(table, form, state))
 }
 
 // A step added to an open log, the next state written into the bytes lent: its length, or minus 11 for the state, 2, 14, 11 for the step, 5 or 6, then 6, 8, 9 or 10.
 pub fn kalzunbi_add(state: &[u8], step: &[u8], next: &mut [u8]) -> i64
     ensures { (result, next.new) ≡ add_returned state.now step.now next.old }
 {
-    let r = add(state, step, next);
-    returned_of(r)
+    returned_of(add(state, step, next))
 }
 
 // The form that an open log has reached, its record written into the bytes lent: its length, or minus 11 or 2.
 pub fn kalzunbi_look(state: &[u8], out: &mut [u8]) -> i64
     ensures { (result, out.new) ≡ look_returned state.now out.old }
 {
-    let r = look(state, out);
-    returned_of(r)
+    returned_of(look(state, out))
 }
 
 // Whether the form that an open log has reached and another are equal under every assignment: 0, or 1 with the first assignment under which they differ in the
@@ -261,9 +239,8 @@ pub fn kalzunbi_decide_open(state: &[u8], form: &[u8], buffer: &mut [u8], work: 
 pub fn kalzunbi_close(state: &[u8], form: &[u8]) -> i64
     ensures { result ≡ close_returned state.now form.now }
 {
-    let c = close(state, form);
-    match c {
-        Closed::Accepted => 0,
-        Closed::Refused(n) => refusal(n),
+    match close(state, form) {
+        Ok(()) => 0,
+        Err(why) => refusal(why.number()),
     }
 }

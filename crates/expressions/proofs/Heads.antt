@@ -12,8 +12,11 @@ use Rattle.specification.specs.Letters.{kind_of}
 use Rattle.specification.specs.Records.{four_bytes_at}
 use Rattle.specification.specs.Expressions.{Expr, Letter, Constant, Sum, Difference, Negation, Times, Dot, Wedge, Triple, Token, leaf, one, two, three, token_bytes, test_bytes, read_letter, read_token}
 use Rattle.theory.specs.Tests.{and-false, required, passed}
-use Rattle.letters.specs.Tested.{test_of}
-use Rattle.letters.proofs.LetterTests.{test-passed, test_refused}
+use Rattle.std.specs.Prelude.{Ok, Err}
+use Rattle.std.specs.Prelude as Std
+use Rattle.refusal.specs.declared.Refusal.{Refusal}
+use Rattle.refusal.specs.declared.Refusal.TheVariants.{TooLong, Torn, AbsentLetter}
+use Rattle.refusal.specs.Tests.{test_of}
 use Rattle.expressions.specs.Trees.{operand_count, test_token, test_head}
 
 -- ════ a token by its number
@@ -122,18 +125,18 @@ count_high token h m =
 -- ════ the tests at a tree
 
 -- the token is missing
-pub no-token : (s : List ℕ) (at : ℕ) → length s ≤ at → test_of 4 ≡ test_bytes s at
-unfolding test_of test_bytes
+pub no-token : (s : List ℕ) (at : ℕ) → length s ≤ at → test_of (Err Torn) ≡ test_bytes s at
+unfolding test_bytes
 no-token s at h = rw (le-ltb at (length s) h)
 
 -- its bytes are missing
-pub no_bytes : (s : List ℕ) (at k : ℕ) → at < length s → k ≡ token_bytes (get_or s at 0) → length s - at < k → test_of 4 ≡ test_bytes s at
-unfolding test_of test_bytes
+pub no_bytes : (s : List ℕ) (at k : ℕ) → at < length s → k ≡ token_bytes (get_or s at 0) → length s - at < k → test_of (Err Torn) ≡ test_bytes s at
+unfolding test_bytes
 no_bytes s at k h e l = let m : length s < at + token_bytes (get_or s at 0) = omega (arith, e) in rw (lt-ltb at (length s) h, lt-leb _ (length s) m)
 
 -- all are there
-pub all_bytes : (s : List ℕ) (at k : ℕ) → at < length s → k ≡ token_bytes (get_or s at 0) → k ≤ length s - at → test_of 0 ≡ test_bytes s at
-unfolding test_of test_bytes
+pub all_bytes : (s : List ℕ) (at k : ℕ) → at < length s → k ≡ token_bytes (get_or s at 0) → k ≤ length s - at → test_of (Ok tt) ≡ test_bytes s at
+unfolding test_bytes
 all_bytes s at k h e l = let m : at + token_bytes (get_or s at 0) ≤ length s = omega (arith, e) in rw (lt-ltb at (length s) h, le-leb _ (length s) m)
 
 -- so the bytes are there where the test passes
@@ -144,8 +147,8 @@ bytes-passed s at p =
     leb→le (at + token_bytes (get_or s at 0)) (length s) (passed (leb (at + token_bytes (get_or s at 0)) (length s)) 4 w.1)
 
 -- as its number says
-pub bytes-there : (n : ℕ) (s : List ℕ) (at : ℕ) → test_of n ≡ test_bytes s at → n ≡ 0 → at + token_bytes (get_or s at 0) ≤ length s
-bytes-there n s at e z = bytes-passed s at (sym e ∙ test-passed n z)
+pub bytes-there : (u : Unit {0}) (s : List ℕ) (at : ℕ) → test_of (Ok u) ≡ test_bytes s at → at + token_bytes (get_or s at 0) ≤ length s
+bytes-there u s at e = bytes-passed s at (sym e)
 
 -- a token with operands has no bytes but its own
 pub own-byte : (token : ℕ) → (operand_count token ≡ 0 → ⊥) → token_bytes token ≡ 1
@@ -154,18 +157,16 @@ own-byte token h = sym (bytes-operator token (λ e. h (subst (λ (t : ℕ). oper
     (sym e) refl))).0
 
 -- a letter in the table
-pub in_table : (n m : ℕ) → n < m → test_of 0 ≡ require (ltb n m) 5
-unfolding test_of
+pub in_table : (n m : ℕ) → n < m → test_of (Ok tt) ≡ require (ltb n m) 5
 in_table n m h = rw (lt-ltb n m h)
 
 -- or not
-pub not_in-table : (n m : ℕ) → m ≤ n → test_of 5 ≡ require (ltb n m) 5
-unfolding test_of
+pub not_in-table : (n m : ℕ) → m ≤ n → test_of (Err AbsentLetter) ≡ require (ltb n m) 5
 not_in-table n m h = rw (le-ltb n m h)
 
 module _ (table s : List ℕ) (at : ℕ) where
   -- a letter: its own test
-  pub token-letter : (r n : ℕ) → get_or s at 0 ≡ 1 → n ≡ get_or s (at + 1) 0 → test_of r ≡ require (ltb n (length table)) 5 → test_of r ≡ test_token table s at
+  pub token-letter : (r : Std.Result (Unit {0}) Refusal) (n : ℕ) → get_or s at 0 ≡ 1 → n ≡ get_or s (at + 1) 0 → test_of r ≡ require (ltb n (length table)) 5 → test_of r ≡ test_token table s at
   unfolding test_token read_letter chain
   token-letter r n e p h =
       h ∙ only (ltb n (length table)) (leaf (Letter n (kind_of table n)))
@@ -178,45 +179,45 @@ module _ (table s : List ℕ) (at : ℕ) where
       only false t = refl
 
   -- a constant or an operator
-  pub token_known : 2 ≤ get_or s at 0 → get_or s at 0 < 10 → test_of 0 ≡ test_token table s at
-  unfolding test_token test_of
+  pub token_known : 2 ≤ get_or s at 0 → get_or s at 0 < 10 → test_of (Ok tt) ≡ test_token table s at
+  unfolding test_token
   token_known h k =
       sym (ap (λ (r : Result Token). r >> given tt) (read_is table s at) ∙ chain_known (get_or s at 0) (read_letter table (get_or s (at + 1) 0))
       (Constant (four_bytes_at s (at + 1))) h k)
 
   -- 0 is unknown
-  pub token_zero : get_or s at 0 ≡ 0 → test_of 4 ≡ test_token table s at
-  unfolding test_token test_of chain
+  pub token_zero : get_or s at 0 ≡ 0 → test_of (Err Torn) ≡ test_token table s at
+  unfolding test_token chain
   token_zero e =
       sym (ap (λ (r : Result Token). r >> given tt) (read_is table s at
       ∙ ap (λ (token : ℕ). chain token (read_letter table (get_or s (at + 1) 0)) (Constant (four_bytes_at s (at + 1)))) e))
 
   -- what is above 9 is unknown
-  pub token-high : 10 ≤ get_or s at 0 → test_of 4 ≡ test_token table s at
-  unfolding test_token test_of
+  pub token-high : 10 ≤ get_or s at 0 → test_of (Err Torn) ≡ test_token table s at
+  unfolding test_token
   token-high h =
       sym (ap (λ (r : Result Token). r >> given tt) (read_is table s at ∙ chain-high (get_or s at 0) (read_letter table (get_or s (at + 1) 0))
       (Constant (four_bytes_at s (at + 1))) h))
 
   -- bytes missing
-  pub head_bytes : (n depth : ℕ) → test_of n ≡ test_bytes s at → (n ≡ 0 → ⊥) → test_of n ≡ test_head depth table s at
+  pub head_bytes : (n : Refusal) (depth : ℕ) → test_of (Err n) ≡ test_bytes s at → test_of (Err n) ≡ test_head depth table s at
   unfolding test_head
-  head_bytes n depth e h = test_refused n h ∙ sym (ap (λ (t : Test). t >> (require (leb 1 depth) 3 >> test_token table s at)) (sym e ∙ test_refused n h))
+  head_bytes n depth e = ap (λ (t : Test). t >> (require (leb 1 depth) 3 >> test_token table s at)) e
 
   -- no depth left
-  pub head-depth : (n depth : ℕ) → test_of n ≡ test_bytes s at → n ≡ 0 → depth ≡ 0 → test_of 3 ≡ test_head depth table s at
-  unfolding test_head test_of
-  head-depth n depth e h z =
-      sym (ap (λ (t : Test). t >> (require (leb 1 depth) 3 >> test_token table s at)) (sym e ∙ test-passed n h)
+  pub head-depth : (u : Unit {0}) (depth : ℕ) → test_of (Ok u) ≡ test_bytes s at → depth ≡ 0 → test_of (Err TooLong) ≡ test_head depth table s at
+  unfolding test_head
+  head-depth u depth e z =
+      sym (ap (λ (t : Test). t >> (require (leb 1 depth) 3 >> test_token table s at)) (sym e)
       ∙ ap (λ (d : ℕ). require (leb 1 d) 3 >> test_token table s at) z)
 
   -- the token's own test
-  pub head-token : (n r depth : ℕ) → test_of n ≡ test_bytes s at → n ≡ 0 → (depth ≡ 0 → ⊥) → test_of r ≡ test_token table s at
+  pub head-token : (u : Unit {0}) (r : Std.Result (Unit {0}) Refusal) (depth : ℕ) → test_of (Ok u) ≡ test_bytes s at → (depth ≡ 0 → ⊥) → test_of r ≡ test_token table s at
       → test_of r ≡ test_head depth table s at
   unfolding test_head
-  head-token n r depth e h d p =
+  head-token u r depth e d p =
       let l : 1 ≤ depth = omega arith in
-      p ∙ sym (ap (λ (t : Test). t >> (require (leb 1 depth) 3 >> test_token table s at)) (sym e ∙ test-passed n h)
+      p ∙ sym (ap (λ (t : Test). t >> (require (leb 1 depth) 3 >> test_token table s at)) (sym e)
       ∙ ap (λ (b : Bool). require b 3 >> test_token table s at) (le-leb 1 depth l))
 
 one_byte : (token : ℕ) → 1 ≤ token_bytes token

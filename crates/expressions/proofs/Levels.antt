@@ -18,11 +18,15 @@ use Rattle.specification.specs.Reduction.{negate_form, sum_forms, times_forms, d
 use Rattle.theory.specs.Tests.{refused≢given, given_same}
 use Rattle.algebra.specs.Integers.{sfits-nat_abs}
 use Rattle.integers.proofs.Machine.{back, back_is}
+use Rattle.std.specs.Prelude.{Ok, Err, IfOk}
+use Rattle.std.specs.Prelude as Std
+use Rattle.refusal.specs.declared.Refusal.{Refusal}
+use Rattle.refusal.specs.declared.Refusal.TheVariants.{Torn}
+use Rattle.refusal.specs.Numbers.{number_of}
+use Rattle.refusal.specs.Tests.{test_of}
 use Rattle.rows.specs.declared.Worked.{Worked}
 use Rattle.rows.specs.Rows.{Light, form_by, RowsGive}
-use Rattle.letters.specs.Tested.{test_of}
-use Rattle.letters.proofs.LetterTests.{test-passed, test_refused}
-use Rattle.rows.proofs.RowForms.{rows_refused, rows_as}
+use Rattle.rows.proofs.RowForms.{rows_refused, rows_given, rows_as}
 use Rattle.sums.proofs.Sums.{form-negated, negated-run}
 use Rattle.expressions.specs.declared.trees.Tree.{Tree}
 use Rattle.expressions.specs.Trees.{operand_count, test_token, test_head, binary, on_one, on_two, on_three, worked_of, Sound, ReadAs, LeafAt, read_leaf, LeafSecond}
@@ -30,7 +34,7 @@ use Rattle.expressions.proofs.Heads.{chain, read_is, chain_more, bytes-passed, o
 
 -- ════ the operator of a token with two operands
 
-module _ (token : ℕ) (f g : S.Form) (w : Worked) (rows : List (List ℕ)) (coefs : List ℤ) where
+module _ (token : ℕ) (f g : S.Form) (w : Std.Result Worked Refusal) (rows : List (List ℕ)) (coefs : List ℤ) where
   pub operates-sum : token ≡ 3 → RowsGive (sum_forms f g) w rows coefs → RowsGive (binary token f g) w rows coefs
   unfolding binary
   operates-sum e = rows_as _ _ w rows coefs (ap (λ (t : ℕ). binary t f g) (sym e))
@@ -51,92 +55,72 @@ module _ (token : ℕ) (f g : S.Form) (w : Worked) (rows : List (List ℕ)) (coe
   unfolding binary
   operates-wedge e = rows_as _ _ w rows coefs (ap (λ (t : ℕ). binary t f g) (sym e))
 
-  -- no such token
-  pub operates_none : (token ≡ 3 → ⊥) → (token ≡ 4 → ⊥) → (token ≡ 6 → ⊥) → (token ≡ 7 → ⊥) → (token ≡ 8 → ⊥) → w.refusal ≡ 4
-      → RowsGive (binary token f g) w rows coefs
-  unfolding binary
-  operates_none a b c d e h =
-      rows_refused (binary token f g) w 4 rows coefs h (λ z. omega arith)
-      (rw (ne_eqb token 3 a, ne_eqb token 4 b, ne_eqb token 6 c, ne_eqb token 7 d, ne_eqb token 8 e))
+-- no such token
+pub operates_none : (token : ℕ) (f g : S.Form) (rows : List (List ℕ)) (coefs : List ℤ) → (token ≡ 3 → ⊥) → (token ≡ 4 → ⊥) → (token ≡ 6 → ⊥) → (token ≡ 7 → ⊥) → (token ≡ 8 → ⊥)
+    → RowsGive (binary token f g) (Err Torn) rows coefs
+unfolding binary
+operates_none token f g rows coefs a b c d e =
+    rows_refused (binary token f g) Torn rows coefs
+    (rw (ne_eqb token 3 a, ne_eqb token 4 b, ne_eqb token 6 c, ne_eqb token 7 d, ne_eqb token 8 e))
 
 -- ════ results of operands
 
-worked_refused : (w : Worked) (rows : List (List ℕ)) (coefs : List ℤ) → (w.refusal ≡ 0 → ⊥) → worked_of w rows coefs ≡ refused w.refusal
-unfolding worked_of
-worked_refused w rows coefs h = rw (ne_eqb w.refusal 0 h)
-
-worked_given : (w : Worked) (rows : List (List ℕ)) (coefs : List ℤ) → w.refusal ≡ 0 → worked_of w rows coefs ≡ given (form_by w.kind w.count rows coefs)
-unfolding worked_of
-worked_given w rows coefs e = rw (eq-eqb w.refusal 0 e)
-
 -- what rows give is what was worked
-worked_is : (x : Result S.Form) (w : Worked) (rows : List (List ℕ)) (coefs : List ℤ) → RowsGive x w rows coefs → x ≡ worked_of w rows coefs
-worked_is x w rows coefs g = go w.refusal refl
-  where
-    go : (n : ℕ) → w.refusal ≡ n → x ≡ worked_of w rows coefs
-    go zero e = g.gives e ∙ sym (worked_given w rows coefs e)
-    go (suc n) e = let h : w.refusal ≡ 0 → ⊥ = λ z. omega arith in g.refuses h ∙ sym (worked_refused w rows coefs h)
-
--- a refusal handed on
-handed_on : (y : Result S.Form) (w : Worked) (rows : List (List ℕ)) (coefs : List ℤ) → (w.refusal ≡ 0 → ⊥) → y ≡ refused w.refusal → RowsGive y w rows coefs
-handed_on y w rows coefs h e = rows_refused y w w.refusal rows coefs refl h e
+worked_is : (x : Result S.Form) (w : Std.Result Worked Refusal) (rows : List (List ℕ)) (coefs : List ℤ) → RowsGive x w rows coefs → x ≡ worked_of w rows coefs
+unfolding worked_of
+worked_is x w rows coefs g = sym g.is
 
 -- what turning signs asks of a form in rows
-pub one_light : (x : Worked) (rows : List (List ℕ)) (coefs : List ℤ) → Sound x rows coefs → x.refusal ≡ 0 → (x.count ≤ length coefs)
-    × Light 2147483647 x.count coefs
+pub one_light : (x : Std.Result Worked Refusal) (rows : List (List ℕ)) (coefs : List ℤ) → Sound x rows coefs → IfOk x (λ w. (w.count ≤ length coefs) × Light 2147483647 w.count coefs)
 unfolding Sound
-one_light x rows coefs s e = ((s e).run.beside, (s e).light)
+one_light (Ok w) rows coefs s = (s.run.beside, s.light)
+one_light (Err e) rows coefs s = tt
 
-module _ (x : Worked) (rows : List (List ℕ)) (coefs : List ℤ) where
-  pub one_refused : (coefs' : List ℤ) → (x.refusal ≡ 0 → ⊥) → RowsGive (on_one (worked_of x rows coefs)) x rows coefs'
-  unfolding on_one
-  one_refused coefs' h = handed_on (on_one (worked_of x rows coefs)) x rows coefs' h (ap on_one (worked_refused x rows coefs h))
+module _ (rows : List (List ℕ)) (coefs coefs' : List ℤ) where
+  pub one_refused : (e : Refusal) → RowsGive (on_one (worked_of (Err e) rows coefs)) (Err e) rows coefs'
+  unfolding on_one worked_of
+  one_refused e = rows_refused _ e rows coefs' refl
 
-  pub one_negated : (coefs' : List ℤ) → x.refusal ≡ 0 → Sound x rows coefs → take x.count coefs' ≡ map neg_ℤ (take x.count coefs)
-      → x.count ≤ length coefs' → RowsGive (on_one (worked_of x rows coefs)) x rows coefs'
-  unfolding on_one Sound
-  one_negated coefs' e s n h = record {
-    refuses = λ d. absurd (d e);
-    gives = λ _. ap on_one (worked_given x rows coefs e) ∙ ap given (sym (form-negated x.kind x.count rows coefs coefs' n));
-    form = λ _. negated-run x.kind x.count rows coefs coefs' n (s e) h;
-  }
+  pub one_negated : (x : Worked) → Sound (Ok x) rows coefs → take x.count coefs' ≡ map neg_ℤ (take x.count coefs)
+      → x.count ≤ length coefs' → RowsGive (on_one (worked_of (Ok x) rows coefs)) (Ok x) rows coefs'
+  unfolding on_one Sound worked_of
+  one_negated x s n h = rows_given _ x rows coefs' (ap given (sym (form-negated x.kind x.count rows coefs coefs' n))) (negated-run x.kind x.count rows coefs coefs' n s h)
 
 -- the rows of each operand, and those of the result
-module _ (x y : Worked) (ra : List (List ℕ)) (ca : List ℤ) (rb : List (List ℕ)) (cb : List ℤ) (rows : List (List ℕ)) (coefs : List ℤ) where
+module _ (ra : List (List ℕ)) (ca : List ℤ) (rb : List (List ℕ)) (cb : List ℤ) (rows : List (List ℕ)) (coefs : List ℤ) where
   module _ (token : ℕ) where
-    pub left_refused : (x.refusal ≡ 0 → ⊥) → RowsGive (on_two token (worked_of x ra ca) (worked_of y rb cb)) x rows coefs
-    unfolding on_two
-    left_refused h = handed_on _ x rows coefs h (ap (λ (r : Result S.Form). on_two token r (worked_of y rb cb)) (worked_refused x ra ca h))
+    pub left_refused : (e : Refusal) (y : Std.Result Worked Refusal) → RowsGive (on_two token (worked_of (Err e) ra ca) (worked_of y rb cb)) (Err e) rows coefs
+    unfolding on_two worked_of
+    left_refused e y = rows_refused _ e rows coefs refl
 
-    pub right_refused : x.refusal ≡ 0 → (y.refusal ≡ 0 → ⊥) → RowsGive (on_two token (worked_of x ra ca) (worked_of y rb cb)) y rows coefs
-    unfolding on_two
-    right_refused e h = handed_on _ y rows coefs h (λ i. on_two token (worked_given x ra ca e i) (worked_refused y rb cb h i))
+    pub right_refused : (x : Worked) (e : Refusal) → RowsGive (on_two token (worked_of (Ok x) ra ca) (worked_of (Err e) rb cb)) (Err e) rows coefs
+    unfolding on_two worked_of
+    right_refused x e = rows_refused _ e rows coefs refl
 
-    pub both-worked : (w : Worked) → x.refusal ≡ 0 → y.refusal ≡ 0
+    pub both-worked : (x y : Worked) (w : Std.Result Worked Refusal)
         → RowsGive (binary token (form_by x.kind x.count ra ca) (form_by y.kind y.count rb cb)) w rows coefs
-        → RowsGive (on_two token (worked_of x ra ca) (worked_of y rb cb)) w rows coefs
-    unfolding on_two
-    both-worked w e h = rows_as _ _ w rows coefs (sym (λ i. on_two token (worked_given x ra ca e i) (worked_given y rb cb h i)))
+        → RowsGive (on_two token (worked_of (Ok x) ra ca) (worked_of (Ok y) rb cb)) w rows coefs
+    unfolding on_two worked_of
+    both-worked x y w g = g
 
-  module _ (z : Worked) (rd : List (List ℕ)) (cd : List ℤ) where
-    pub first_refused : (x.refusal ≡ 0 → ⊥) → RowsGive (on_three (worked_of x ra ca) (worked_of y rb cb) (worked_of z rd cd)) x rows coefs
-    unfolding on_three
-    first_refused h = handed_on _ x rows coefs h (ap (λ (r : Result S.Form). on_three r (worked_of y rb cb) (worked_of z rd cd)) (worked_refused x ra ca h))
+  module _ (rd : List (List ℕ)) (cd : List ℤ) where
+    pub first_refused : (e : Refusal) (y z : Std.Result Worked Refusal) → RowsGive (on_three (worked_of (Err e) ra ca) (worked_of y rb cb) (worked_of z rd cd)) (Err e) rows coefs
+    unfolding on_three worked_of
+    first_refused e y z = rows_refused _ e rows coefs refl
 
-    pub second_refused : x.refusal ≡ 0 → (y.refusal ≡ 0 → ⊥) → RowsGive (on_three (worked_of x ra ca) (worked_of y rb cb) (worked_of z rd cd)) y rows coefs
-    unfolding on_three
-    second_refused e h = handed_on _ y rows coefs h (λ i. on_three (worked_given x ra ca e i) (worked_refused y rb cb h i) (worked_of z rd cd))
+    pub second_refused : (x : Worked) (e : Refusal) (z : Std.Result Worked Refusal) → RowsGive (on_three (worked_of (Ok x) ra ca) (worked_of (Err e) rb cb) (worked_of z rd cd)) (Err e) rows coefs
+    unfolding on_three worked_of
+    second_refused x e z = rows_refused _ e rows coefs refl
 
-    pub third_refused : x.refusal ≡ 0 → y.refusal ≡ 0 → (z.refusal ≡ 0 → ⊥)
-        → RowsGive (on_three (worked_of x ra ca) (worked_of y rb cb) (worked_of z rd cd)) z rows coefs
-    unfolding on_three
-    third_refused e f h = handed_on _ z rows coefs h (λ i. on_three (worked_given x ra ca e i) (worked_given y rb cb f i) (worked_refused z rd cd h i))
+    pub third_refused : (x y : Worked) (e : Refusal) → RowsGive (on_three (worked_of (Ok x) ra ca) (worked_of (Ok y) rb cb) (worked_of (Err e) rd cd)) (Err e) rows coefs
+    unfolding on_three worked_of
+    third_refused x y e = rows_refused _ e rows coefs refl
 
-    pub triple-worked : (w : Worked) → x.refusal ≡ 0 → y.refusal ≡ 0 → z.refusal ≡ 0
+    pub triple-worked : (x y z : Worked) (w : Std.Result Worked Refusal)
         → RowsGive (triple_forms (form_by x.kind x.count ra ca) (form_by y.kind y.count rb cb) (form_by z.kind z.count rd cd)) w rows coefs
-        → RowsGive (on_three (worked_of x ra ca) (worked_of y rb cb) (worked_of z rd cd)) w rows coefs
-    unfolding on_three
-    triple-worked w e f g = rows_as _ _ w rows coefs (sym (λ i. on_three (worked_given x ra ca e i) (worked_given y rb cb f i) (worked_given z rd cd g i)))
+        → RowsGive (on_three (worked_of (Ok x) ra ca) (worked_of (Ok y) rb cb) (worked_of (Ok z) rd cd)) w rows coefs
+    unfolding on_three worked_of
+    triple-worked x y z w g = g
 
 -- ════ what a tree's token is
 
@@ -244,33 +228,29 @@ module _ (table s : List ℕ) (at : ℕ) (h : LeafAt table s at) where
   constant_read e = by_chain 2 e
 
   -- the leaf that was read and worked
-  leaf_read : (r : Tree) (w : Worked) (rows : List (List ℕ)) (coefs : List ℤ) (e : Expr) (t : ℕ) → get_or s at 0 ≡ t → read_token table s at ≡ given (leaf e)
-      → RowsGive (work e) w rows coefs
-      → (r.unread ≡ 0) × (r.next ≡ at + token_bytes t) × (r.work ≡ w) → ReadAs (read_leaf table s at) r rows coefs
+  leaf_read : (w : Std.Result Worked Refusal) (rows : List (List ℕ)) (coefs : List ℤ) (e : Expr) (t : ℕ) → get_or s at 0 ≡ t → read_token table s at ≡ given (leaf e)
+      → RowsGive (work e) w rows coefs → ReadAs (read_leaf table s at) (Ok (record { next = at + token_bytes t; work = w })) rows coefs
   unfolding ReadAs read_leaf read_operands
-  leaf_read r w rows coefs e t k p worked q =
+  leaf_read w rows coefs e t k p worked =
       let is : read_leaf table s at ≡ given (e, at + token_bytes t) = (λ i. p i >>= read_operands (λ next. refused 4) (at + token_bytes (k i))) in
-      subst (λ (x : Result (Expr × ℕ)). ReadAs x r rows coefs) (sym is)
-      (record { read = q.0; next_is = q.1; worked = subst (λ (w : Worked). RowsGive (work e) w rows coefs) (sym q.2) worked })
+      subst (λ (x : Result (Expr × ℕ)). ReadAs x (Ok (record { next = at + token_bytes t; work = w })) rows coefs) (sym is) (record { next_is = refl; worked = worked })
 
   -- a letter
-  pub leaf-letter : (r : Tree) (w : Worked) (rows : List (List ℕ)) (coefs : List ℤ) (kind : ℕ) → get_or s at 0 ≡ 1 → kind ≡ kind_of table (get_or s (at + 1) 0)
-      → RowsGive (given (letter_form (get_or s (at + 1) 0) kind)) w rows coefs → (r.unread ≡ 0) × (r.next ≡ at + 2) × (r.work ≡ w)
-      → ReadAs (read_leaf table s at) r rows coefs
+  pub leaf-letter : (w : Std.Result Worked Refusal) (rows : List (List ℕ)) (coefs : List ℤ) (kind : ℕ) → get_or s at 0 ≡ 1 → kind ≡ kind_of table (get_or s (at + 1) 0)
+      → RowsGive (given (letter_form (get_or s (at + 1) 0) kind)) w rows coefs → ReadAs (read_leaf table s at) (Ok (record { next = at + 2; work = w })) rows coefs
   unfolding work_with token_bytes
-  leaf-letter r w rows coefs kind e q k p =
-      leaf_read r w rows coefs (Letter (get_or s (at + 1) 0) (kind_of table (get_or s (at + 1) 0))) 1 e (letter_read e)
-      (subst (λ (x : ℕ). RowsGive (given (letter_form (get_or s (at + 1) 0) x)) w rows coefs) q k) p
+  leaf-letter w rows coefs kind e q k =
+      leaf_read w rows coefs (Letter (get_or s (at + 1) 0) (kind_of table (get_or s (at + 1) 0))) 1 e (letter_read e)
+      (subst (λ (x : ℕ). RowsGive (given (letter_form (get_or s (at + 1) 0) x)) w rows coefs) q k)
 
   -- a constant
-  pub leaf-constant : (r : Tree) (w : Worked) (rows : List (List ℕ)) (coefs : List ℤ) → (get_or s at 0 ≡ 1 → ⊥)
-      → RowsGive (constant_form (four_bytes_at s (at + 1))) w rows coefs
-      → (r.unread ≡ 0) × (r.next ≡ at + 5) × (r.work ≡ w) → ReadAs (read_leaf table s at) r rows coefs
+  pub leaf-constant : (w : Std.Result Worked Refusal) (rows : List (List ℕ)) (coefs : List ℤ) → (get_or s at 0 ≡ 1 → ⊥)
+      → RowsGive (constant_form (four_bytes_at s (at + 1))) w rows coefs → ReadAs (read_leaf table s at) (Ok (record { next = at + 5; work = w })) rows coefs
   unfolding work_with token_bytes
-  leaf-constant r w rows coefs n k p = leaf_read r w rows coefs (Constant (four_bytes_at s (at + 1))) 2 (constant_token n) (constant_read (constant_token n)) k p
+  leaf-constant w rows coefs n k = leaf_read w rows coefs (Constant (four_bytes_at s (at + 1))) 2 (constant_token n) (constant_read (constant_token n)) k
 
 -- a constant as its bytes spell it
-pub constant-read_back : (k z : ℤ) (w : Worked) (rows : List (List ℕ)) (coefs : List ℤ) → (z ≡ k) × (nat_abs z ≤ 2147483648)
+pub constant-read_back : (k z : ℤ) (w : Std.Result Worked Refusal) (rows : List (List ℕ)) (coefs : List ℤ) → (z ≡ k) × (nat_abs z ≤ 2147483648)
     → RowsGive (constant_form (back z)) w rows coefs → RowsGive (constant_form k) w rows coefs
 constant-read_back k z w rows coefs e h = subst (λ (y : ℤ). RowsGive (constant_form y) w rows coefs) (back_is (sfits-nat_abs z (omega (arith, e.1))) ∙ e.0) h
 
@@ -300,11 +280,11 @@ tree_refused (suc d) table s at n e =
     (ap (λ (b : Bool). test_bytes s at >> (require b 3 >> (read_token table s at >> given tt))) (sym (le-leb 1 (suc d) (omega arith))) ∙ e)
 
 -- so the level is refused with the number found
-pub level_refused : (depth : ℕ) (table s : List ℕ) (at n : ℕ) (r : Tree) (rows : List (List ℕ)) (coefs : List ℤ) → test_of n ≡ test_head depth table s at
-    → (n ≡ 0 → ⊥) → r.unread ≡ n → ReadAs (read_tree depth table s at) r rows coefs
+pub level_refused : (depth : ℕ) (table s : List ℕ) (at : ℕ) (n : Refusal) (rows : List (List ℕ)) (coefs : List ℤ) → test_of (Err n) ≡ test_head depth table s at
+    → ReadAs (read_tree depth table s at) (Err n) rows coefs
 unfolding ReadAs
-level_refused depth table s at n r rows coefs e h p =
-    subst (λ (x : Result (Expr × ℕ)). ReadAs x r rows coefs) (sym (tree_refused depth table s at n (sym e ∙ test_refused n h))) (record { is = p; some = h })
+level_refused depth table s at n rows coefs e =
+    subst (λ (x : Result (Expr × ℕ)). ReadAs x (Err n) rows coefs) (sym (tree_refused depth table s at (number_of n) (sym e))) refl
 
 -- the tests passed: the token with its shape, and the tree by its operands
 pub record Level (depth : ℕ) (table s : List ℕ) (at : ℕ) : Type 0 where
@@ -342,18 +322,17 @@ tests-passed (suc d) table s at e =
     (ap (λ (b : Bool). test_bytes s at >> (require b 3 >> (read_token table s at >> given tt))) (sym (le-leb 1 (suc d) (omega arith))) ∙ e) in
     level-built d table s at w.1 w.0 w.2
 
--- the level by the number of its tests
-pub level : (depth : ℕ) (table s : List ℕ) (at n : ℕ) → test_of n ≡ test_head depth table s at → n ≡ 0 → Level depth table s at
-level depth table s at n e z = tests-passed depth table s at (sym e ∙ test-passed n z)
+-- the level by its tests
+pub level : (depth : ℕ) (table s : List ℕ) (at : ℕ) (u : Unit {0}) → test_of (Ok u) ≡ test_head depth table s at → Level depth table s at
+level depth table s at u e = tests-passed depth table s at (sym e)
 
 -- ════ operands that were read, or not
 
 -- what reading refused
-pub read-refused : (X : Result (Expr × ℕ)) (a : Tree) (rows : List (List ℕ)) (coefs : List ℤ) → ReadAs X a rows coefs → (a.unread ≡ 0 → ⊥)
-    → X ≡ refused a.unread
+pub read-refused : (X : Result (Expr × ℕ)) (e : Refusal) (rows : List (List ℕ)) (coefs : List ℤ) → ReadAs X (Err e) rows coefs → X ≡ refused (number_of e)
 unfolding ReadAs
-read-refused (refused n) a rows coefs r h = ap refused (sym r.is)
-read-refused (given x) a rows coefs r h = absurd (h r.read)
+read-refused (refused n) e rows coefs r = ap refused (sym r)
+read-refused (given x) e rows coefs r = absurd r
 
 -- a tree that was read
 pub record TreeFound (X : Result (Expr × ℕ)) (a : Tree) (rows : List (List ℕ)) (coefs : List ℤ) : Type 0 where
@@ -362,15 +341,15 @@ pub record TreeFound (X : Result (Expr × ℕ)) (a : Tree) (rows : List (List �
   pub worked : RowsGive (work tree) a.work rows coefs
 
 -- what reading gave
-pub read_given : (X : Result (Expr × ℕ)) (a : Tree) (rows : List (List ℕ)) (coefs : List ℤ) → ReadAs X a rows coefs → a.unread ≡ 0 → TreeFound X a rows coefs
+pub read_given : (X : Result (Expr × ℕ)) (a : Tree) (rows : List (List ℕ)) (coefs : List ℤ) → ReadAs X (Ok a) rows coefs → TreeFound X a rows coefs
 unfolding ReadAs
-read_given (refused n) a rows coefs r e = absurd (r.some (sym r.is ∙ e))
-read_given (given x) a rows coefs r e = record { tree = x.0; is = (λ i. given (x.0, sym r.next_is i)); worked = r.worked }
+read_given (refused n) a rows coefs r = absurd r
+read_given (given x) a rows coefs r = record { tree = x.0; is = (λ i. given (x.0, sym r.next_is i)); worked = r.worked }
 
 -- what was read and worked is sound
-pub read_sound : (X : Result (Expr × ℕ)) (a : Tree) (rows : List (List ℕ)) (coefs : List ℤ) → ReadAs X a rows coefs → a.unread ≡ 0 → Sound a.work rows coefs
+pub read_sound : (X : Result (Expr × ℕ)) (a : Tree) (rows : List (List ℕ)) (coefs : List ℤ) → ReadAs X (Ok a) rows coefs → Sound a.work rows coefs
 unfolding Sound
-read_sound X a rows coefs r e = (read_given X a rows coefs r e).worked.form
+read_sound X a rows coefs r = (read_given X a rows coefs r).worked.form
 
 -- ════ a level by its operands
 
@@ -390,21 +369,20 @@ module _ (T : ℕ → Result (Expr × ℕ)) (first t : ℕ) where
   first_unread (two op) n h o p = rw p
   first_unread (three op) n h o p = rw p
 
-  -- the first operand a with its rows, the tree r with its rows
-  module _ (a r : Tree) (ra : List (List ℕ)) (ca : List ℤ) (rows : List (List ℕ)) (coefs : List ℤ) (f : TreeFound (T first) a ra ca) where
+  -- the first operand a with its rows, what working gave with its rows
+  module _ (a : Tree) (ra : List (List ℕ)) (ca : List ℤ) (rows : List (List ℕ)) (coefs : List ℤ) (f : TreeFound (T first) a ra ca) (w : Std.Result Worked Refusal) where
     work-a : work f.tree ≡ worked_of a.work ra ca
     work-a = worked_is (work f.tree) a.work ra ca f.worked
 
-    one_operand : (token : Token) → Shape t token → operand_count t ≡ 1 → r.unread ≡ 0 → r.next ≡ a.next
-        → RowsGive (on_one (worked_of a.work ra ca)) r.work rows coefs
-        → ReadAs (read_operands T first token) r rows coefs
+    one_operand : (token : Token) → Shape t token → operand_count t ≡ 1 → RowsGive (on_one (worked_of a.work ra ca)) w rows coefs
+        → ReadAs (read_operands T first token) (Ok (record { next = a.next; work = w })) rows coefs
     unfolding ReadAs read_operands
-    one_operand (leaf e) h o u n w = absurd (nonsense (sym o ∙ h))
-    one_operand (one op) h o u n w =
-        subst (λ (x : Result (Expr × ℕ)). ReadAs (x >>= λ p. given (op p.0, p.1)) r rows coefs) (sym f.is)
-        (record { read = u; next_is = n; worked = rows_as _ _ r.work rows coefs (sym (h.1 f.tree ∙ ap on_one work-a)) w })
-    one_operand (two op) h o u n w = absurd (unlike o h.0 (λ e. omega arith))
-    one_operand (three op) h o u n w = absurd (unlike o h.0 (λ e. omega arith))
+    one_operand (leaf e) h o g = absurd (nonsense (sym o ∙ h))
+    one_operand (one op) h o g =
+        subst (λ (x : Result (Expr × ℕ)). ReadAs (x >>= λ p. given (op p.0, p.1)) (Ok (record { next = a.next; work = w })) rows coefs) (sym f.is)
+        (record { next_is = refl; worked = rows_as _ _ w rows coefs (sym (h.1 f.tree ∙ ap on_one work-a)) g })
+    one_operand (two op) h o g = absurd (unlike o h.0 (λ e. omega arith))
+    one_operand (three op) h o g = absurd (unlike o h.0 (λ e. omega arith))
 
     -- the second operand is refused
     second-unread : (token : Token) (n : ℕ) → Shape t token → (operand_count t ≡ 0 → ⊥) → (operand_count t ≡ 1 → ⊥) → T a.next ≡ refused n
@@ -420,16 +398,16 @@ module _ (T : ℕ → Result (Expr × ℕ)) (first t : ℕ) where
       work-b : work g.tree ≡ worked_of b.work rb cb
       work-b = worked_is (work g.tree) b.work rb cb g.worked
 
-      two_operands : (token : Token) → Shape t token → operand_count t ≡ 2 → r.unread ≡ 0 → r.next ≡ b.next
-          → RowsGive (on_two t (worked_of a.work ra ca) (worked_of b.work rb cb)) r.work rows coefs → ReadAs (read_operands T first token) r rows coefs
+      two_operands : (token : Token) → Shape t token → operand_count t ≡ 2 → RowsGive (on_two t (worked_of a.work ra ca) (worked_of b.work rb cb)) w rows coefs
+          → ReadAs (read_operands T first token) (Ok (record { next = b.next; work = w })) rows coefs
       unfolding ReadAs read_operands
-      two_operands (leaf e) h o u n w = absurd (nonsense (sym o ∙ h))
-      two_operands (one op) h o u n w = absurd (unlike o h.0 (λ e. omega arith))
-      two_operands (two op) h o u n w =
+      two_operands (leaf e) h o k = absurd (nonsense (sym o ∙ h))
+      two_operands (one op) h o k = absurd (unlike o h.0 (λ e. omega arith))
+      two_operands (two op) h o k =
           let is : read_operands T first (two op) ≡ given (op f.tree g.tree, b.next) = rw (f.is, g.is) in
-          subst (λ (x : Result (Expr × ℕ)). ReadAs x r rows coefs) (sym is)
-          (record { read = u; next_is = n; worked = rows_as _ _ r.work rows coefs (sym (h.1 f.tree g.tree ∙ (λ i. on_two t (work-a i) (work-b i)))) w })
-      two_operands (three op) h o u n w = absurd (unlike o h.0 (λ e. omega arith))
+          subst (λ (x : Result (Expr × ℕ)). ReadAs x (Ok (record { next = b.next; work = w })) rows coefs) (sym is)
+          (record { next_is = refl; worked = rows_as _ _ w rows coefs (sym (h.1 f.tree g.tree ∙ (λ i. on_two t (work-a i) (work-b i)))) k })
+      two_operands (three op) h o k = absurd (unlike o h.0 (λ e. omega arith))
 
       third-unread : (token : Token) (n : ℕ) → Shape t token → (operand_count t ≡ 0 → ⊥) → (operand_count t ≡ 1 → ⊥) → (operand_count t ≡ 2 → ⊥)
           → T b.next ≡ refused n
@@ -443,130 +421,122 @@ module _ (T : ℕ → Result (Expr × ℕ)) (first t : ℕ) where
       -- the third operand d with its rows
       three-operands : (d : Tree) (rd : List (List ℕ)) (cd : List ℤ) (k : TreeFound (T b.next) d rd cd) (token : Token) → Shape t token
           → (operand_count t ≡ 0 → ⊥) → (operand_count t ≡ 1 → ⊥)
-          → (operand_count t ≡ 2 → ⊥) → r.unread ≡ 0 → r.next ≡ d.next
-          → RowsGive (on_three (worked_of a.work ra ca) (worked_of b.work rb cb) (worked_of d.work rd cd)) r.work rows coefs
-          → ReadAs (read_operands T first token) r rows coefs
+          → (operand_count t ≡ 2 → ⊥)
+          → RowsGive (on_three (worked_of a.work ra ca) (worked_of b.work rb cb) (worked_of d.work rd cd)) w rows coefs
+          → ReadAs (read_operands T first token) (Ok (record { next = d.next; work = w })) rows coefs
       unfolding ReadAs read_operands
-      three-operands d rd cd k (leaf e) h o o' o'' u n w = absurd (o h)
-      three-operands d rd cd k (one op) h o o' o'' u n w = absurd (o' h.0)
-      three-operands d rd cd k (two op) h o o' o'' u n w = absurd (o'' h.0)
-      three-operands d rd cd k (three op) h o o' o'' u n w =
+      three-operands d rd cd k (leaf e) h o o' o'' v = absurd (o h)
+      three-operands d rd cd k (one op) h o o' o'' v = absurd (o' h.0)
+      three-operands d rd cd k (two op) h o o' o'' v = absurd (o'' h.0)
+      three-operands d rd cd k (three op) h o o' o'' v =
           let is : read_operands T first (three op) ≡ given (op f.tree g.tree k.tree, d.next) = rw (f.is, g.is, k.is) in
-          subst (λ (x : Result (Expr × ℕ)). ReadAs x r rows coefs) (sym is)
+          subst (λ (x : Result (Expr × ℕ)). ReadAs x (Ok (record { next = d.next; work = w })) rows coefs) (sym is)
           (record {
-            read = u;
-            next_is = n;
-            worked = rows_as _ _ r.work rows coefs
-                (sym (h.1 f.tree g.tree k.tree ∙ (λ i. on_three (work-a i) (work-b i) (worked_is (work k.tree) d.work rd cd k.worked i)))) w;
+            next_is = refl;
+            worked = rows_as _ _ w rows coefs
+                (sym (h.1 f.tree g.tree k.tree ∙ (λ i. on_three (work-a i) (work-b i) (worked_is (work k.tree) d.work rd cd k.worked i)))) v;
           })
 
 -- ════ as the code goes
 
--- a tree made from the position behind it and what working gave
-abbrev Made : Tree → ℕ → Worked → Type 0
-Made r next w = (r.unread ≡ 0) × (r.next ≡ next) × (r.work ≡ w)
-
 module _ (depth : ℕ) (table s : List ℕ) (at : ℕ) (v : Level depth table s at) (rows : List (List ℕ)) (coefs : List ℤ) where
+  abbrev T : ℕ → Result (Expr × ℕ)
+  T = read_tree (depth - 1) table s
+
   shape : Shape (get_or s at 0) v.token
   shape = token-shape table s at v.token v.read
 
   -- a token of its own byte: the first operand stands behind it
-  behind : (operand_count (get_or s at 0) ≡ 0 → ⊥) → read_tree depth table s at ≡ read_operands (read_tree (depth - 1) table s) (at + 1) v.token
-  behind o = v.is ∙ ap (λ (n : ℕ). read_operands (read_tree (depth - 1) table s) (at + n) v.token) (own-byte (get_or s at 0) o)
+  behind : (operand_count (get_or s at 0) ≡ 0 → ⊥) → read_tree depth table s at ≡ read_operands T (at + 1) v.token
+  behind o = v.is ∙ ap (λ (n : ℕ). read_operands T (at + n) v.token) (own-byte (get_or s at 0) o)
 
-  handed : (a : Tree) → (a.unread ≡ 0 → ⊥) → read_tree depth table s at ≡ refused a.unread → ReadAs (read_tree depth table s at) a rows coefs
+  handed : (e : Refusal) → read_tree depth table s at ≡ refused (number_of e) → ReadAs (read_tree depth table s at) (Err e) rows coefs
   unfolding ReadAs
-  handed a h e = subst (λ (x : Result (Expr × ℕ)). ReadAs x a rows coefs) (sym e) (record { is = refl; some = h })
+  handed e h = subst (λ (x : Result (Expr × ℕ)). ReadAs x (Err e) rows coefs) (sym h) refl
 
   -- a leaf stands there
   pub leaf_at : operand_count (get_or s at 0) ≡ 0 → LeafAt table s at
   unfolding test_token
   leaf_at o = record { bytes = v.bytes; none = o; known = ap (λ (r : Result Token). r >> given tt) v.read }
 
-  pub level-leaf : (r : Tree) → operand_count (get_or s at 0) ≡ 0 → ReadAs (read_leaf table s at) r rows coefs → ReadAs (read_tree depth table s at) r rows coefs
+  pub level-leaf : (r : Std.Result Tree Refusal) → operand_count (get_or s at 0) ≡ 0 → ReadAs (read_leaf table s at) r rows coefs → ReadAs (read_tree depth table s at) r rows coefs
   unfolding read_leaf
   level-leaf r o w =
       subst (λ (x : Result (Expr × ℕ)). ReadAs x r rows coefs)
-      (sym (v.is ∙ no_operand (read_tree (depth - 1) table s) (at + token_bytes (get_or s at 0)) (get_or s at 0) v.token shape o
+      (sym (v.is ∙ no_operand T (at + token_bytes (get_or s at 0)) (get_or s at 0) v.token shape o
       ∙ ap (λ (x : Result Token). x >>= read_operands (λ next. refused 4) (at + token_bytes (get_or s at 0))) (sym v.read))) w
 
-  module _ (k : ℕ) (count : k ≡ operand_count (get_or s at 0)) (a : Tree) (ra : List (List ℕ)) (ca : List ℤ)
-      (read_a : ReadAs (read_tree (depth - 1) table s (at + 1)) a ra ca) (some : k ≡ 0 → ⊥) where
+  module _ (k : ℕ) (count : k ≡ operand_count (get_or s at 0)) (ra : List (List ℕ)) (ca : List ℤ) (some : k ≡ 0 → ⊥) where
     operand : operand_count (get_or s at 0) ≡ 0 → ⊥
     operand e = some (count ∙ e)
 
-    pub level_first : (a.unread ≡ 0 → ⊥) → ReadAs (read_tree depth table s at) a rows coefs
-    level_first h =
-        handed a h (behind operand ∙ first_unread (read_tree (depth - 1) table s) (at + 1) (get_or s at 0) v.token a.unread shape operand
-        (read-refused (read_tree (depth - 1) table s (at + 1)) a ra ca read_a h))
+    pub level_first : (e : Refusal) → ReadAs (T (at + 1)) (Err e) ra ca → ReadAs (read_tree depth table s at) (Err e) rows coefs
+    level_first e read_a =
+        handed e (behind operand ∙ first_unread T (at + 1) (get_or s at 0) v.token (number_of e) shape operand (read-refused (T (at + 1)) e ra ca read_a))
 
-    module _ (ea : a.unread ≡ 0) where
-      fa : TreeFound (read_tree (depth - 1) table s (at + 1)) a ra ca
-      fa = read_given (read_tree (depth - 1) table s (at + 1)) a ra ca read_a ea
+    module _ (a : Tree) (read_a : ReadAs (T (at + 1)) (Ok a) ra ca) where
+      fa : TreeFound (T (at + 1)) a ra ca
+      fa = read_given (T (at + 1)) a ra ca read_a
 
-      pub level_one : (r : Tree) (w : Worked) → k ≡ 1 → RowsGive (on_one (worked_of a.work ra ca)) w rows coefs → Made r a.next w
-          → ReadAs (read_tree depth table s at) r rows coefs
-      level_one r w e h m =
-          subst (λ (x : Result (Expr × ℕ)). ReadAs x r rows coefs) (sym (behind operand))
-          (one_operand (read_tree (depth - 1) table s) (at + 1) (get_or s at 0) a r ra ca rows coefs fa v.token shape (sym count ∙ e) m.0 m.1
-          (subst (λ (w : Worked). RowsGive (on_one (worked_of a.work ra ca)) w rows coefs) (sym m.2) h))
+      pub level_one : (w : Std.Result Worked Refusal) → k ≡ 1 → RowsGive (on_one (worked_of a.work ra ca)) w rows coefs
+          → ReadAs (read_tree depth table s at) (Ok (record { next = a.next; work = w })) rows coefs
+      level_one w e h =
+          subst (λ (x : Result (Expr × ℕ)). ReadAs x (Ok (record { next = a.next; work = w })) rows coefs) (sym (behind operand))
+          (one_operand T (at + 1) (get_or s at 0) a ra ca rows coefs fa w v.token shape (sym count ∙ e) h)
 
-      module _ (b : Tree) (rb : List (List ℕ)) (cb : List ℤ) (read-b : ReadAs (read_tree (depth - 1) table s a.next) b rb cb) (more : k ≡ 1 → ⊥) where
+      module _ (rb : List (List ℕ)) (cb : List ℤ) (more : k ≡ 1 → ⊥) where
         operands : operand_count (get_or s at 0) ≡ 1 → ⊥
         operands e = more (count ∙ e)
 
-        pub level-second : (b.unread ≡ 0 → ⊥) → ReadAs (read_tree depth table s at) b rows coefs
-        level-second h =
-            handed b h (behind operand ∙ second-unread (read_tree (depth - 1) table s) (at + 1) (get_or s at 0) a b ra ca rows coefs fa v.token
-            b.unread shape operand operands
-            (read-refused (read_tree (depth - 1) table s a.next) b rb cb read-b h))
+        pub level-second : (e : Refusal) → ReadAs (T a.next) (Err e) rb cb → ReadAs (read_tree depth table s at) (Err e) rows coefs
+        level-second e read-b =
+            handed e (behind operand ∙ second-unread T (at + 1) (get_or s at 0) a ra ca rows coefs fa (Err e) v.token
+            (number_of e) shape operand operands
+            (read-refused (T a.next) e rb cb read-b))
 
-        module _ (eb : b.unread ≡ 0) where
-          fb : TreeFound (read_tree (depth - 1) table s a.next) b rb cb
-          fb = read_given (read_tree (depth - 1) table s a.next) b rb cb read-b eb
+        module _ (b : Tree) (read-b : ReadAs (T a.next) (Ok b) rb cb) where
+          fb : TreeFound (T a.next) b rb cb
+          fb = read_given (T a.next) b rb cb read-b
 
-          pub level_two : (r : Tree) (w : Worked) → k ≡ 2 → RowsGive (on_two (get_or s at 0) (worked_of a.work ra ca) (worked_of b.work rb cb)) w rows coefs
-              → Made r b.next w
-              → ReadAs (read_tree depth table s at) r rows coefs
-          level_two r w e h m =
-              subst (λ (x : Result (Expr × ℕ)). ReadAs x r rows coefs) (sym (behind operand))
-              (two_operands (read_tree (depth - 1) table s) (at + 1) (get_or s at 0) a r ra ca rows coefs fa b rb cb fb v.token shape (sym count ∙ e) m.0
-              m.1
-              (subst (λ (w : Worked). RowsGive (on_two (get_or s at 0) (worked_of a.work ra ca) (worked_of b.work rb cb)) w rows coefs) (sym m.2) h))
+          pub level_two : (w : Std.Result Worked Refusal) → k ≡ 2 → RowsGive (on_two (get_or s at 0) (worked_of a.work ra ca) (worked_of b.work rb cb)) w rows coefs
+              → ReadAs (read_tree depth table s at) (Ok (record { next = b.next; work = w })) rows coefs
+          level_two w e h =
+              subst (λ (x : Result (Expr × ℕ)). ReadAs x (Ok (record { next = b.next; work = w })) rows coefs) (sym (behind operand))
+              (two_operands T (at + 1) (get_or s at 0) a ra ca rows coefs fa w b rb cb fb v.token shape (sym count ∙ e) h)
 
-          module _ (d : Tree) (rd : List (List ℕ)) (cd : List ℤ) (read-d : ReadAs (read_tree (depth - 1) table s b.next) d rd cd) (most : k ≡ 2 → ⊥) where
+          module _ (rd : List (List ℕ)) (cd : List ℤ) (most : k ≡ 2 → ⊥) where
             three_of : operand_count (get_or s at 0) ≡ 2 → ⊥
             three_of e = most (count ∙ e)
 
-            pub level-third : (d.unread ≡ 0 → ⊥) → ReadAs (read_tree depth table s at) d rows coefs
-            level-third h =
-                handed d h (behind operand ∙ third-unread (read_tree (depth - 1) table s) (at + 1) (get_or s at 0) a d ra ca rows coefs fa b rb cb fb v.token
-                d.unread shape operand operands three_of
-                (read-refused (read_tree (depth - 1) table s b.next) d rd cd read-d h))
+            pub level-third : (e : Refusal) → ReadAs (T b.next) (Err e) rd cd → ReadAs (read_tree depth table s at) (Err e) rows coefs
+            level-third e read-d =
+                handed e (behind operand ∙ third-unread T (at + 1) (get_or s at 0) a ra ca rows coefs fa (Err e) b rb cb fb v.token
+                (number_of e) shape operand operands three_of
+                (read-refused (T b.next) e rd cd read-d))
 
-            pub level-three : (r : Tree) (w : Worked) → d.unread ≡ 0
+            pub level-three : (d : Tree) → ReadAs (T b.next) (Ok d) rd cd → (w : Std.Result Worked Refusal)
                 → RowsGive (on_three (worked_of a.work ra ca) (worked_of b.work rb cb) (worked_of d.work rd cd)) w rows coefs
-                → Made r d.next w → ReadAs (read_tree depth table s at) r rows coefs
-            level-three r w e h m =
-                subst (λ (x : Result (Expr × ℕ)). ReadAs x r rows coefs) (sym (behind operand))
-                (three-operands (read_tree (depth - 1) table s) (at + 1) (get_or s at 0) a r ra ca rows coefs fa b rb cb fb d rd cd
-                (read_given (read_tree (depth - 1) table s b.next) d rd cd read-d e) v.token shape operand operands three_of m.0 m.1
-                (subst (λ (w : Worked). RowsGive (on_three (worked_of a.work ra ca) (worked_of b.work rb cb) (worked_of d.work rd cd)) w rows coefs)
-                (sym m.2) h))
+                → ReadAs (read_tree depth table s at) (Ok (record { next = d.next; work = w })) rows coefs
+            level-three d read-d w h =
+                subst (λ (x : Result (Expr × ℕ)). ReadAs x (Ok (record { next = d.next; work = w })) rows coefs) (sym (behind operand))
+                (three-operands T (at + 1) (get_or s at 0) a ra ca rows coefs fa w b rb cb fb d rd cd
+                (read_given (T b.next) d rd cd read-d) v.token shape operand operands three_of h)
 
 -- two operands of which the second is a leaf
 pub level_leafy : (depth : ℕ) (table s : List ℕ) (at : ℕ) (v : Level depth table s at) (rows : List (List ℕ)) (coefs : List ℤ) (k : ℕ)
     → k ≡ operand_count (get_or s at 0)
-    → (a : Tree) (ra : List (List ℕ)) (ca : List ℤ) → ReadAs (read_tree (depth - 1) table s (at + 1)) a ra ca → (k ≡ 0 → ⊥) → a.unread ≡ 0 → (k ≡ 1 → ⊥)
-    → (r : Tree) → k ≡ 2
+    → (ra : List (List ℕ)) (ca : List ℤ) → (k ≡ 0 → ⊥) → (a : Tree) → ReadAs (read_tree (depth - 1) table s (at + 1)) (Ok a) ra ca → (k ≡ 1 → ⊥)
+    → (r : Std.Result Tree Refusal) → k ≡ 2
     → LeafSecond (depth - 1) table s (get_or s at 0) a ra ca r rows coefs → ReadAs (read_tree depth table s at) r rows coefs
-level_leafy depth table s at v rows coefs k count a ra ca read_a some ea none r both w = go w.second.unread refl
+level_leafy depth table s at v rows coefs k count ra ca some a read_a none r both w = go w.second refl
   where
-    go : (n : ℕ) → w.second.unread ≡ n → ReadAs (read_tree depth table s at) r rows coefs
-    go zero e =
-        level_two depth table s at v rows coefs k count a ra ca read_a some ea w.second w.right w.rights w.read none e r r.work both (w.works e)
-        ((w.made e).0, (w.made e).1, refl)
-    go (suc n) e =
-        let h : w.second.unread ≡ 0 → ⊥ = λ z. absurd (omega (arith, sym e ∙ z)) in
-        subst (λ (x : Tree). ReadAs (read_tree depth table s at) x rows coefs) (sym (w.refuses h))
-        (level-second depth table s at v rows coefs k count a ra ca read_a some ea w.second w.right w.rights w.read none h)
+    go : (x : Std.Result Tree Refusal) → w.second ≡ x → ReadAs (read_tree depth table s at) r rows coefs
+    go (Ok b) e =
+        let p = w.works b e in
+        subst (λ (x : Std.Result Tree Refusal). ReadAs (read_tree depth table s at) x rows coefs) (sym p.1)
+        (level_two depth table s at v rows coefs k count ra ca some a read_a w.right w.rights none b
+        (subst (λ (x : Std.Result Tree Refusal). ReadAs (read_tree (depth - 1) table s a.next) x w.right w.rights) e w.read) p.0 both p.2)
+    go (Err n) e =
+        subst (λ (x : Std.Result Tree Refusal). ReadAs (read_tree depth table s at) x rows coefs) (sym (w.refuses n e))
+        (level-second depth table s at v rows coefs k count ra ca some a read_a w.right w.rights none n
+        (subst (λ (x : Std.Result Tree Refusal). ReadAs (read_tree (depth - 1) table s a.next) x w.right w.rights) e w.read))

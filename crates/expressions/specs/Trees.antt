@@ -1,9 +1,13 @@
 -- Tokens by their operands, the tests at a tree, and what a tree gives when it is read and worked at once. Assumes nothing.
-use Rattle.std.specs.Prelude.{◌≡◌, ◌&&◌, List, ℕ, ◌+◌, ◌≤◌, leb, eqb, ℤ, length, get_or}
+use Rattle.std.specs.Prelude.{◌≡◌, ◌&&◌, List, ℕ, ◌+◌, ◌≤◌, leb, eqb, ℤ, length, get_or, Ok, Err, IfOk}
+use Rattle.std.specs.Prelude as Std
 use Rattle.specification.specs.Results.{Result, Test, refused, given, ◌>>=◌, ◌>>◌, require, when◌then◌else◌}
 use Rattle.specification.specs.Terms.{Form}
 use Rattle.specification.specs.Expressions.{Expr, token_bytes, test_bytes, read_token, read_operands, read_tree}
 use Rattle.specification.specs.Reduction.{negate_form, sum_forms, times_forms, dot_forms, wedge_forms, triple_forms, work}
+use Rattle.refusal.specs.declared.Refusal.{Refusal}
+use Rattle.refusal.specs.Numbers.{number_of}
+use Rattle.refusal.specs.Tests.{answer_of}
 use Rattle.rows.specs.declared.Worked.{Worked}
 use Rattle.rows.specs.Rows.{form_by, FormRun, RowsGive}
 use Rattle.expressions.specs.declared.trees.Tree.{Tree}
@@ -28,13 +32,13 @@ test_head depth table s at = do
 
 -- ════ working
 
--- a form in rows, or the refusal where its number is not 0
-unfoldable pub worked_of : Worked → (rows : List (List ℕ)) (coefs : List ℤ) → Result Form
-worked_of w rows coefs = when eqb w.refusal 0 then given (form_by w.kind w.count rows coefs) else refused w.refusal
+-- a form in rows, or the refusal
+unfoldable pub worked_of : Std.Result Worked Refusal → (rows : List (List ℕ)) (coefs : List ℤ) → Result Form
+worked_of w rows coefs = answer_of (λ x. form_by x.kind x.count rows coefs) w
 
 -- a result whose form is in shape, if it is one
-unfoldable pub Sound : Worked → (rows : List (List ℕ)) (coefs : List ℤ) → Type 0
-Sound w rows coefs = w.refusal ≡ 0 → FormRun w.kind w.count rows coefs
+unfoldable pub Sound : Std.Result Worked Refusal → (rows : List (List ℕ)) (coefs : List ℤ) → Type 0
+Sound w rows coefs = IfOk w (λ x. FormRun x.kind x.count rows coefs)
 
 -- the operator of a token with two operands
 unfoldable pub binary : (token : ℕ) (f g : Form) → Result Form
@@ -69,21 +73,17 @@ on_three x y z = do
 
 -- ════ trees
 
--- reading refused with a number
-pub record Unread (n : ℕ) (r : Tree) : Type 0 where
-  pub is : r.unread ≡ n
-  pub some : n ≡ 0 → ⊥
-
 -- a tree was read, the position behind it, and it was worked in rows
 pub record TreeAs (e : Expr) (next : ℕ) (r : Tree) (rows : List (List ℕ)) (coefs : List ℤ) : Type 0 where
-  pub read : r.unread ≡ 0
   pub next_is : r.next ≡ next
   pub worked : RowsGive (work e) r.work rows coefs
 
 -- what reading gave
-unfoldable pub ReadAs : Result (Expr × ℕ) → Tree → (rows : List (List ℕ)) (coefs : List ℤ) → Type 0
-ReadAs (refused n) r rows coefs = Unread n r
-ReadAs (given x) r rows coefs = TreeAs x.0 x.1 r rows coefs
+unfoldable pub ReadAs : Result (Expr × ℕ) → Std.Result Tree Refusal → (rows : List (List ℕ)) (coefs : List ℤ) → Type 0
+ReadAs (refused n) (Err e) rows coefs = number_of e ≡ n
+ReadAs (refused n) (Ok r) rows coefs = ⊥
+ReadAs (given x) (Err e) rows coefs = ⊥
+ReadAs (given x) (Ok r) rows coefs = TreeAs x.0 x.1 r rows coefs
 
 -- a leaf stands at a position, whole and known
 pub record LeafAt (table s : List ℕ) (at : ℕ) : Type 0 where
@@ -98,12 +98,12 @@ read_leaf table s at = do
   read_operands (λ next. refused 4) (at + token_bytes (get_or s at 0)) token
 
 -- the second operand is the leaf behind the first: what reading refuses of it, or the operator worked on both
-pub record LeafSecond (depth : ℕ) (table s : List ℕ) (token : ℕ) (a : Tree) (rows : List (List ℕ)) (coefs : List ℤ) (r : Tree) (rows' : List (List ℕ))
-    (coefs' : List ℤ) : Type 0 where
-  pub second : Tree
+pub record LeafSecond (depth : ℕ) (table s : List ℕ) (token : ℕ) (a : Tree) (rows : List (List ℕ)) (coefs : List ℤ) (r : Std.Result Tree Refusal)
+    (rows' : List (List ℕ)) (coefs' : List ℤ) : Type 0 where
+  pub second : Std.Result Tree Refusal
   pub right : List (List ℕ)
   pub rights : List ℤ
   pub read : ReadAs (read_tree depth table s a.next) second right rights
-  pub refuses : (second.unread ≡ 0 → ⊥) → r ≡ second
-  pub works : second.unread ≡ 0 → RowsGive (on_two token (worked_of a.work rows coefs) (worked_of second.work right rights)) r.work rows' coefs'
-  pub made : second.unread ≡ 0 → (r.unread ≡ 0) × (r.next ≡ second.next)
+  pub refuses : (e : Refusal) → second ≡ Err e → r ≡ Err e
+  pub works : (b : Tree) → second ≡ Ok b
+      → (w : Std.Result Worked Refusal) × (r ≡ Ok (record { next = b.next; work = w })) × RowsGive (on_two token (worked_of a.work rows coefs) (worked_of b.work right rights)) w rows' coefs'

@@ -1,5 +1,5 @@
 // Trees: read in prefix order, operands left to right, and worked on the way in lent rows. What reading refuses comes before what working refuses.
-ghost use Rattle.std.specs.Prelude.{◌≡◌, List, ℕ, ◌≤◌, true, length, get_or};
+ghost use Rattle.std.specs.Prelude.{◌≡◌, List, ℕ, ◌≤◌, true, length, get_or, Ok, IfOk};
 ghost use Rattle.specification.specs.Expressions.{read_tree};
 ghost use Rattle.rows.specs.Rows.{Light, form_by, FormRun, RowsGive};
 ghost use Rattle.expressions.specs.Trees.{operand_count, binary, on_one, on_two, on_three, worked_of, Sound, LeafAt, read_leaf, ReadAs, LeafSecond};
@@ -9,28 +9,15 @@ use integers::four_bytes_at;
 use leaves::{constant, letter};
 use letters::kind_of;
 use operators::products::{dot, times, triple, wedge};
+use refusal::Refusal;
 use rows::Worked;
 use sums::adding::{difference, negate, sum};
-use sums::results::refuse;
 
-// A tree: what reading refused, the position behind it, and what working gave.
+// A tree that was read: the position behind it, and what working gave.
 #[derive(Clone, Copy)]
 pub struct Tree {
-    pub unread: u8,
     pub next: usize,
-    pub work: Worked,
-}
-
-// A tree that reading refused.
-fn unread(n: u8) -> Tree
-    ensures { result.unread ≡ n }
-{
-    let w = refuse(n);
-    Tree {
-        unread: n,
-        next: 0,
-        work: w,
-    }
+    pub work: Result<Worked, Refusal>,
 }
 
 // The operator of a token with two operands, on two forms.
@@ -42,7 +29,7 @@ fn operate(
     y: Worked,
     right: &[[u32; 8]],
     rights: &mut [i64],
-) -> Worked
+) -> Result<Worked, Refusal>
     requires { FormRun x.kind x.count rows.old coefs.old × FormRun y.kind y.count right.now rights.old × (48 ≤ length rows.old)
         × (48 ≤ length coefs.old) }
     ensures { RowsGive (binary token (form_by x.kind x.count rows.old coefs.old)
@@ -54,74 +41,62 @@ fn operate(
         6 => times(x.kind, x.count, rows, coefs, y.kind, y.count, right, rights),
         7 => dot(x.kind, x.count, rows, coefs, y.kind, y.count, right, rights),
         8 => wedge(x.kind, x.count, rows, coefs, y.kind, y.count, right, rights),
-        0..=2 | 5 | 9..=255 => refuse(4),
+        0..=2 | 5 | 9..=255 => Err(Refusal::Torn),
     }
 }
 
 // One operand: its refusal, or its form with the signs turned.
-fn apply_one(x: Worked, coefs: &mut [i64]) -> Worked
-    requires { x.refusal ≡ 0 → (x.count ≤ length coefs.old) × Light 2147483647 x.count coefs.old }
+fn apply_one(x: Result<Worked, Refusal>, coefs: &mut [i64]) -> Result<Worked, Refusal>
+    requires { IfOk x (λ w. (w.count ≤ length coefs.old) × Light 2147483647 w.count coefs.old) }
     ensures { (rows : List (List ℕ)) → Sound x rows coefs.old
         → RowsGive (on_one (worked_of x rows coefs.old)) result rows coefs.new }
 {
-    if x.refusal != 0 {
-        return x;
-    }
-    negate(coefs, x.count);
-    x
+    let w = x?;
+    negate(coefs, w.count);
+    Ok(w)
 }
 
 // Two operands: the left refusal, the right one, or the operator.
 fn apply_two(
     token: u8,
-    x: Worked,
+    x: Result<Worked, Refusal>,
     rows: &mut [[u32; 8]],
     coefs: &mut [i64],
-    y: Worked,
+    y: Result<Worked, Refusal>,
     right: &[[u32; 8]],
     rights: &mut [i64],
-) -> Worked
+) -> Result<Worked, Refusal>
     requires { Sound x rows.old coefs.old × Sound y right.now rights.old × (48 ≤ length rows.old) × (48 ≤ length coefs.old) }
     ensures { RowsGive (on_two token (worked_of x rows.old coefs.old) (worked_of y right.now rights.old)) result
         rows.new coefs.new }
 {
-    if x.refusal != 0 {
-        return x;
-    }
-    if y.refusal != 0 {
-        return y;
-    }
-    operate(token, x, rows, coefs, y, right, rights)
+    let f = x?;
+    let g = y?;
+    operate(token, f, rows, coefs, g, right, rights)
 }
 
 // Three operands: the first refusal, or their triple.
 fn apply_three(
-    x: Worked,
+    x: Result<Worked, Refusal>,
     rows: &mut [[u32; 8]],
     coefs: &mut [i64],
-    y: Worked,
+    y: Result<Worked, Refusal>,
     right: &[[u32; 8]],
     rights: &[i64],
-    z: Worked,
+    z: Result<Worked, Refusal>,
     third: &[[u32; 8]],
     thirds: &[i64],
-) -> Worked
+) -> Result<Worked, Refusal>
     requires { Sound x rows.old coefs.old × Sound y right.now rights.now × Sound z third.now thirds.now × (48 ≤ length rows.old)
         × (48 ≤ length coefs.old) }
     ensures { RowsGive (on_three (worked_of x rows.old coefs.old) (worked_of y right.now rights.now)
         (worked_of z third.now thirds.now)) result rows.new coefs.new }
 {
-    if x.refusal != 0 {
-        return x;
-    }
-    if y.refusal != 0 {
-        return y;
-    }
-    if z.refusal != 0 {
-        return z;
-    }
+    let f = x?;
+    let g = y?;
+    let h = z?;
     triple(
-        x.kind, x.count, rows, coefs, y.kind, y.count, right, rights, z.kind, z.count, third,
+        f.kind, f.count, rows, coefs, g.kind, g.count, right, rights, h.kind, h.count, third,
         thirds,
     )
 }
@@ -129,7 +104,7 @@ fn apply_three(
 // A letter or a constant, whole with its bytes.
 fn leaf(table: &[u8], s: &[u8], at: usize, rows: &mut [[u32; 8]], coefs: &mut [i64]) -> Tree
     requires { LeafAt table.now s.now at × (1 ≤ length rows.old) × (1 ≤ length coefs.old) }
-    ensures { ReadAs (read_leaf table.now s.now at) result rows.new coefs.new }
+    ensures { ReadAs (read_leaf table.now s.now at) (Ok result) rows.new coefs.new }
 {
     let token = s[at];
     if token == 1 {
@@ -137,17 +112,12 @@ fn leaf(table: &[u8], s: &[u8], at: usize, rows: &mut [[u32; 8]], coefs: &mut [i
         let k = kind_of(table, n as usize);
         let w = letter(n, k, rows, coefs);
         return Tree {
-            unread: 0,
             next: at + 2,
-            work: w,
+            work: Ok(w),
         };
     }
-    let w = constant(four_bytes_at(s, at + 1), rows, coefs);
-    Tree {
-        unread: 0,
-        next: at + 5,
-        work: w,
-    }
+    let work = constant(four_bytes_at(s, at + 1), rows, coefs);
+    Tree { next: at + 5, work }
 }
 
 // Whether a token has two operands and the second, at a position, is a leaf; bytes that are missing are refused as one.
@@ -171,15 +141,12 @@ fn read_leaf(
     depth: usize,
     rows: &mut [[u32; 8]],
     coefs: &mut [i64],
-) -> Tree
+) -> Result<Tree, Refusal>
     requires { (operand_count (get_or s.now at 0) ≡ 0) × (1 ≤ length rows.old) × (1 ≤ length coefs.old) }
     ensures { ReadAs (read_tree depth table.now s.now at) result rows.new coefs.new }
 {
-    let n = test_head(table, s, at, depth);
-    if n != 0 {
-        return unread(n);
-    }
-    leaf(table, s, at, rows, coefs)
+    test_head(table, s, at, depth)?;
+    Ok(leaf(table, s, at, rows, coefs))
 }
 
 // The operator of a token with two operands of which the second is a leaf: it needs no more than one row of its own.
@@ -191,23 +158,16 @@ fn with_leaf(
     a: Tree,
     rows: &mut [[u32; 8]],
     coefs: &mut [i64],
-) -> Tree
+) -> Result<Tree, Refusal>
     requires { (operand_count (get_or s.now a.next 0) ≡ 0) × Sound a.work rows.old coefs.old × (48 ≤ length rows.old) × (48 ≤ length coefs.old) }
     ensures { LeafSecond depth table.now s.now token a rows.old coefs.old result rows.new coefs.new }
 {
     let e = [0u32; 8];
     let mut right = [e; 1];
     let mut rights = [0i64; 1];
-    let b = read_leaf(table, s, a.next, depth, &mut right, &mut rights);
-    if b.unread != 0 {
-        return b;
-    }
-    let w = apply_two(token, a.work, rows, coefs, b.work, &right, &mut rights);
-    Tree {
-        unread: 0,
-        next: b.next,
-        work: w,
-    }
+    let b = read_leaf(table, s, a.next, depth, &mut right, &mut rights)?;
+    let work = apply_two(token, a.work, rows, coefs, b.work, &right, &mut rights);
+    Ok(Tree { next: b.next, work })
 }
 
 // The tree at a position, with so much depth left: its own tests, then its operands, each a tree again; only the first one is worked in the lent rows.
@@ -218,31 +178,20 @@ pub fn read_tree(
     depth: usize,
     rows: &mut [[u32; 8]],
     coefs: &mut [i64],
-) -> Tree
+) -> Result<Tree, Refusal>
     requires { (48 ≤ length rows.old) × (48 ≤ length coefs.old) }
     ensures { ReadAs (read_tree depth table.now s.now at) result rows.new coefs.new }
 {
-    let n = test_head(table, s, at, depth);
-    if n != 0 {
-        return unread(n);
-    }
+    test_head(table, s, at, depth)?;
     let token = s[at];
     let k = operands(token);
     if k == 0 {
-        return leaf(table, s, at, rows, coefs);
+        return Ok(leaf(table, s, at, rows, coefs));
     }
-    let a = read_tree(table, s, at + 1, depth - 1, rows, coefs);
-    if a.unread != 0 {
-        return a;
-    }
-    let x = a.work;
+    let a = read_tree(table, s, at + 1, depth - 1, rows, coefs)?;
     if k == 1 {
-        let w = apply_one(x, coefs);
-        return Tree {
-            unread: 0,
-            next: a.next,
-            work: w,
-        };
+        let work = apply_one(a.work, coefs);
+        return Ok(Tree { next: a.next, work });
     }
     if ends_in_leaf(k, s, a.next) {
         return with_leaf(table, s, depth - 1, token, a, rows, coefs);
@@ -250,30 +199,16 @@ pub fn read_tree(
     let e = [0u32; 8];
     let mut right = [e; 48];
     let mut rights = [0i64; 48];
-    let b = read_tree(table, s, a.next, depth - 1, &mut right, &mut rights);
-    if b.unread != 0 {
-        return b;
-    }
-    let y = b.work;
+    let b = read_tree(table, s, a.next, depth - 1, &mut right, &mut rights)?;
     if k == 2 {
-        let w = apply_two(token, x, rows, coefs, y, &right, &mut rights);
-        return Tree {
-            unread: 0,
-            next: b.next,
-            work: w,
-        };
+        let work = apply_two(token, a.work, rows, coefs, b.work, &right, &mut rights);
+        return Ok(Tree { next: b.next, work });
     }
     let mut third = [e; 48];
     let mut thirds = [0i64; 48];
-    let d = read_tree(table, s, b.next, depth - 1, &mut third, &mut thirds);
-    if d.unread != 0 {
-        return d;
-    }
-    let z = d.work;
-    let w = apply_three(x, rows, coefs, y, &right, &rights, z, &third, &thirds);
-    Tree {
-        unread: 0,
-        next: d.next,
-        work: w,
-    }
+    let d = read_tree(table, s, b.next, depth - 1, &mut third, &mut thirds)?;
+    let work = apply_three(
+        a.work, rows, coefs, b.work, &right, &rights, d.work, &third, &thirds,
+    );
+    Ok(Tree { next: d.next, work })
 }

@@ -9,11 +9,11 @@ ghost use Rattle.terms.specs.Valid.{TermValid, FormValid, Gives};
 ghost use Rattle.rows.specs.Rows.{run_of, form_by, FormRun, SomeForm, RowsGive};
 ghost use Rattle.replacing.specs.Replacing.{leaf_by, Replaces, plus_term};
 
+use refusal::Refusal;
 use rows::{Worked, form_of, hold, term_of};
 use sums::adding::sum;
 use term_trees::work_term;
-use terms::build::refuse;
-use terms::types::{Form, Outcome, Term};
+use terms::types::{Form, Term};
 
 // What stands in the rows plus a term, which is worked in others.
 fn add_term(
@@ -27,16 +27,13 @@ fn add_term(
     coefs: &mut [i64],
     more: &mut [[u32; 8]],
     beside: &mut [i64],
-) -> Worked
+) -> Result<Worked, Refusal>
     requires { TermValid t × Replaces m right.now rights.now rows.old coefs.old × FormRun x.kind x.count rows.old coefs.old
         × (48 ≤ length more.old) × (48 ≤ length beside.old) }
     ensures { RowsGive (plus_term (leaf_by replaced m right.now rights.now)
         (form_by x.kind x.count rows.old coefs.old) (term_of t)) result rows.new coefs.new }
 {
-    let y = work_term(t, replaced, m, right, rights, more, beside);
-    if y.refusal != 0 {
-        return y;
-    }
+    let y = work_term(t, replaced, m, right, rights, more, beside)?;
     sum(x.kind, x.count, rows, coefs, y.kind, y.count, more, beside)
 }
 
@@ -52,9 +49,9 @@ fn add_terms(
     rights: &[i64],
     rows: &mut [[u32; 8]],
     coefs: &mut [i64],
-) -> Worked
+) -> Result<Worked, Refusal>
     requires { SomeForm n old.now olds.now × Replaces m right.now rights.now rows.old coefs.old
-        × FormRun x.kind x.count rows.old coefs.old × (x.refusal ≡ 0) × (1 ≤ n) }
+        × FormRun x.kind x.count rows.old coefs.old × (1 ≤ n) }
     ensures { RowsGive (plus_each (leaf_by replaced m right.now rights.now)
         (form_by x.kind x.count rows.old coefs.old) (drop 1 (run_of n old.now olds.now))) result
         rows.new coefs.new }
@@ -63,8 +60,7 @@ fn add_terms(
     let mut more = [e; 48];
     let mut beside = [0i64; 48];
     let mut w = x;
-    let mut i: usize = 1;
-    while i < n {
+    for i in 1..n {
         let r = old[i];
         let t = term_of(r, olds[i]);
         w = add_term(
@@ -78,13 +74,9 @@ fn add_terms(
             coefs,
             &mut more,
             &mut beside,
-        );
-        if w.refusal != 0 {
-            return w;
-        }
-        i += 1;
+        )?;
     }
-    w
+    Ok(w)
 }
 
 // The form of a kind with the terms of n rows, worked; the empty form stands.
@@ -99,29 +91,22 @@ fn work_terms(
     rights: &[i64],
     rows: &mut [[u32; 8]],
     coefs: &mut [i64],
-) -> Worked
+) -> Result<Worked, Refusal>
     requires { FormRun kind n old.now olds.now × Replaces m right.now rights.now rows.old coefs.old }
     ensures { RowsGive (insert_terms (leaf_by replaced m right.now rights.now) kind (run_of n old.now olds.now)) result
         rows.new coefs.new }
 {
     if n == 0 {
-        return Worked {
-            refusal: 0,
-            kind: kind,
-            count: 0,
-        };
+        return Ok(Worked { kind, count: 0 });
     }
     let r = old[0];
     let t = term_of(r, olds[0]);
-    let w = work_term(t, replaced, m, right, rights, rows, coefs);
-    if w.refusal != 0 {
-        return w;
-    }
+    let w = work_term(t, replaced, m, right, rights, rows, coefs)?;
     add_terms(w, n, old, olds, replaced, m, right, rights, rows, coefs)
 }
 
 // A form with a vector form for one of its letters.
-pub fn replace(f: Form, replaced: u8, g: Form) -> Outcome
+pub fn replace(f: Form, replaced: u8, g: Form) -> Result<Form, Refusal>
     requires { FormValid f × FormValid g × (g.kind ≡ 1) }
     ensures { Gives (insert_form replaced (form_of g) (form_of f)) result }
 {
@@ -136,14 +121,6 @@ pub fn replace(f: Form, replaced: u8, g: Form) -> Outcome
     let mut coefs = [0i64; 48];
     let w = work_terms(
         f.kind, f.count, &old, &olds, replaced, g.count, &right, &rights, &mut rows, &mut coefs,
-    );
-    let n = w.refusal;
-    if n != 0 {
-        return refuse(n);
-    }
-    let h = form_of(w.kind, &rows, &coefs, w.count);
-    Outcome {
-        refusal: 0,
-        form: h,
-    }
+    )?;
+    Ok(form_of(w.kind, &rows, &coefs, w.count))
 }

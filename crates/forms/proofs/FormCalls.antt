@@ -13,12 +13,14 @@ use Rattle.specification.specs.Records.{form_bytes, write_form, write_into, answ
 use Rattle.theory.specs.Tests.{refused≢given, given_same, required}
 use Rattle.theory.specs.Shape.Forms.{FormInShape}
 use Rattle.theory.specs.Records.Forms.{form-read_back}
-use Rattle.terms.specs.declared.types.Outcome.{Outcome}
+use Rattle.std.specs.Prelude.{Ok, Err}
+use Rattle.refusal.specs.declared.Refusal.{Refusal}
+use Rattle.refusal.specs.Numbers.{number_of}
+use Rattle.terms.specs.declared.types.Form.{Form}
 use Rattle.terms.specs.Abstraction.{form_of}
 use Rattle.terms.specs.Valid.{Gives}
 use Rattle.terms.proofs.Outcomes.{worked_given, worked_refused}
-use Rattle.letters.specs.Tested.{test_of}
-use Rattle.letters.proofs.LetterTests.{test-passed, test_refused}
+use Rattle.refusal.specs.Tests.{test_of}
 use Rattle.forms.specs.Written.{FormWritten}
 
 -- ════ the tests and the answer
@@ -32,36 +34,34 @@ module _ (table out : List ℕ) (content : Result S.Form) where
   unfolding answer_form
   refused_so n e = answers (refused n) e
 
-  module _ (c : ℕ) (h : test_of c ≡ test_table table) where
-    -- 1
-    pub table_refused : (c ≡ 0 → ⊥) → ◌≡◌ {A = Result ℕ × List ℕ} (refused c, out) (answer_form (form_tested table out content) out)
+  -- 1
+  pub table_refused : (e : Refusal) → test_of (Err e) ≡ test_table table → ◌≡◌ {A = Result ℕ × List ℕ} (refused (number_of e), out) (answer_form (form_tested table out content) out)
+  unfolding form_tested
+  table_refused e h = refused_so (number_of e) (ap (λ (t : Test). t >> (require (leb form_bytes (length out)) 2 >> content)) (sym h))
+
+  module _ (u : Unit {0}) (h : test_of (Ok u) ≡ test_table table) where
+    past-table : form_tested table out content ≡ (require (leb form_bytes (length out)) 2 >> content)
     unfolding form_tested
-    table_refused n = refused_so c (ap (λ (t : Test). t >> (require (leb form_bytes (length out)) 2 >> content)) (sym h ∙ test_refused c n))
+    past-table = ap (λ (t : Test). t >> (require (leb form_bytes (length out)) 2 >> content)) (sym h)
 
-    module _ (z : c ≡ 0) where
-      past-table : form_tested table out content ≡ (require (leb form_bytes (length out)) 2 >> content)
-      unfolding form_tested
-      past-table = ap (λ (t : Test). t >> (require (leb form_bytes (length out)) 2 >> content)) (sym h ∙ test-passed c z)
+    -- 2
+    pub short_refused : length out < form_bytes → ◌≡◌ {A = Result ℕ × List ℕ} (refused 2, out) (answer_form (form_tested table out content) out)
+    short_refused l = refused_so 2 (past-table ∙ rw (lt-leb form_bytes (length out) l))
 
-      -- 2
-      pub short_refused : length out < form_bytes → ◌≡◌ {A = Result ℕ × List ℕ} (refused 2, out) (answer_form (form_tested table out content) out)
-      short_refused l = refused_so 2 (past-table ∙ rw (lt-leb form_bytes (length out) l))
+    module _ (l : form_bytes ≤ length out) where
+      -- contents
+      pub content-decides : form_tested table out content ≡ content
+      content-decides = past-table ∙ rw (le-leb form_bytes (length out) l)
 
-      module _ (l : form_bytes ≤ length out) where
-        -- contents
-        pub content-decides : form_tested table out content ≡ content
-        content-decides = past-table ∙ rw (le-leb form_bytes (length out) l)
+      -- what the content is refused with
+      pub content_refused : (e : Refusal) → Gives content (Err e) → ◌≡◌ {A = Result ℕ × List ℕ} (refused (number_of e), out) (answer_form (form_tested table out content) out)
+      content_refused e w = refused_so (number_of e) (content-decides ∙ worked_refused content e w)
 
-        module _ (w : Outcome) (worked : Gives content w) where
-          -- what the content is refused with
-          pub content_refused : (w.refusal ≡ 0 → ⊥) → ◌≡◌ {A = Result ℕ × List ℕ} (refused w.refusal, out) (answer_form (form_tested table out content) out)
-          content_refused n = refused_so w.refusal (content-decides ∙ worked_refused content w worked n)
-
-          -- the record written
-          pub form_written : (n : ℕ) (after : List ℕ) → w.refusal ≡ 0 → FormWritten out after n (form_of w.form)
-              → ◌≡◌ {A = Result ℕ × List ℕ} (given n, after) (answer_form (form_tested table out content) out)
-          unfolding answer_form
-          form_written n after e f = (λ i. (given (f.ends i), f.bytes i)) ∙ answers (given (form_of w.form)) (content-decides ∙ worked_given content w worked e)
+      -- the record written
+      pub form_written : (f : Form) → Gives content (Ok f) → (n : ℕ) (after : List ℕ) → FormWritten out after n (form_of f)
+          → ◌≡◌ {A = Result ℕ × List ℕ} (given n, after) (answer_form (form_tested table out content) out)
+      unfolding answer_form
+      form_written f w n after v = (λ i. (given (v.ends i), v.bytes i)) ∙ answers (given (form_of f)) (content-decides ∙ worked_given content f w)
 
 -- ════ a length that was answered
 

@@ -11,9 +11,12 @@ use Rattle.theory.specs.Tests.{tested, into}
 use Rattle.theory.specs.Records.Positions.{Bytes}
 use Rattle.theory.specs.Records.Forms.{form-read_back, form_one_record}
 use Rattle.terms.specs.declared.types.Form.{Form}
-use Rattle.terms.specs.Abstraction.{form_of, outcome_of}
+use Rattle.terms.specs.Abstraction.{form_of}
 use Rattle.terms.specs.Valid.{FormValid, Gives}
-use Rattle.terms.specs.declared.types.Outcome.{Outcome}
+use Rattle.std.specs.Prelude.{Ok}
+use Rattle.std.specs.Prelude as Std
+use Rattle.refusal.specs.declared.Refusal.{Refusal}
+use Rattle.refusal.specs.Tests.{answer_of}
 use Rattle.forms.specs.Written.{FormWritten}
 
 -- what a write left in front of the bytes lent
@@ -22,8 +25,8 @@ unfolding write_into
 front before after n f w = rw w.bytes (take_at (write_form f) (drop (length (write_form f)) before) n (sym w.ends))
 
 -- P3: the record that `write_form` wrote of a form is read by `read_form` as that form, under every table that has its letters
-pub read_after-write : (table before after : List ℕ) (n : ℕ) (f : Form) (r : Outcome) → FormValid f → test_terms table (form_of f).terms ≡ given tt
-    → FormWritten before after n (form_of f) → Gives (take_form table (take n after)) r → outcome_of r ≡ given (form_of f)
+pub read_after-write : (table before after : List ℕ) (n : ℕ) (f : Form) (r : Std.Result Form Refusal) → FormValid f → test_terms table (form_of f).terms ≡ given tt
+    → FormWritten before after n (form_of f) → Gives (take_form table (take n after)) r → answer_of form_of r ≡ given (form_of f)
 unfolding take_form
 read_after-write table before after n f r v t w k = k.is ∙ rw (front before after n (form_of f) w, form-read_back (form_of f) v.in_shape, t)
 
@@ -35,9 +38,8 @@ taken_written table s f bs q =
     let u = tested (test_terms table g.terms) (given g) f e₂ in (form_one_record s f bs (e₁ ∙ u.1)).is_written
 
 -- P3: where `read_form` took a form, `write_form` writes the bytes that were read, and as many
-pub write-after_read : (table s before after : List ℕ) (n : ℕ) (r : Outcome) → Bytes s → r.refusal ≡ 0
-    → Gives (take_form table s) r → FormWritten before after n (form_of r.form) → (take n after ≡ s) × (n ≡ length s)
-unfolding outcome_of
-write-after_read table s before after n r bs z k w =
-    let e = taken_written table s (form_of r.form) bs (sym k.is ∙ rw z) in
-    (front before after n (form_of r.form) w ∙ e, w.ends ∙ ap length e)
+pub write-after_read : (table s before after : List ℕ) (n : ℕ) (f : Form) → Bytes s
+    → Gives (take_form table s) (Ok f) → FormWritten before after n (form_of f) → (take n after ≡ s) × (n ≡ length s)
+write-after_read table s before after n f bs k w =
+    let e = taken_written table s (form_of f) bs (sym k.is) in
+    (front before after n (form_of f) w ∙ e, w.ends ∙ ap length e)

@@ -17,14 +17,16 @@ use Rattle.theory.specs.Records.Positions.{Bytes}
 use Rattle.theory.specs.Records.Forms.{form_one_record}
 use Rattle.terms.specs.declared.types.Term.{Term}
 use Rattle.terms.specs.declared.types.Form.{Form}
-use Rattle.terms.specs.Abstraction.{part_of, term_of, form_of, Counted, outcome_of, terms_of}
-use Rattle.records.specs.declared.read.TermReading.{TermReading}
-use Rattle.forms.specs.declared.FormReading.{FormReading}
-use Rattle.terms.specs.declared.types.Outcome.{Outcome}
+use Rattle.terms.specs.Abstraction.{part_of, term_of, form_of, Counted, terms_of}
+use Rattle.std.specs.Prelude.{Ok, Err}
+use Rattle.std.specs.Prelude as Std
+use Rattle.refusal.specs.declared.Refusal.{Refusal}
+use Rattle.refusal.specs.declared.Refusal.TheVariants.{WrongShape}
+use Rattle.refusal.specs.Numbers.{number_of}
 use Rattle.terms.specs.Valid.{Gives, Readable}
-use Rattle.forms.specs.Reading.{terms_read_of, behind_last, read_behind, TermsTaken, form_read_of, FormRead, WholeRead}
+use Rattle.forms.specs.Reading.{terms_read_of, behind_last, read_behind, TermsTaken, form_read_of, FormRead}
 use Rattle.records.specs.Reading.{read_of}
-use Rattle.letters.specs.Tested.{test_of}
+use Rattle.refusal.specs.Tests.{test_of}
 use Rattle.terms.proofs.Arrays.{stored-behind, mapped-behind}
 
 -- ════ the kind, and the place behind the last
@@ -89,32 +91,32 @@ module _ (t : Term) (f g : Form) (i : ℕ) (n : f.count ≡ i) (l : i < length f
 
 -- ════ a term of a form's kind, behind the last
 
-module _ (kind n : ℕ) (last : S.Term) (s : List ℕ) (at : ℕ) (a : TermReading) (e : read_of a ≡ read_term_at s at) where
-  pub behind-unread : a.ok ≡ false → read_of a ≡ read_behind kind n last s at
+module _ (kind n : ℕ) (last : S.Term) (s : List ℕ) (at : ℕ) where
+  pub behind-unread : (e : Refusal) → read_of (Err e) ≡ read_term_at s at → read_of (Err e) ≡ read_behind kind n last s at
   unfolding read_behind read_of
-  behind-unread o = let q : read_term_at s at ≡ refused 11 = sym e ∙ rw o in rw (o, q)
+  behind-unread e h = rw (sym h)
 
-  module _ (o : a.ok ≡ true) where
-    read : read_term_at s at ≡ given (term_of a.term, a.next)
+  module _ (t : Term) (next : ℕ) (e : read_of (Ok (t, next)) ≡ read_term_at s at) where
+    read : read_term_at s at ≡ given (term_of t, next)
     unfolding read_of
-    read = sym e ∙ rw o
+    read = sym e
 
-    pub behind-other-kind : part_fits kind (term_of a.term) ≡ false → refused 11 ≡ read_behind kind n last s at
+    pub behind-other-kind : part_fits kind (term_of t) ≡ false → refused 11 ≡ read_behind kind n last s at
     unfolding read_behind
     behind-other-kind f = rw (read, f)
 
-    pub behind-not : part_fits kind (term_of a.term) ≡ true → behind_last n last (term_of a.term) ≡ false → refused 11 ≡ read_behind kind n last s at
+    pub behind-not : part_fits kind (term_of t) ≡ true → behind_last n last (term_of t) ≡ false → refused 11 ≡ read_behind kind n last s at
     unfolding read_behind
     behind-not f g = rw (read, f, g)
 
-    pub behind_given : part_fits kind (term_of a.term) ≡ true → behind_last n last (term_of a.term) ≡ true → read_of a ≡ read_behind kind n last s at
+    pub behind_given : part_fits kind (term_of t) ≡ true → behind_last n last (term_of t) ≡ true → read_of (Ok (t, next)) ≡ read_behind kind n last s at
     unfolding read_behind read_of
-    behind_given f g = rw (read, f, g, o)
+    behind_given f g = rw (read, f, g)
 
 -- ════ so many terms
 
 module _ (kind n : ℕ) (last : S.Term) (s : List ℕ) (ts : List S.Term) (at : ℕ) (b : (t : S.Term) → follows term_before ts t ≡ behind_last n last t)
-    (a : TermReading) (e : read_of a ≡ read_behind kind n last s at) (m : ℕ) where
+    (a : Std.Result (Term × ℕ) Refusal) (e : read_of a ≡ read_behind kind n last s at) (m : ℕ) where
   -- one turn is one term
   turn : read_terms (suc m) kind ts s at ≡ (read_of a >>= (λ (y : S.Term × ℕ). read_terms m kind (ts ++ y.0 ∷ []) s y.1))
   unfolding read_terms read_behind
@@ -131,67 +133,65 @@ module _ (kind n : ℕ) (last : S.Term) (s : List ℕ) (ts : List S.Term) (at : 
       go (refused v) = refl
       go (given z) = rw (b z.0) (tested (part_fits kind z.0 && behind_last n last z.0) z)
 
-  pub turn_refused : a.ok ≡ false → read_terms (suc m) kind ts s at ≡ refused 11
+  pub turn_refused : (w : Refusal) → a ≡ Err w → read_terms (suc m) kind ts s at ≡ refused (number_of w)
   unfolding read_of
-  turn_refused o = turn ∙ rw o
+  turn_refused w o = turn ∙ rw o
 
-  pub turn_given : a.ok ≡ true → read_terms (suc m) kind ts s at ≡ read_terms m kind (ts ++ term_of a.term ∷ []) s a.next
+  turn_given : (t : Term) (next : ℕ) → a ≡ Ok (t, next) → read_terms (suc m) kind ts s at ≡ read_terms m kind (ts ++ term_of t ∷ []) s next
   unfolding read_of
-  turn_given o = turn ∙ rw o
+  turn_given t next o = turn ∙ rw o
 
 -- what is left to read after a turn
 pub turned : (kind n i : ℕ) (last : S.Term) (s : List ℕ) (ts us : List S.Term) (at : ℕ) → ((t : S.Term) → follows term_before ts t ≡ behind_last i last t)
-    → (a : TermReading) → read_of a ≡ read_behind kind i last s at → a.ok ≡ true → i < n → us ≡ ts ++ term_of a.term ∷ []
-    → read_terms (n - i) kind ts s at ≡ read_terms (n - (i + 1)) kind us s a.next
-turned kind n i last s ts us at b a e o h q =
+    → (t : Term) (next : ℕ) → read_of (Ok (t, next)) ≡ read_behind kind i last s at → i < n → us ≡ ts ++ term_of t ∷ []
+    → read_terms (n - i) kind ts s at ≡ read_terms (n - (i + 1)) kind us s next
+turned kind n i last s ts us at b t next e h q =
     let m : n - i ≡ suc (n - (i + 1)) = omega arith in
-    rw (m, q) (turn_given kind i last s ts at b a e (n - (i + 1)) o)
+    rw (m, q) (turn_given kind i last s ts at b (Ok (t, next)) e (n - (i + 1)) t next refl)
 
 -- before the first turn
 pub begins : (kind n : ℕ) (s : List ℕ) (at : ℕ) (ts : List S.Term) → ts ≡ [] → read_terms n kind [] s at ≡ read_terms (n - 0) kind ts s at
 begins kind n s at ts e = let z : n - 0 ≡ n = omega arith in rw (e, z)
 
-module _ (kind n : ℕ) (q : FormReading) (h : Readable n q.form) (k : q.form.kind ≡ kind) where
-  pub terms_refused : (x : Result (List S.Term × ℕ)) → q.ok ≡ false → x ≡ refused 11 → TermsTaken x kind n q
-  unfolding terms_read_of
-  terms_refused x o e = record { is = rw (o, e); readable = h; kind = k }
+pub terms_refused : (kind n : ℕ) (x : Result (List S.Term × ℕ)) (e : Refusal) → x ≡ refused (number_of e) → TermsTaken x kind n (Err e)
+unfolding terms_read_of
+terms_refused kind n x e h = record { is = sym h; readable = tt; kind = tt }
 
-  pub terms_given : (x : Result (List S.Term × ℕ)) (s : List ℕ) → q.ok ≡ true → x ≡ read_terms 0 kind (terms_of q.form) s q.next → TermsTaken x kind n q
-  unfolding terms_read_of read_terms
-  terms_given x s o e = record { is = rw (o, e); readable = h; kind = k }
+pub terms_given : (kind n : ℕ) (f : Form) (next : ℕ) (x : Result (List S.Term × ℕ)) (s : List ℕ) → Readable n f → f.kind ≡ kind → x ≡ read_terms 0 kind (terms_of f) s next
+    → TermsTaken x kind n (Ok (f, next))
+unfolding terms_read_of read_terms
+terms_given kind n f next x s h k e = record { is = sym e; readable = h; kind = k }
 
 -- ════ a form
 
 module _ (s : List ℕ) (at : ℕ) where
-  module _ (q : FormReading) (h : q.ok ≡ false) where
-    unread : form_read_of q ≡ refused 11
-    unfolding form_read_of
-    unread = rw h
+  pub form-short_of-bytes : leb (at + 2) (length s) ≡ false → FormRead (read_form_at s at) (Err WrongShape)
+  unfolding read_form_at form_read_of
+  form-short_of-bytes e = record { is = rw e; readable = tt }
 
-    pub form-short_of-bytes : leb (at + 2) (length s) ≡ false → form_read_of q ≡ read_form_at s at
-    unfolding read_form_at
-    form-short_of-bytes e = unread ∙ rw e
+  pub form-bad-kind : leb (at + 2) (length s) ≡ true → 1 < get_or s at 0 → FormRead (read_form_at s at) (Err WrongShape)
+  unfolding read_form_at form_read_of
+  form-bad-kind e g = record { is = rw (e, lt-leb (get_or s at 0) 1 g); readable = tt }
 
-    pub form-bad-kind : leb (at + 2) (length s) ≡ true → 1 < get_or s at 0 → form_read_of q ≡ read_form_at s at
-    unfolding read_form_at
-    form-bad-kind e g = unread ∙ rw (e, lt-leb (get_or s at 0) 1 g)
+  pub form-too_long : leb (at + 2) (length s) ≡ true → get_or s at 0 ≤ 1 → 48 < get_or s (at + 1) 0 → FormRead (read_form_at s at) (Err WrongShape)
+  unfolding read_form_at form_read_of
+  form-too_long e g l = record { is = rw (e, le-leb (get_or s at 0) 1 g, lt-leb (get_or s (at + 1) 0) 48 l); readable = tt }
 
-    pub form-too_long : leb (at + 2) (length s) ≡ true → get_or s at 0 ≤ 1 → 48 < get_or s (at + 1) 0 → form_read_of q ≡ read_form_at s at
-    unfolding read_form_at
-    form-too_long e g l = unread ∙ rw (e, le-leb (get_or s at 0) 1 g, lt-leb (get_or s (at + 1) 0) 48 l)
+  module _ (e : leb (at + 2) (length s) ≡ true) (g : get_or s at 0 ≤ 1) (l : get_or s (at + 1) 0 ≤ 48) where
+    named : Result (List S.Term × ℕ) → Result (S.Form × ℕ)
+    named z = z >>= (λ (x : List S.Term × ℕ). given (record { kind = get_or s at 0; terms = x.0 }, x.1))
 
-  pub form_of-terms : leb (at + 2) (length s) ≡ true → get_or s at 0 ≤ 1 → get_or s (at + 1) 0 ≤ 48 → (q : FormReading)
-      → TermsTaken (read_terms (get_or s (at + 1) 0) (get_or s at 0) [] s (at + 2)) (get_or s at 0) (get_or s (at + 1) 0) q → form_read_of q ≡ read_form_at s at
-  unfolding read_form_at terms_read_of terms_of form_read_of form_of
-  form_of-terms e g l q w =
-      sym (whole q.ok refl) ∙ ap named w.is ∙ rw (e, le-leb (get_or s at 0) 1 g, le-leb (get_or s (at + 1) 0) 48 l)
-    where
-      named : Result (List S.Term × ℕ) → Result (S.Form × ℕ)
-      named z = z >>= (λ (x : List S.Term × ℕ). given (record { kind = get_or s at 0; terms = x.0 }, x.1))
-
-      whole : (o : Bool) → q.ok ≡ o → named (terms_read_of q) ≡ form_read_of q
-      whole true d = rw d (rw (← w.kind))
-      whole false d = rw d
+    pub form_of-terms : (q : Std.Result (Form × ℕ) Refusal) → TermsTaken (read_terms (get_or s (at + 1) 0) (get_or s at 0) [] s (at + 2)) (get_or s at 0) (get_or s (at + 1) 0) q
+        → FormRead (read_form_at s at) q
+    unfolding read_form_at terms_read_of terms_of form_read_of form_of named
+    form_of-terms (Ok (f, next)) w = record {
+      is = (λ i. given (record { kind = w.kind i; terms = terms_of f }, next)) ∙ (ap named w.is ∙ rw (e, le-leb (get_or s at 0) 1 g, le-leb (get_or s (at + 1) 0) 48 l));
+      readable = more_room _ 48 f l w.readable;
+    }
+    form_of-terms (Err n) w = record {
+      is = ap named w.is ∙ rw (e, le-leb (get_or s at 0) 1 g, le-leb (get_or s (at + 1) 0) 48 l);
+      readable = tt;
+    }
 
 -- ════ the whole record, then the letters
 
@@ -199,52 +199,40 @@ pub bytes_all : (l : List ℕ) → ((k : ℕ) → get_or l k 0 < 256) → Bytes 
 bytes_all [] h = tt
 bytes_all (x ∷ l) h = (h 0, bytes_all l (λ (k : ℕ). h (suc k)))
 
-module _ (s : List ℕ) (q : FormReading) (e : FormRead (read_form_at s 0) q) where
-  pub whole-unread : q.ok ≡ false → WholeRead (read_form s) (record { refusal = 11; form = q.form })
-  unfolding outcome_of read_form form_read_of
-  whole-unread o =
-      let z : read_form_at s 0 ≡ refused 11 = sym e.is ∙ rw o in
-      record { is = rw z; readable = e.readable; valid = λ g. absurd (omega arith) }
+module _ (s : List ℕ) where
+  pub whole-unread : (n : Refusal) → FormRead (read_form_at s 0) (Err n) → Gives (read_form s) (Err n)
+  unfolding read_form form_read_of
+  whole-unread n e = record { is = rw (← e.is); valid = tt }
 
-  module _ (o : q.ok ≡ true) where
-    form_is : read_form_at s 0 ≡ given (form_of q.form, q.next)
+  module _ (f : Form) (end : ℕ) (e : FormRead (read_form_at s 0) (Ok (f, end))) where
+    form_is : read_form_at s 0 ≡ given (form_of f, end)
     unfolding form_read_of
-    form_is = sym e.is ∙ rw o
+    form_is = sym e.is
 
-    pub whole-not : (q.next ≡ length s → ⊥) → WholeRead (read_form s) (record { refusal = 11; form = q.form })
-    unfolding outcome_of read_form
-    whole-not n = record { is = rw (form_is, ne_eqb q.next (length s) n); readable = e.readable; valid = λ g. absurd (omega arith) }
+    pub whole-not : (end ≡ length s → ⊥) → Gives (read_form s) (Err WrongShape)
+    unfolding read_form
+    whole-not n = record { is = rw (form_is, ne_eqb end (length s) n); valid = tt }
 
-    pub whole_read : Bytes s → q.next ≡ length s → WholeRead (read_form s) (record { refusal = 0; form = q.form })
-    unfolding outcome_of read_form
+    pub whole_read : Bytes s → end ≡ length s → Gives (read_form s) (Ok f)
+    unfolding read_form
     whole_read bs n =
-        let z : read_form s ≡ given (form_of q.form) = rw (form_is, eq-eqb q.next (length s) n) in
+        let z : read_form s ≡ given (form_of f) = rw (form_is, eq-eqb end (length s) n) in
         record {
           is = sym z;
-          readable = e.readable;
-          valid = λ g. record { few = e.readable.few; counted = e.readable.counted; in_shape = (form_one_record s (form_of q.form) bs z).in_shape };
+          valid = record { few = e.readable.few; counted = e.readable.counted; in_shape = (form_one_record s (form_of f) bs z).in_shape };
         }
 
 -- the letters behind the shape
-module _ (t s : List ℕ) (w : Outcome) (e : WholeRead (read_form s) w) where
-  pub take-unread : (w.refusal ≡ 0 → ⊥) → Gives (take_form t s) w
-  unfolding outcome_of take_form
-  take-unread h =
-      let z : read_form s ≡ refused w.refusal = sym e.is ∙ rw (ne_eqb w.refusal 0 h) in
-      record { is = rw (z, ne_eqb w.refusal 0 h); valid = λ g. absurd (h g) }
+module _ (t s : List ℕ) where
+  pub take-unread : (n : Refusal) → Gives (read_form s) (Err n) → Gives (take_form t s) (Err n)
+  unfolding take_form
+  take-unread n e = record { is = rw (← e.is); valid = tt }
 
-  pub take_tested : w.refusal ≡ 0 → (c : ℕ) → test_of c ≡ test_terms t (terms_of w.form) → Gives (take_form t s) (record { refusal = c; form = w.form })
-  unfolding outcome_of take_form test_of form_of terms_of
-  take_tested h c d =
-      let z : read_form s ≡ given (form_of w.form) = sym e.is ∙ rw (eq-eqb w.refusal 0 h) in
-      record { is = rw z (answer (eqb c 0) refl); valid = λ g. e.valid h }
-    where
-      answer : (b : Bool) → eqb c 0 ≡ b → (when eqb c 0 then given (form_of w.form) else refused c) ≡ (test_terms t (form_of w.form).terms >> given (form_of w.form))
-      answer true u = rw u (ap (λ (z : Test). z >> given (form_of w.form)) (sym (tests u)))
-        where
-          tests : eqb c 0 ≡ true → test_terms t (terms_of w.form) ≡ given tt
-          tests v = sym d ∙ rw v
-      answer false u = rw u (ap (λ (z : Test). z >> given (form_of w.form)) (sym (tests u)))
-        where
-          tests : eqb c 0 ≡ false → test_terms t (terms_of w.form) ≡ refused c
-          tests v = sym d ∙ rw v
+  module _ (f : Form) (e : Gives (read_form s) (Ok f)) where
+    pub take-other : (n : Refusal) → test_of (Err n) ≡ test_terms t (terms_of f) → Gives (take_form t s) (Err n)
+    unfolding take_form form_of terms_of
+    take-other n d = record { is = rw (← e.is, ← d); valid = tt }
+
+    pub take_tested : (u : Unit {0}) → test_of (Ok u) ≡ test_terms t (terms_of f) → Gives (take_form t s) (Ok f)
+    unfolding take_form form_of terms_of
+    take_tested u d = record { is = rw (← e.is, ← d); valid = e.valid }

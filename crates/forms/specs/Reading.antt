@@ -1,21 +1,21 @@
 -- What the readers of forms say. Assumes nothing.
-use Rattle.std.specs.Prelude.{Bool, true, ◌&&◌, ◌≡◌, List, ℕ, eqb}
+use Rattle.std.specs.Prelude.{Bool, true, ◌&&◌, ◌≡◌, List, ℕ, eqb, IfOk}
+use Rattle.std.specs.Prelude as Std
 use Rattle.specification.specs.Results.{Result, refused, given, ◌>>=◌, ◌>>◌, require, when◌then◌else◌}
 use Rattle.specification.specs.Terms.{term_before}
 use Rattle.specification.specs.Terms as S
 use Rattle.specification.specs.Records.{read_term_at, part_fits}
 use Rattle.terms.specs.declared.types.Term.{Term}
 use Rattle.terms.specs.declared.types.Form.{Form}
-use Rattle.terms.specs.Abstraction.{form_of, terms_of, outcome_of}
+use Rattle.terms.specs.Abstraction.{form_of, terms_of}
 use Rattle.terms.specs.Build.{behind}
 use Rattle.terms.specs.Valid.{FormValid, Readable}
-use Rattle.forms.specs.declared.FormReading.{FormReading}
-use Rattle.forms.specs.declared.Both.{Both}
-use Rattle.terms.specs.declared.types.Outcome.{Outcome}
+use Rattle.refusal.specs.declared.Refusal.{Refusal}
+use Rattle.refusal.specs.Tests.{answer_of}
 
--- the terms read so far
-unfoldable pub terms_read_of : FormReading → Result (List S.Term × ℕ)
-terms_read_of r = when r.ok then given (terms_of r.form, r.next) else refused 11
+-- the terms read of a form, and the position behind them
+unfoldable pub terms_read_of : Std.Result (Form × ℕ) Refusal → Result (List S.Term × ℕ)
+terms_read_of q = answer_of (λ r. (terms_of r.0, r.1)) q
 
 -- a term comes behind the last of so many
 unfoldable pub behind_last : ℕ → S.Term → S.Term → Bool
@@ -29,32 +29,26 @@ read_behind kind n last s at = do
   given (t, next)
 
 -- so many terms of a kind read
-pub record TermsTaken (read : Result (List S.Term × ℕ)) (k n : ℕ) (q : FormReading) : Type 0 where
+pub record TermsTaken (read : Result (List S.Term × ℕ)) (k n : ℕ) (q : Std.Result (Form × ℕ) Refusal) : Type 0 where
   pub is : terms_read_of q ≡ read
-  pub readable : Readable n q.form
-  pub kind : q.form.kind ≡ k
+  pub readable : IfOk q (λ r. Readable n r.0)
+  pub kind : IfOk q (λ r. r.0.kind ≡ k)
 
 -- what was read of a form, and the position behind it
-unfoldable pub form_read_of : FormReading → Result (S.Form × ℕ)
-form_read_of r = when r.ok then given (form_of r.form, r.next) else refused 11
+unfoldable pub form_read_of : Std.Result (Form × ℕ) Refusal → Result (S.Form × ℕ)
+form_read_of q = answer_of (λ r. (form_of r.0, r.1)) q
 
 -- a form read
-pub record FormRead (read : Result (S.Form × ℕ)) (q : FormReading) : Type 0 where
+pub record FormRead (read : Result (S.Form × ℕ)) (q : Std.Result (Form × ℕ) Refusal) : Type 0 where
   pub is : form_read_of q ≡ read
-  pub readable : Readable 48 q.form
+  pub readable : IfOk q (λ r. Readable 48 r.0)
 
--- a form whose record the bytes are, or 11
-pub record WholeRead (read : Result S.Form) (r : Outcome) : Type 0 where
-  pub is : outcome_of r ≡ read
-  pub readable : Readable 48 r.form
-  pub valid : r.refusal ≡ 0 → FormValid r.form
-
--- both forms, or the refusal where its number is not 0
-unfoldable pub both_of : Both → Result (S.Form × S.Form)
-both_of r = when eqb r.refusal 0 then given (form_of r.first, form_of r.second) else refused r.refusal
+-- both forms
+unfoldable pub both_of : Std.Result (Form × Form) Refusal → Result (S.Form × S.Form)
+both_of r = answer_of (λ p. (form_of p.0, form_of p.1)) r
 
 -- two forms taken together; where they are, valid ones
-pub record BothRead (read : Result (S.Form × S.Form)) (r : Both) : Type 0 where
+pub record BothRead (read : Result (S.Form × S.Form)) (r : Std.Result (Form × Form) Refusal) : Type 0 where
   pub is : both_of r ≡ read
-  pub first : r.refusal ≡ 0 → FormValid r.first
-  pub second : r.refusal ≡ 0 → FormValid r.second
+  pub first : IfOk r (λ p. FormValid p.0)
+  pub second : IfOk r (λ p. FormValid p.1)

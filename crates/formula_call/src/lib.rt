@@ -10,52 +10,21 @@ ghost use Rattle.formula_call.specs.Answers.{formula_read_of};
 use forms::{FORM_BYTES, write_form};
 use formulas::reading::read_text;
 use letters::check_table;
-use rows::outcome;
-use terms::build::refuse;
-use terms::types::{Form, Outcome};
-use texts::good_names;
-
-// A call's answer: the length of the record written, or the number of the refusal.
-#[derive(Clone, Copy)]
-pub enum FormulaRead {
-    Written(usize),
-    Refused(u8),
-}
-
-// The form of a text, or the number of the refusal and its column: the number is 0 where there is none. The form beside a refusal means nothing.
-#[derive(Clone, Copy)]
-pub struct TextForm {
-    pub refusal: u8,
-    pub column: usize,
-    pub form: Form,
-}
-
-// A form or its refusal, with a column.
-fn at_column(column: usize, w: Outcome) -> TextForm
-    ensures { (result.refusal ≡ w.refusal) × (result.column ≡ column) × (result.form ≡ w.form) }
-{
-    let f = w.form;
-    TextForm {
-        refusal: w.refusal,
-        column: column,
-        form: f,
-    }
-}
+use refusal::Refusal;
+use rows::form_of;
+use terms::types::Form;
+use texts::{Unread, good_names};
 
 // The form of a text: reading precedes working.
-pub fn form_of_text(names: &[u8], table: &[u8], s: &[u8]) -> TextForm
+pub fn form_of_text(names: &[u8], table: &[u8], s: &[u8]) -> Result<Form, Unread>
     requires { Named names.now table.now }
     ensures { TextGives (text_form names.now table.now s.now) result }
 {
     let z = [0u32; 8];
     let mut rows = [z; 48];
     let mut coefs = [0i64; 48];
-    let t = read_text(names, table, s, &mut rows, &mut coefs);
-    let column = t.column;
-    if t.unread != 0 {
-        return at_column(column, refuse(t.unread));
-    }
-    at_column(column, outcome(t.work, &rows, &coefs))
+    let w = read_text(names, table, s, &mut rows, &mut coefs)?;
+    Ok(form_of(w.kind, &rows, &coefs, w.count))
 }
 
 // The call: 1 of the table, 1 of the names, 2, then the text. The record of its form is written into the bytes lent, or the column of its refusal into the numbers.
@@ -65,27 +34,24 @@ pub fn read_formula(
     s: &[u8],
     out: &mut [u8],
     columns: &mut [u64],
-) -> FormulaRead
+) -> Result<usize, Refusal>
     ensures { (formula_read_of result, out.new, columns.new) ≡ text_call table.now names.now s.now out.old columns.old }
 {
-    let c = check_table(table);
-    if c != 0 {
-        return FormulaRead::Refused(c);
-    }
+    check_table(table)?;
     if !good_names(names, table) {
-        return FormulaRead::Refused(1);
+        return Err(Refusal::BadTable);
     }
     if out.len() < FORM_BYTES {
-        return FormulaRead::Refused(2);
+        return Err(Refusal::NoRoom);
     }
     if columns.len() < 1 {
-        return FormulaRead::Refused(2);
+        return Err(Refusal::NoRoom);
     }
-    let t = form_of_text(names, table, s);
-    let n = t.refusal;
-    if n != 0 {
-        columns[0] = t.column as u64;
-        return FormulaRead::Refused(n);
+    match form_of_text(names, table, s) {
+        Ok(f) => Ok(write_form(out, f)),
+        Err(e) => {
+            columns[0] = e.column as u64;
+            Err(e.why)
+        }
     }
-    FormulaRead::Written(write_form(out, t.form))
 }

@@ -18,9 +18,9 @@ use Rattle.terms.specs.Abstraction.{form_of}
 use Rattle.lines.specs.declared.places.Place.{Place}
 use Rattle.lines.specs.Places.{place_of}
 use Rattle.lines.proofs.Ends.{inside_or}
-use Rattle.formula_call.specs.declared.TextForm.{TextForm}
+use Rattle.terms.specs.declared.types.Form.{Form}
+use Rattle.std.specs.Prelude.{Ok}
 use Rattle.formula_call.specs.Texts.{TextGives}
-use Rattle.formula_call.proofs.Given.{text_given}
 use Rattle.formulas.specs.Readings.{Named}
 use Rattle.symbols.specs.Printable.{Printable}
 use Rattle.printing.proofs.Named.{printable}
@@ -31,16 +31,16 @@ module _ (names table : List ℕ) (good : GoodTable names table) where
   pub names-named : Named names table
   names-named = record { fit = omega (arith, names_count names table good.names_good); few = good_short table good.table_good }
 
-  module _ (s : List ℕ) (r : TextForm) (g : TextGives (text_form names table s) r) (e : r.refusal ≡ 0) where
+  module _ (s : List ℕ) (f : Form) (g : TextGives (text_form names table s) (Ok f)) where
     -- the letters of the form of a text are in the table
-    pub text_tested_lem : test_terms table (form_of r.form).terms ≡ given tt
+    pub text_tested_lem : test_terms table (form_of f).terms ≡ given tt
     text_tested_lem =
-        text-letters_tested names table s good.table_good (omega (arith, names_count names table good.names_good)) (form_of r.form)
-        (text_given (text_form names table s) r g e)
+        text-letters_tested names table s good.table_good (omega (arith, names_count names table good.names_good)) (form_of f)
+        (sym g.is)
 
     -- it can be printed
-    pub text-printable : Printable names r.form
-    text-printable = printable table names (omega (arith, names_count names table good.names_good)) r.form (g.valid e) text_tested_lem
+    pub text-printable : Printable names f
+    text-printable = printable table names (omega (arith, names_count names table good.names_good)) f g.valid text_tested_lem
 
 -- nothing is no formula
 no_text : (names table : List ℕ) → text_form names table (first_line []) ≡ refused_at 4 0
@@ -48,7 +48,7 @@ unfolding computing computing_text first_line
 no_text names table = refl
 
 -- a formula is in the text
-pub text-inside : (s names table : List ℕ) (p : Place) (r : TextForm) → TextGives (text_form names table (line_of (place_of s p))) r → r.refusal ≡ 0 → p.at < length s
-text-inside s names table p r h z =
+pub text-inside : (s names table : List ℕ) (p : Place) (f : Form) → TextGives (text_form names table (line_of (place_of s p))) (Ok f) → p.at < length s
+text-inside s names table p f h =
     inside_or s p.at
-    (λ y. refused≢placed (sym (ap (λ (l : List ℕ). text_form names table (first_line l)) y ∙ no_text names table) ∙ text_given _ r h z))
+    (λ y. refused≢placed (sym (ap (λ (l : List ℕ). text_form names table (first_line l)) y ∙ no_text names table) ∙ sym h.is))

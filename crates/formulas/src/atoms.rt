@@ -1,14 +1,23 @@
 // Names, numbers and triples at a position, worked in lent rows, and the closing parenthesis behind what was read.
-ghost use Rattle.std.specs.Prelude.{◌≡◌, true, ◌≤◌, ◌<◌, length};
+ghost use Rattle.std.specs.Prelude.{◌≡◌, true, ◌≤◌, ◌<◌, length, Ok};
 ghost use Rattle.specification.specs.Text.{is_triple, next};
 ghost use Rattle.theory.specs.Text.OnTheWay.{way_number, way_name, way_triple};
 ghost use Rattle.formulas.specs.Readings.{Formed, WayGives, NameRead, TripleRead, ClosedAs};
 
-use crate::joining::{Reading, unread};
+use crate::joining::Reading;
 use leaves::{constant, letter};
 use letters::kind_of;
 use operators::products::triple;
-use texts::{behind, byte_at, past_blanks, place_of, read_digits};
+use refusal::Refusal;
+use rows::Worked;
+use texts::{Unread, behind, byte_at, past_blanks, place_of, read_digits};
+
+// A name that was read: the form of its letter, and the position behind.
+#[derive(Clone, Copy)]
+pub struct Name {
+    pub work: Worked,
+    pub next: usize,
+}
 
 // A name: 5 where it is not declared.
 pub fn name_at(
@@ -18,38 +27,35 @@ pub fn name_at(
     at: usize,
     rows: &mut [[u32; 8]],
     coefs: &mut [i64],
-) -> Reading
+) -> Result<Name, Unread>
     requires { (length names.now ≤ length table.now) × (length table.now ≤ 24) × (at < length s.now) × (1 ≤ length rows.old) × (1 ≤ length coefs.old) }
     ensures { NameRead (way_name names.now table.now s.now at) result rows.new coefs.new }
 {
     let n = place_of(names, byte_at(s, at));
     if n >= names.len() {
-        return unread(5, at);
+        return Err(Unread {
+            why: Refusal::AbsentLetter,
+            column: at,
+        });
     }
     let k = kind_of(table, n);
-    let w = letter(n as u8, k, rows, coefs);
-    let after = behind(s, at);
-    Reading {
-        unread: 0,
-        column: at,
-        next: after,
-        work: w,
-    }
+    let work = letter(n as u8, k, rows, coefs);
+    let next = behind(s, at);
+    Ok(Name { work, next })
 }
 
 // A number: beyond 2147483647 working refuses it.
 pub fn number_at(s: &[u8], at: usize, rows: &mut [[u32; 8]], coefs: &mut [i64]) -> Reading
     requires { (1 ≤ length rows.old) × (1 ≤ length coefs.old) }
-    ensures { WayGives (way_number s.now at) result rows.new coefs.new }
+    ensures { WayGives (way_number s.now at) (Ok result) rows.new coefs.new }
 {
     let d = read_digits(s, at);
-    let w = constant(d.value as i64, rows, coefs);
-    let after = past_blanks(s, d.next);
+    let work = constant(d.value as i64, rows, coefs);
+    let next = past_blanks(s, d.next);
     Reading {
-        unread: 0,
         column: at,
-        next: after,
-        work: w,
+        next,
+        work,
     }
 }
 
@@ -57,13 +63,13 @@ pub fn number_at(s: &[u8], at: usize, rows: &mut [[u32; 8]], coefs: &mut [i64]) 
 fn triple_of(
     s: &[u8],
     at: usize,
-    x: Reading,
+    x: Name,
     rows: &mut [[u32; 8]],
     coefs: &mut [i64],
-    y: Reading,
+    y: Name,
     right: &[[u32; 8]],
     rights: &[i64],
-    z: Reading,
+    z: Name,
     third: &[[u32; 8]],
     thirds: &[i64],
 ) -> Reading
@@ -75,16 +81,15 @@ fn triple_of(
     let u = x.work;
     let v = y.work;
     let w = z.work;
-    let r = triple(
+    let work = triple(
         u.kind, u.count, rows, coefs, v.kind, v.count, right, rights, w.kind, w.count, third,
         thirds,
     );
-    let after = behind(s, z.next);
+    let next = behind(s, z.next);
     Reading {
-        unread: 0,
         column: at,
-        next: after,
-        work: r,
+        next,
+        work,
     }
 }
 
@@ -96,50 +101,35 @@ pub fn triple_at(
     at: usize,
     rows: &mut [[u32; 8]],
     coefs: &mut [i64],
-) -> Reading
+) -> Result<Reading, Unread>
     requires { (length names.now ≤ length table.now) × (length table.now ≤ 24) × (at < length s.now) × (is_triple s.now (next s.now at) ≡ true)
         × (48 ≤ length rows.old) × (48 ≤ length coefs.old) }
     ensures { WayGives (way_triple names.now table.now s.now at) result rows.new coefs.new }
 {
     let first = behind(s, at);
-    let x = name_at(names, table, s, first, rows, coefs);
-    if x.unread != 0 {
-        return x;
-    }
+    let x = name_at(names, table, s, first, rows, coefs)?;
     let e = [0u32; 8];
     let mut right = [e; 1];
     let mut rights = [0i64; 1];
-    let y = name_at(names, table, s, x.next, &mut right, &mut rights);
-    if y.unread != 0 {
-        return y;
-    }
+    let y = name_at(names, table, s, x.next, &mut right, &mut rights)?;
     let mut third = [e; 1];
     let mut thirds = [0i64; 1];
-    let z = name_at(names, table, s, y.next, &mut third, &mut thirds);
-    if z.unread != 0 {
-        return z;
-    }
-    triple_of(
+    let z = name_at(names, table, s, y.next, &mut third, &mut thirds)?;
+    Ok(triple_of(
         s, at, x, rows, coefs, y, &right, &rights, z, &third, &thirds,
-    )
+    ))
 }
 
 // What was read, with a closing parenthesis behind it: 4 where something else stands.
-pub fn closed(s: &[u8], r: Reading) -> Reading
+pub fn closed(s: &[u8], r: Reading) -> Result<Reading, Unread>
     ensures { ClosedAs s.now r result }
 {
-    if r.unread != 0 {
-        return r;
-    }
     if byte_at(s, r.next) != b')' {
-        return unread(4, r.next);
+        return Err(Unread {
+            why: Refusal::Torn,
+            column: r.next,
+        });
     }
-    let after = behind(s, r.next);
-    let w = r.work;
-    Reading {
-        unread: 0,
-        column: r.column,
-        next: after,
-        work: w,
-    }
+    let next = behind(s, r.next);
+    Ok(Reading { next, ..r })
 }

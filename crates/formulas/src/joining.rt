@@ -3,36 +3,20 @@ ghost use Rattle.std.specs.Prelude.{◌≡◌, true, ◌≤◌, length, get_or};
 ghost use Rattle.specification.specs.Text.{is_factor, is_sign, is_triple, next};
 ghost use Rattle.theory.specs.Text.OnTheWay.{goes_on, most_of, operates, isFront, fronted, operand_at, front_at, way_number, way_closed, way_name, way_triple};
 ghost use Rattle.rows.specs.Rows.{form_by, FormRun, RowsGive};
-ghost use Rattle.formulas.specs.Readings.{Read, Joined, Fronted, Refused};
+ghost use Rattle.formulas.specs.Readings.{Read, Joined, Fronted};
 
-use leaves::{constant, letter};
-use letters::kind_of;
-use operators::products::{dot, times, triple, wedge};
+use operators::products::{dot, times, wedge};
+use refusal::Refusal;
 use rows::Worked;
 use sums::adding::{difference, negate, sum};
-use sums::results::refuse;
-use texts::{behind, byte_at, is_letter, past_blanks, place_of, read_digits};
+use texts::{behind, byte_at, is_letter};
 
-// What was read: reading's refusal or 0, the column of a refusal, the position behind, and what working gave.
+// What was read: what working gave with the column of its refusal, and the position behind.
 #[derive(Clone, Copy)]
 pub struct Reading {
-    pub unread: u8,
     pub column: usize,
     pub next: usize,
-    pub work: Worked,
-}
-
-// Reading refused with a number at a column.
-pub fn unread(n: u8, column: usize) -> Reading
-    ensures { Refused n column result }
-{
-    let w = refuse(n);
-    Reading {
-        unread: n,
-        column: column,
-        next: 0,
-        work: w,
-    }
+    pub work: Result<Worked, Refusal>,
 }
 
 // Whether a product goes on with a byte.
@@ -112,22 +96,19 @@ pub fn front_at(level: u8, s: &[u8], at: usize) -> usize
 }
 
 // A minus in front of a sum turns the signs of what was read.
-pub fn front(level: u8, b: u8, a: Reading, rows: &[[u32; 8]], coefs: &mut [i64]) -> Reading
+pub fn front(level: u8, b: u8, a: Reading, rows: &[[u32; 8]], coefs: &mut [i64])
     requires { Read a rows.now coefs.old }
-    ensures { Fronted level b a rows.now coefs.old result coefs.new }
+    ensures { Fronted level b a rows.now coefs.old coefs.new }
 {
     if level != 4 {
-        return a;
+        return;
     }
     if b != b'-' {
-        return a;
+        return;
     }
-    let w = a.work;
-    if w.refusal != 0 {
-        return a;
+    if let Ok(w) = a.work {
+        negate(coefs, w.count);
     }
-    negate(coefs, w.count);
-    a
 }
 
 // The operator of a level on two forms.
@@ -140,7 +121,7 @@ fn operate(
     y: Worked,
     right: &[[u32; 8]],
     rights: &mut [i64],
-) -> Worked
+) -> Result<Worked, Refusal>
     requires { FormRun x.kind x.count rows.old coefs.old × FormRun y.kind y.count right.now rights.old × (48 ≤ length rows.old)
         × (48 ≤ length coefs.old) }
     ensures { RowsGive (operates level b (form_by x.kind x.count rows.old coefs.old)
@@ -175,24 +156,16 @@ pub fn join(
     requires { Read x rows.old coefs.old × Read y right.now rights.old × (48 ≤ length rows.old) × (48 ≤ length coefs.old) }
     ensures { Joined level b x rows.old coefs.old y right.now rights.old result rows.new coefs.new }
 {
-    let v = x.work;
-    if v.refusal != 0 {
-        return Reading {
-            unread: 0,
-            column: x.column,
-            next: y.next,
-            work: v,
-        };
-    }
-    let w = y.work;
-    if w.refusal != 0 {
+    let Ok(v) = x.work else {
+        return Reading { next: y.next, ..x };
+    };
+    let Ok(w) = y.work else {
         return y;
-    }
-    let u = operate(level, b, v, rows, coefs, w, right, rights);
+    };
+    let work = operate(level, b, v, rows, coefs, w, right, rights);
     Reading {
-        unread: 0,
         column: x.next,
         next: y.next,
-        work: u,
+        work,
     }
 }

@@ -1,12 +1,14 @@
 // The reader: a level at a time, each operand in rows of its own, parentheses with a depth less.
-ghost use Rattle.std.specs.Prelude.{◌≡◌, ◌&&◌, ◌-◌, ◌≤◌, leb, length};
+ghost use Rattle.std.specs.Prelude.{◌≡◌, ◌&&◌, ◌-◌, ◌≤◌, leb, length, Ok};
 ghost use Rattle.specification.specs.Text.{is_digit, text_form};
 ghost use Rattle.theory.specs.Text.OnTheWay.{most_of, way_atom, way_chain, way_level, way_nested};
-ghost use Rattle.formulas.specs.Readings.{Read, Named, placed_of, WayGives, TextRead};
+ghost use Rattle.formulas.specs.Readings.{Read, Named, worked_at, WayGives, TextRead};
 
 use crate::atoms::{closed, name_at, number_at, triple_at};
-use crate::joining::{Reading, front, front_at, goes_on, join, most_of, operand_at, unread};
-use texts::{behind, byte_at, is_digit, is_letter, is_triple, past_blanks};
+use crate::joining::{Reading, front, front_at, goes_on, join, most_of, operand_at};
+use refusal::Refusal;
+use rows::Worked;
+use texts::{Unread, behind, byte_at, is_digit, is_letter, is_triple, past_blanks};
 
 // Whether a number stands here and may.
 fn is_number(number: bool, b: u8) -> bool
@@ -29,29 +31,40 @@ fn read_atom(
     number: bool,
     rows: &mut [[u32; 8]],
     coefs: &mut [i64],
-) -> Reading
+) -> Result<Reading, Unread>
     requires { Named names.now table.now × (48 ≤ length rows.old) × (48 ≤ length coefs.old) }
     ensures { WayGives (way_atom names.now table.now s.now (way_nested names.now table.now s.now depth)
         number at) result rows.new coefs.new }
 {
     let b = byte_at(s, at);
     if is_number(number, b) {
-        return number_at(s, at, rows, coefs);
+        return Ok(number_at(s, at, rows, coefs));
     }
     if is_letter(b) {
-        return name_at(names, table, s, at, rows, coefs);
+        let n = name_at(names, table, s, at, rows, coefs)?;
+        return Ok(Reading {
+            column: at,
+            next: n.next,
+            work: Ok(n.work),
+        });
     }
     if b != b'(' {
-        return unread(4, at);
+        return Err(Unread {
+            why: Refusal::Torn,
+            column: at,
+        });
     }
     if depth == 0 {
-        return unread(3, at);
+        return Err(Unread {
+            why: Refusal::TooLong,
+            column: at,
+        });
     }
     let inner = behind(s, at);
     if is_triple(s, inner) {
         return triple_at(names, table, s, at, rows, coefs);
     }
-    let r = read(names, table, s, inner, depth - 1, 4, true, rows, coefs);
+    let r = read(names, table, s, inner, depth - 1, 4, true, rows, coefs)?;
     closed(s, r)
 }
 
@@ -66,21 +79,20 @@ fn read_chain(
     first: Reading,
     rows: &mut [[u32; 8]],
     coefs: &mut [i64],
-) -> Reading
+) -> Result<Reading, Unread>
     requires { Named names.now table.now × (1 ≤ level) × (level ≤ 4) × Read first rows.old coefs.old × (48 ≤ length rows.old) × (48 ≤ length coefs.old) }
     ensures { WayGives (way_chain s.now level (most_of level (length s.now)) (way_level names.now table.now s.now
-        (way_nested names.now table.now s.now depth) (level - 1) (leb 3 level)) (placed_of first.work first.column rows.old
+        (way_nested names.now table.now s.now depth) (level - 1) (leb 3 level)) (worked_at first.work first.column rows.old
         coefs.old) first.next) result rows.new coefs.new }
 {
     let e = [0u32; 8];
     let mut right = [e; 48];
     let mut rights = [0i64; 48];
     let mut a = first;
-    let mut left = most_of(level, s.len());
-    while left > 0 {
+    for _ in 0..most_of(level, s.len()) {
         let b = byte_at(s, a.next);
         if !goes_on(level, b) {
-            return a;
+            return Ok(a);
         }
         let second = operand_at(level, s, a.next);
         let y = read(
@@ -93,14 +105,10 @@ fn read_chain(
             level >= 3,
             &mut right,
             &mut rights,
-        );
-        if y.unread != 0 {
-            return y;
-        }
+        )?;
         a = join(level, b, a, rows, coefs, y, &right, &mut rights);
-        left -= 1;
     }
-    a
+    Ok(a)
 }
 
 // What stands here at a level: an operand of the level below, behind a sign where one may stand, and the operators behind it.
@@ -115,7 +123,7 @@ fn read(
     number: bool,
     rows: &mut [[u32; 8]],
     coefs: &mut [i64],
-) -> Reading
+) -> Result<Reading, Unread>
     requires { Named names.now table.now × (level ≤ 4) × (48 ≤ length rows.old) × (48 ≤ length coefs.old) }
     ensures { WayGives (way_level names.now table.now s.now (way_nested names.now table.now s.now depth)
         level number at) result rows.new coefs.new }
@@ -134,15 +142,12 @@ fn read(
         number,
         rows,
         coefs,
-    );
-    if x.unread != 0 {
-        return x;
+    )?;
+    front(level, byte_at(s, at), x, rows, coefs);
+    if !goes_on(level, byte_at(s, x.next)) {
+        return Ok(x);
     }
-    let a = front(level, byte_at(s, at), x, rows, coefs);
-    if !goes_on(level, byte_at(s, a.next)) {
-        return a;
-    }
-    read_chain(names, table, s, depth, level, a, rows, coefs)
+    read_chain(names, table, s, depth, level, x, rows, coefs)
 }
 
 // Bytes that a line has at most.
@@ -155,21 +160,30 @@ pub fn read_text(
     s: &[u8],
     rows: &mut [[u32; 8]],
     coefs: &mut [i64],
-) -> Reading
+) -> Result<Worked, Unread>
     requires { Named names.now table.now × (48 ≤ length rows.old) × (48 ≤ length coefs.old) }
     ensures { TextRead (text_form names.now table.now s.now) result rows.new coefs.new }
 {
     let n = s.len();
     if n > TEXT_BYTES {
-        return unread(3, TEXT_BYTES);
+        return Err(Unread {
+            why: Refusal::TooLong,
+            column: TEXT_BYTES,
+        });
     }
     let start = past_blanks(s, 0);
-    let r = read(names, table, s, start, 16, 4, true, rows, coefs);
-    if r.unread != 0 {
-        return r;
-    }
+    let r = read(names, table, s, start, 16, 4, true, rows, coefs)?;
     if r.next < n {
-        return unread(4, r.next);
+        return Err(Unread {
+            why: Refusal::Torn,
+            column: r.next,
+        });
     }
-    r
+    match r.work {
+        Ok(w) => Ok(w),
+        Err(why) => Err(Unread {
+            why,
+            column: r.column,
+        }),
+    }
 }

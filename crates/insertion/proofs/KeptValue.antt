@@ -14,10 +14,11 @@ use Rattle.theory.proofs.Records.Lengths.{form_short}
 use Rattle.theory.specs.Records.Insertion.{InsertionTaken, insertion_taken}
 use Rattle.theory.proofs.Reduction.Insertion.{InsertedInto, insertion_replaces}
 use Rattle.forms.proofs.FormCalls.{FormAnswered, form-answered, reads_back}
-use Rattle.insertion.specs.declared.Inserted.{Inserted}
+use Rattle.std.specs.Prelude as Std
+use Rattle.refusal.specs.declared.Refusal.{Refusal}
 use Rattle.insertion.specs.Answers.{inserted_of}
 
-module _ (table form : List ℕ) (letter : ℕ) (inserted out after : List ℕ) (r : Inserted) (bf : Bytes form) (bi : Bytes inserted)
+module _ (table form : List ℕ) (letter : ℕ) (inserted out after : List ℕ) (r : Std.Result ℕ Refusal) (bf : Bytes form) (bi : Bytes inserted)
     (h : ◌≡◌ {A = Result ℕ × List ℕ} (inserted_of r, after) (insert_call table form letter inserted out)) (n : ℕ) (e : inserted_of r ≡ given n) where
   -- a length was answered: the form written, and the two that were taken
   record FormInserted : Type 0 where

@@ -1,10 +1,10 @@
 -- What the call answers: document 01's number and value for each case. Assumes nothing.
 use Rattle.std.specs.Prelude.{ℕ}
-use Rattle.specification.specs.Results.{Result, given, refused}
-use Rattle.insertion.specs.declared.Inserted.{Inserted}
-use Rattle.insertion.specs.declared.Inserted.TheVariants.{Written, Refused}
+use Rattle.specification.specs.Results.{Result}
+use Rattle.std.specs.Prelude as Std
+use Rattle.refusal.specs.declared.Refusal.{Refusal}
+use Rattle.refusal.specs.Tests.{answer_of}
 
 -- the length written, or the number
-unfoldable pub inserted_of : Inserted → Result ℕ
-inserted_of (Written n) = given n
-inserted_of (Refused n) = refused n
+abbrev pub inserted_of : Std.Result ℕ Refusal → Result ℕ
+inserted_of r = answer_of (λ n. n) r

@@ -9,15 +9,14 @@ use case_lines::{
     assignment_length, byte_at, print_character, print_form, print_refusal, two_bytes_at,
 };
 use forms::FORM_BYTES;
-use insertion::{Inserted, insert};
+use insertion::insert;
 
 // The line of a case.
 fn print_case(table: &[u8], letter: u8, form: &[u8], inserted: &[u8], assignment: &[u8]) {
     let mut out = [0u8; FORM_BYTES];
-    let r = insert(table, form, letter, inserted, &mut out);
-    match r {
-        Inserted::Written(n) => print_form(table, &out[..n], assignment),
-        Inserted::Refused(n) => print_refusal(n),
+    match insert(table, form, letter, inserted, &mut out) {
+        Ok(n) => print_form(table, &out[..n], assignment),
+        Err(why) => print_refusal(why),
     }
     print_character(b'\n');
 }

@@ -5,6 +5,9 @@ use mathlib.Core.Bool.{true, false, true≢false}
 use Prim.Native.Nat.{zero, suc, ◌*◌, ◌/◌, ◌%◌, ◌^◌, ◌≤◌, ◌<◌}
 use native.Mathlib.Nat.{div-le_self, div-add-mod', mul-mod_left, lt_of_le_of_lt}
 use native.Mathlib.Omega.{arith}
+use Prim.Native.Nat.{ℕ}
+use Rattle.std.specs.Prelude.{Some, None}
+use borrow.Author.Tests.{eq-eqb, ne_eqb}
 use lib.IntN.{ℤ, pos, negsuc, nat_abs, neg_ℤ, ◌*ℤ◌, neg_ℤ-neg_ℤ}
 use lib.Signed.{quot_z, rem_z, mag_rem}
 use lib.Dec.{eqb}
@@ -63,20 +66,34 @@ pub quotient-asks : {a b : ℤ} → SFits w64 a → SFits w64 b → nat_abs a < 
     → (0 < of_z w64 b) × SFits w64 (quot_z (back a) (back b))
 quotient-asks {a} {b} f g h n = (omega arith, rw (back_is f, back_is g) (sfits-nat_abs (quot_z a b) (lt_of_le_of_lt (quotient-bound a b) h)))
 
--- a divisor whose bits are those of 0: nothing is exact
-pub by_zero_lem : {a b : ℤ} → SFits w64 b → of_z w64 b ≡ 0 → Divided a b (record { exact = false; value = pos 0 })
+-- a divisor whose bits are those of 0: no quotient
+pub by_zero_lem : {a b : ℤ} → SFits w64 b → of_z w64 b ≡ 0 → Divided a b None
 by_zero_lem {a} {b} g e =
     let z : b ≡ pos 0 = sym (back_is g) ∙ ap (to_z w64) e in
-    record { product = λ t. absurd (true≢false (sym t)); found = λ k p n. absurd (n z); by_zero = λ p. refl; bound = omega arith }
+    record { product = tt; found = λ k p n. absurd (n z); by_zero = λ p. refl; bound = tt }
 
 -- what the quotient and the test of the rest say
-pub divided : {a b : ℤ} → SFits w64 a → SFits w64 b → nat_abs a < 2 ^ 63 → (of_z w64 b ≡ 0 → ⊥)
-    → Divided a b (record { exact = eqb (of_z w64 (rem_z (back a) (back b))) 0; value = back (quot_z (back a) (back b)) })
-divided {a} {b} f g h n =
-    rw (back_is f, back_is g, back_is (sfits-nat_abs (quot_z a b) (lt_of_le_of_lt (quotient-bound a b) h)), bits_of_zero (rem_z a b) (sfits_le (mag_rem a b) f))
-    (record {
-      product = no_rest-exact a b;
-      found = λ k p m. multiple-no_rest a b k p;
-      by_zero = λ p. absurd (n (ap (of_z w64) p));
-      bound = quotient-bound a b;
-    })
+module _ {a b : ℤ} (f : SFits w64 a) (g : SFits w64 b) (h : nat_abs a < 2 ^ 63) (n : of_z w64 b ≡ 0 → ⊥) where
+  abbrev rest : ℕ
+  rest = of_z w64 (rem_z (back a) (back b))
+
+  rest_is : eqb rest 0 ≡ is_zero (rem_z a b)
+  rest_is = rw (back_is f, back_is g, bits_of_zero (rem_z a b) (sfits_le (mag_rem a b) f))
+
+  -- a rest: no quotient
+  pub not-divided : (rest ≡ 0 → ⊥) → Divided a b None
+  not-divided r = record {
+    product = tt;
+    found = λ k p m. absurd (true≢false (sym (sym (ne_eqb rest 0 r) ∙ rest_is ∙ multiple-no_rest a b k p)));
+    by_zero = λ p. refl;
+    bound = tt;
+  }
+
+  -- no rest
+  pub divided : rest ≡ 0 → Divided a b (Some (back (quot_z (back a) (back b))))
+  divided r = rw (back_is f, back_is g, back_is (sfits-nat_abs (quot_z a b) (lt_of_le_of_lt (quotient-bound a b) h))) (record {
+    product = no_rest-exact a b (sym rest_is ∙ eq-eqb rest 0 r);
+    found = λ k p m. refl;
+    by_zero = λ p. absurd (n (ap (of_z w64) p));
+    bound = quotient-bound a b;
+  })

@@ -95,30 +95,20 @@ pub fn within(a: i64) -> bool
     }
 }
 
-// What a division gives: whether it leaves no rest, and the quotient.
-#[derive(Clone, Copy)]
-pub struct Quotient {
-    pub exact: bool,
-    pub value: i64,
-}
-
-// Exact division, with the test whether there is one.
-pub fn divide(a: i64, b: i64) -> Quotient
+// Exact division: the quotient, where there is one.
+pub fn divide(a: i64, b: i64) -> Option<i64>
     requires { nat_abs a < 2 ^ 63 }
     ensures { Divided a b result }
 {
     if b == 0 {
-        return Quotient {
-            exact: false,
-            value: 0,
-        };
+        return None;
     }
     let value = a / b;
     let rest = a % b;
-    Quotient {
-        exact: rest == 0,
-        value: value,
+    if rest != 0 {
+        return None;
     }
+    Some(value)
 }
 
 // The number that four bytes spell, the most significant first.

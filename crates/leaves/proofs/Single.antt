@@ -22,6 +22,10 @@ use Rattle.integers.proofs.Machine.{back, back_is}
 use Rattle.terms.specs.declared.types.Term.{Term}
 use Rattle.terms.specs.Numbers.{letters_of}
 use Rattle.terms.specs.Abstraction.{term_of}
+use Rattle.std.specs.Prelude.{Ok, Err}
+use Rattle.std.specs.Prelude as Std
+use Rattle.refusal.specs.declared.Refusal.{Refusal}
+use Rattle.refusal.specs.declared.Refusal.TheVariants.{LargeCoefficient}
 use Rattle.rows.specs.declared.Worked.{Worked}
 use Rattle.rows.specs.Rows.{RowOf, term_by, terms_by, run_of, Light, RowsGive}
 use Rattle.rows.proofs.RowForms.{rows_refused, rows_as}
@@ -31,18 +35,17 @@ use Rattle.leaves.specs.Leaves.{TermAs}
 
 -- no term
 pub none_gives : (kind : ℕ) (rows : List (List ℕ)) (coefs : List ℤ) → FormInShape (record { kind = kind; terms = [] })
-    → RowsGive (given (record { kind = kind; terms = [] })) (record { refusal = 0; kind = kind; count = 0 }) rows coefs
+    → RowsGive (given (record { kind = kind; terms = [] })) (Ok (record { kind = kind; count = 0 })) rows coefs
 unfolding run_of terms_by Light
 none_gives kind rows coefs s = record {
-  refuses = λ h. absurd (h refl);
-  gives = λ _. refl;
-  form = λ _. record { run = record { room = omega arith; beside = omega arith; valid = tt; ascending = tt }; light = tt; few = omega arith; in_shape = s };
+  is = refl;
+  form = record { run = record { room = omega arith; beside = omega arith; valid = tt; ascending = tt }; light = tt; few = omega arith; in_shape = s };
 }
 
 -- one term in the first row
 pub alone-gives : (kind : ℕ) (t : Term) (r : List ℕ) (z : ℤ) (rows : List (List ℕ)) (coefs : List ℤ)
     → FormInShape (record { kind = kind; terms = term_of t ∷ [] }) → RowOf t r → z ≡ t.coef
-    → 1 ≤ length rows → 1 ≤ length coefs → RowsGive (given (record { kind = kind; terms = term_of t ∷ [] })) (record { refusal = 0; kind = kind; count = 1 })
+    → 1 ≤ length rows → 1 ≤ length coefs → RowsGive (given (record { kind = kind; terms = term_of t ∷ [] })) (Ok (record { kind = kind; count = 1 }))
     (set rows 0 r) (set coefs 0 z)
 unfolding run_of terms_by Light term_of
 alone-gives kind t r z [] coefs s q e hr hc = absurd (omega arith)
@@ -53,9 +56,8 @@ alone-gives kind t r z (x ∷ rows) (y ∷ coefs) s q e hr hc =
     let v : FormInShape (record { kind = kind; terms = run_of 1 (r ∷ rows) (z ∷ coefs) }) = subst
     (λ (l : List S.Term). FormInShape (record { kind = kind; terms = l })) (sym is) s in
     record {
-      refuses = λ h. absurd (h refl);
-      gives = λ _. ap (λ (l : List S.Term). given (record { kind = kind; terms = l })) (sym is);
-      form = λ _. record {
+      is = ap (λ (l : List S.Term). given (record { kind = kind; terms = l })) is;
+      form = record {
         run = record {
           room = omega arith;
           beside = omega arith;
@@ -74,7 +76,7 @@ module _ (kind : ℕ) (t : Term) (u : S.Term) (m : TermAs u t) where
   alone-shape : FormInShape (record { kind = kind; terms = u ∷ [] }) → FormInShape (record { kind = kind; terms = term_of t ∷ [] })
   alone-shape = subst (λ (x : S.Term). FormInShape (record { kind = kind; terms = x ∷ [] })) (sym m.is)
 
-  alone_as : (x : Result S.Form) (w : Worked) (rows : List (List ℕ)) (coefs : List ℤ) → x ≡ given (record { kind = kind; terms = u ∷ [] })
+  alone_as : (x : Result S.Form) (w : Std.Result Worked Refusal) (rows : List (List ℕ)) (coefs : List ℤ) → x ≡ given (record { kind = kind; terms = u ∷ [] })
       → RowsGive (given (record { kind = kind; terms = term_of t ∷ [] })) w rows coefs → RowsGive x w rows coefs
   alone_as x w rows coefs e = rows_as _ x w rows coefs (ap (λ (y : S.Term). given (record { kind = kind; terms = y ∷ [] })) m.is ∙ sym e)
 
@@ -94,7 +96,7 @@ module _ (n : ℕ) (t : Term) (m : TermAs (plus ((n ∷ []) ∷ []) []) t) where
   unfolding letter_form
   scalar-shape = alone-shape 0 t (plus ((n ∷ []) ∷ []) []) m (letter_form_lem n 0)
 
-  pub letter-scalar : (kind : ℕ) (w : Worked) (rows : List (List ℕ)) (coefs : List ℤ) → kind ≡ 0
+  pub letter-scalar : (kind : ℕ) (w : Std.Result Worked Refusal) (rows : List (List ℕ)) (coefs : List ℤ) → kind ≡ 0
       → RowsGive (given (record { kind = 0; terms = term_of t ∷ [] })) w rows coefs
       → RowsGive (given (letter_form n kind)) w rows coefs
   unfolding letter_form
@@ -107,7 +109,7 @@ module _ (n : ℕ) (t : Term) (m : TermAs (plus [] (n ∷ [])) t) where
   unfolding letter_form
   vector-shape = alone-shape 1 t (plus [] (n ∷ [])) m (letter_form_lem n 1)
 
-  pub letter-vector : (kind : ℕ) (w : Worked) (rows : List (List ℕ)) (coefs : List ℤ) → (kind ≡ 0 → ⊥)
+  pub letter-vector : (kind : ℕ) (w : Std.Result Worked Refusal) (rows : List (List ℕ)) (coefs : List ℤ) → (kind ≡ 0 → ⊥)
       → RowsGive (given (record { kind = 1; terms = term_of t ∷ [] })) w rows coefs
       → RowsGive (given (letter_form n kind)) w rows coefs
   unfolding letter_form
@@ -116,10 +118,9 @@ module _ (n : ℕ) (t : Term) (m : TermAs (plus [] (n ∷ [])) t) where
 -- ════ constants
 
 -- beyond
-pub constant-nine : (k : ℤ) (b : Bool) (w : Worked) (rows : List (List ℕ)) (coefs : List ℤ) → b ≡ coef_within k → b ≡ false → w.refusal ≡ 9
-    → RowsGive (constant_form k) w rows coefs
+pub constant-nine : (k : ℤ) (b : Bool) (rows : List (List ℕ)) (coefs : List ℤ) → b ≡ coef_within k → b ≡ false → RowsGive (constant_form k) (Err LargeCoefficient) rows coefs
 unfolding constant_form
-constant-nine k b w rows coefs e p h = rows_refused (constant_form k) w 9 rows coefs h (λ z. omega arith) (rw (sym e ∙ p))
+constant-nine k b rows coefs e p = rows_refused (constant_form k) LargeCoefficient rows coefs (rw (sym e ∙ p))
 
 module _ (k : ℤ) (b z : Bool) (e : b ≡ coef_within k) (p : b ≡ true) (q : z ≡ is_zero k) where
   constant_given : (ts : List S.Term) → keep (alone k) [] ≡ ts → constant_form k ≡ given (record { kind = 0; terms = ts })
@@ -130,7 +131,7 @@ module _ (k : ℤ) (b z : Bool) (e : b ≡ coef_within k) (p : b ≡ true) (q : 
   constant-shape ts h = subst (λ (ts : List S.Term). FormInShape (record { kind = 0; terms = ts })) h (constant_form_lem k (holds (coef_within k) (sym e ∙ p)))
 
   -- 0
-  pub constant_zero : (rows : List (List ℕ)) (coefs : List ℤ) → z ≡ true → RowsGive (constant_form k) (record { refusal = 0; kind = 0; count = 0 }) rows coefs
+  pub constant_zero : (rows : List (List ℕ)) (coefs : List ℤ) → z ≡ true → RowsGive (constant_form k) (Ok (record { kind = 0; count = 0 })) rows coefs
   unfolding keep
   constant_zero rows coefs h =
       let none : keep (alone k) [] ≡ [] = rw (sym q ∙ h) in
@@ -146,11 +147,11 @@ module _ (k : ℤ) (b z : Bool) (e : b ≡ coef_within k) (p : b ≡ true) (q : 
     pub one_shape : FormInShape (record { kind = 0; terms = term_of t ∷ [] })
     one_shape = alone-shape 0 t (alone k) m (constant-shape (alone k ∷ []) one)
 
-    pub constant_one : (w : Worked) (rows : List (List ℕ)) (coefs : List ℤ) → RowsGive (given (record { kind = 0; terms = term_of t ∷ [] })) w rows coefs
+    pub constant_one : (w : Std.Result Worked Refusal) (rows : List (List ℕ)) (coefs : List ℤ) → RowsGive (given (record { kind = 0; terms = term_of t ∷ [] })) w rows coefs
         → RowsGive (constant_form k) w rows coefs
     constant_one w rows coefs = alone_as 0 t (alone k) m (constant_form k) w rows coefs (constant_given (alone k ∷ []) one)
 
 -- a constant is read back as it is
-pub constant-back : (k : ℤ) (w : Worked) (rows : List (List ℕ)) (coefs : List ℤ) → SFits w64 k → RowsGive (constant_form (back k)) w rows coefs
+pub constant-back : (k : ℤ) (w : Std.Result Worked Refusal) (rows : List (List ℕ)) (coefs : List ℤ) → SFits w64 k → RowsGive (constant_form (back k)) w rows coefs
     → RowsGive (constant_form k) w rows coefs
 constant-back k w rows coefs h = subst (λ (z : ℤ). RowsGive (constant_form z) w rows coefs) (back_is h)

@@ -20,47 +20,45 @@ use Rattle.terms.specs.declared.types.Term.{Term}
 use Rattle.terms.specs.Numbers.{letters_of}
 use Rattle.terms.specs.Abstraction.{factor_of, part_of, term_of}
 use Rattle.terms.proofs.Arrays.{rest_at, nothing_left_lem}
-use Rattle.letters.specs.Tested.{test_of}
+use Rattle.std.specs.Prelude.{Ok, Err}
+use Rattle.std.specs.Prelude as Std
+use Rattle.refusal.specs.declared.Refusal.{Refusal}
+use Rattle.refusal.specs.declared.Refusal.TheVariants.{BadTable, AbsentLetter, WrongKind}
+use Rattle.refusal.specs.Tests.{test_of}
 use Rattle.terms.proofs.Letters.{scalar_is, dot_is, triple_is}
 
--- ════ a test's number
+-- what a test answers
+abbrev Answer : Type 0
+Answer = Std.Result (Unit {0}) Refusal
 
--- not 0: refused with it
-pub test_refused : (n : ℕ) → (n ≡ 0 → ⊥) → test_of n ≡ refused n
-unfolding test_of
-test_refused n h = rw (ne_eqb n 0 h)
+-- ════ a test's answer
 
--- 0: passed
-pub test-passed : (n : ℕ) → n ≡ 0 → test_of n ≡ given tt
-unfolding test_of
-test-passed n e = rw (eq-eqb n 0 e)
+-- refused: what follows is not tested
+pub stops : (e : Refusal) (t u : Test) → test_of (Err e) ≡ t → test_of (Err e) ≡ (t >> u)
+stops e t u h = ap (λ (z : Test). z >> u) h
 
--- not 0: what follows is not tested
-pub stops : (n : ℕ) (t u : Test) → test_of n ≡ t → (n ≡ 0 → ⊥) → test_of n ≡ (t >> u)
-stops n t u e h = test_refused n h ∙ ap (λ (z : Test). z >> u) (sym (test_refused n h) ∙ e)
-
--- 0: what follows decides
-pub goes_on_lem : (n : ℕ) (t u : Test) → test_of n ≡ t → n ≡ 0 → (t >> u) ≡ u
-goes_on_lem n t u e p = ap (λ (z : Test). z >> u) (sym e ∙ test-passed n p)
+-- passed: what follows decides
+pub goes_on : {x : Unit {0}} (t u : Test) → test_of (Ok x) ≡ t → (t >> u) ≡ u
+goes_on t u h = sym (ap (λ (z : Test). z >> u) h)
 
 -- ════ the table
 
 module _ (t : List ℕ) where
-  pub table_empty : length t < 1 → test_of 1 ≡ test_table t
-  unfolding test_of test_table good_table
+  pub table_empty : length t < 1 → test_of (Err BadTable) ≡ test_table t
+  unfolding test_table good_table
   table_empty h = rw (lt-leb 1 (length t) h)
 
-  pub table-long : 1 ≤ length t → 24 < length t → test_of 1 ≡ test_table t
-  unfolding test_of test_table good_table
+  pub table-long : 1 ≤ length t → 24 < length t → test_of (Err BadTable) ≡ test_table t
+  unfolding test_table good_table
   table-long h g = rw (le-leb 1 (length t) h, lt-leb (length t) 24 g)
 
   module _ (h : 1 ≤ length t) (g : length t ≤ 24) where
-    pub table-bad : all is_kind t ≡ false → test_of 1 ≡ test_table t
-    unfolding test_of test_table good_table
+    pub table-bad : all is_kind t ≡ false → test_of (Err BadTable) ≡ test_table t
+    unfolding test_table good_table
     table-bad e = rw (le-leb 1 (length t) h, le-leb (length t) 24 g, e)
 
-    pub table_good_lem : all is_kind t ≡ true → test_of 0 ≡ test_table t
-    unfolding test_of test_table good_table
+    pub table_good_lem : all is_kind t ≡ true → test_of (Ok tt) ≡ test_table t
+    unfolding test_table good_table
     table_good_lem e = rw (le-leb 1 (length t) h, le-leb (length t) 24 g, e)
 
   module _ (i : ℕ) where
@@ -82,19 +80,19 @@ module _ (t : List ℕ) where
 -- ════ letters
 
 module _ (t : List ℕ) (kind x : ℕ) where
-  pub letter-absent : length t ≤ x → test_of 5 ≡ test_letter t kind x
-  unfolding test_of test_letter
+  pub letter-absent : length t ≤ x → test_of (Err AbsentLetter) ≡ test_letter t kind x
+  unfolding test_letter
   letter-absent h = rw (le-ltb x (length t) h)
 
-  pub letter-other : x < length t → (kind_of t x ≡ kind → ⊥) → test_of 6 ≡ test_letter t kind x
-  unfolding test_of test_letter
+  pub letter-other : x < length t → (kind_of t x ≡ kind → ⊥) → test_of (Err WrongKind) ≡ test_letter t kind x
+  unfolding test_letter
   letter-other h g = rw (lt-ltb x (length t) h, ne_eqb (kind_of t x) kind g)
 
-  pub letter_good : x < length t → kind_of t x ≡ kind → test_of 0 ≡ test_letter t kind x
-  unfolding test_of test_letter
+  pub letter_good : x < length t → kind_of t x ≡ kind → test_of (Ok tt) ≡ test_letter t kind x
+  unfolding test_letter
   letter_good h g = rw (lt-ltb x (length t) h, eq-eqb (kind_of t x) kind g)
 
-  pub letters_one : (r : ℕ) → test_of r ≡ test_letter t kind x → test_of r ≡ test_letters t kind (x ∷ [])
+  pub letters_one : (r : Answer) → test_of r ≡ test_letter t kind x → test_of r ≡ test_letters t kind (x ∷ [])
   unfolding test_letters
   letters_one r e = e ∙ sym (last (test_letter t kind x))
     where
@@ -102,17 +100,17 @@ module _ (t : List ℕ) (kind x : ℕ) where
       last (refused n) = refl
       last (given v) = refl
 
-  pub letters-stop : (xs : List ℕ) (r : ℕ) → test_of r ≡ test_letter t kind x → (r ≡ 0 → ⊥) → test_of r ≡ test_letters t kind (x ∷ xs)
+  pub letters-stop : (e : Refusal) (xs : List ℕ) → test_of (Err e) ≡ test_letter t kind x → test_of (Err e) ≡ test_letters t kind (x ∷ xs)
   unfolding test_letters
-  letters-stop xs r e h = stops r _ _ e h
+  letters-stop r xs e = stops r _ _ e
 
-  pub letters_on : (xs : List ℕ) (r q : ℕ) → test_of r ≡ test_letter t kind x → r ≡ 0 → test_of q ≡ test_letters t kind xs → test_of q ≡ test_letters t kind (x ∷ xs)
+  pub letters_on : {u : Unit {0}} (xs : List ℕ) (q : Answer) → test_of (Ok u) ≡ test_letter t kind x → test_of q ≡ test_letters t kind xs → test_of q ≡ test_letters t kind (x ∷ xs)
   unfolding test_letters
-  letters_on xs r q e p f = f ∙ sym (goes_on_lem r _ _ e p)
+  letters_on xs q e f = f ∙ sym (goes_on _ _ e)
 
 -- ════ a factor
 
-module _ (t : List ℕ) (k : ℕ) (f : Factor) (e : factor_of f ≡ letters_of k) (r : ℕ) where
+module _ (t : List ℕ) (k : ℕ) (f : Factor) (e : factor_of f ≡ letters_of k) (r : Answer) where
   abbrev FactorTest : Test
   FactorTest = test_letters t (when eqb (length (letters_of k)) 1 then scalar else vector) (letters_of k)
 
@@ -127,32 +125,34 @@ module _ (t : List ℕ) (k : ℕ) (f : Factor) (e : factor_of f ≡ letters_of k
 
 -- ════ a vector part
 
-pub part_none : (t : List ℕ) (p : Part) → p ≡ Nothing → test_of 0 ≡ test_letters t vector (part_of p)
-unfolding test_of test_letters part_of
+pub part_none : (t : List ℕ) (p : Part) → p ≡ Nothing → test_of (Ok tt) ≡ test_letters t vector (part_of p)
+unfolding test_letters part_of
 part_none t p e = rw e
 
-pub part-letter : (t : List ℕ) (p : Part) (x r : ℕ) → p ≡ Letter x → test_of r ≡ test_letter t vector x → test_of r ≡ test_letters t vector (part_of p)
+pub part-letter : (t : List ℕ) (p : Part) (x : ℕ) (r : Answer) → p ≡ Letter x → test_of r ≡ test_letter t vector x → test_of r ≡ test_letters t vector (part_of p)
 unfolding part_of
 part-letter t p x r e h = rw e (letters_one t vector x r h)
 
-pub part-wedge : (t : List ℕ) (p : Part) (x y r : ℕ) → p ≡ Wedge x y → test_of r ≡ test_letters t vector (x ∷ y ∷ []) → test_of r ≡ test_letters t vector (part_of p)
+pub part-wedge : (t : List ℕ) (p : Part) (x y : ℕ) (r : Answer) → p ≡ Wedge x y → test_of r ≡ test_letters t vector (x ∷ y ∷ []) → test_of r ≡ test_letters t vector (part_of p)
 unfolding part_of
 part-wedge t p x y r e h = rw e h
 
 -- ════ a term, from a factor on
 
-module _ (t f : List ℕ) (n i r : ℕ) (rest : Test) (fl : n ≤ length f) where
+module _ (t f : List ℕ) (n i : ℕ) (rest : Test) (fl : n ≤ length f) where
   abbrev From : ℕ → Test
   From j = test_factors t (map letters_of (drop j (take n f))) >> rest
 
-  module _ (h : i < n) (e : test_of r ≡ test_letters t (when eqb (length (letters_of (get_or f i 0))) 1 then scalar else vector) (letters_of (get_or f i 0))) where
-    pub factor-stops : (r ≡ 0 → ⊥) → test_of r ≡ From i
-    unfolding test_factors
-    factor-stops g = rw (rest_at f n i 0 fl h) (stops r _ rest (stops r _ (test_factors t (map letters_of (drop (i + 1) (take n f)))) e g) g)
+  abbrev pub AtFactor : Test
+  AtFactor = test_letters t (when eqb (length (letters_of (get_or f i 0))) 1 then scalar else vector) (letters_of (get_or f i 0))
 
-    pub factor-passes : r ≡ 0 → From i ≡ From (i + 1)
-    unfolding test_factors
-    factor-passes p = rw (rest_at f n i 0 fl h) (ap (λ (z : Test). z >> rest) (goes_on_lem r _ _ e p))
+  pub factor-stops : (e : Refusal) → i < n → test_of (Err e) ≡ AtFactor → test_of (Err e) ≡ From i
+  unfolding test_factors
+  factor-stops r h e = rw (rest_at f n i 0 fl h) (stops r _ rest (stops r _ (test_factors t (map letters_of (drop (i + 1) (take n f)))) e))
+
+  pub factor-passes : {u : Unit {0}} → i < n → test_of (Ok u) ≡ AtFactor → From i ≡ From (i + 1)
+  unfolding test_factors
+  factor-passes h e = rw (rest_at f n i 0 fl h) (ap (λ (z : Test). z >> rest) (goes_on _ _ e))
 
   pub factors-end : n ≤ i → From i ≡ rest
   unfolding test_factors
@@ -160,18 +160,17 @@ module _ (t f : List ℕ) (n i r : ℕ) (rest : Test) (fl : n ≤ length f) wher
 
 -- ════ the terms of a form, from one on
 
-module _ (t : List ℕ) (l : List Term) (n i r : ℕ) (d : Term) (fl : n ≤ length l) where
+module _ (t : List ℕ) (l : List Term) (n i : ℕ) (d : Term) (fl : n ≤ length l) where
   abbrev TermsFrom : ℕ → Test
   TermsFrom j = test_terms t (map term_of (drop j (take n l)))
 
-  module _ (h : i < n) (e : test_of r ≡ test_term t (term_of (get_or l i d))) where
-    pub term-stops : (r ≡ 0 → ⊥) → test_of r ≡ TermsFrom i
-    unfolding test_terms
-    term-stops g = rw (rest_at l n i d fl h) (stops r _ _ e g)
+  pub term-stops : (e : Refusal) → i < n → test_of (Err e) ≡ test_term t (term_of (get_or l i d)) → test_of (Err e) ≡ TermsFrom i
+  unfolding test_terms
+  term-stops r h e = rw (rest_at l n i d fl h) (stops r _ _ e)
 
-    pub term-passes : r ≡ 0 → TermsFrom i ≡ TermsFrom (i + 1)
-    unfolding test_terms
-    term-passes p = rw (rest_at l n i d fl h) (goes_on_lem r _ _ e p)
+  pub term-passes : {u : Unit {0}} → i < n → test_of (Ok u) ≡ test_term t (term_of (get_or l i d)) → TermsFrom i ≡ TermsFrom (i + 1)
+  unfolding test_terms
+  term-passes h e = rw (rest_at l n i d fl h) (goes_on _ _ e)
 
   pub terms-end : n ≤ i → TermsFrom i ≡ given tt
   unfolding test_terms

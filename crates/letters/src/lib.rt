@@ -8,30 +8,29 @@ ghost use Rattle.specification.specs.Records.{test_term, test_terms};
 ghost use Rattle.terms.specs.Numbers.{letters_of};
 ghost use Rattle.terms.specs.Abstraction.{part_of, term_of, Counted, terms_of};
 ghost use Rattle.terms.specs.Valid.{Readable};
-ghost use Rattle.letters.specs.Tested.{test_of, in_turn};
+ghost use Rattle.refusal.specs.Tests.{test_of};
 
+use refusal::Refusal;
 use terms::factors::{Factor, letters_of};
 use terms::types::{Form, Part, Term};
 
-// 1 for a table of 0 or over 24 bytes, or with a byte above 1; else 0.
-pub fn check_table(table: &[u8]) -> u8
+// A table of 1 to 24 bytes, none above 1.
+pub fn check_table(table: &[u8]) -> Result<(), Refusal>
     ensures { test_of result ≡ test_table table.now }
 {
     let n = table.len();
     if n < 1 {
-        return 1;
+        return Err(Refusal::BadTable);
     }
     if n > 24 {
-        return 1;
+        return Err(Refusal::BadTable);
     }
-    let mut i: usize = 0;
-    while i < n {
+    for i in 0..n {
         if table[i] > 1 {
-            return 1;
+            return Err(Refusal::BadTable);
         }
-        i += 1;
     }
-    0
+    Ok(())
 }
 
 // The kind of a letter that the table has.
@@ -42,59 +41,42 @@ pub fn kind_of(table: &[u8], n: usize) -> u8
     table[n]
 }
 
-// 5 for a letter that the table has not, 6 for one of another kind, else 0.
-pub fn test_letter(table: &[u8], kind: u8, x: u8) -> u8
+// A letter of the table, of this kind.
+pub fn test_letter(table: &[u8], kind: u8, x: u8) -> Result<(), Refusal>
     ensures { test_of result ≡ test_letter table.now kind x }
 {
     let n = x as usize;
     if n >= table.len() {
-        return 5;
+        return Err(Refusal::AbsentLetter);
     }
     if kind_of(table, n) != kind {
-        return 6;
+        return Err(Refusal::WrongKind);
     }
-    0
-}
-
-// Of two tests the first that refuses, else 0.
-pub fn first_of(a: u8, b: u8) -> u8
-    ensures { test_of result ≡ in_turn (test_of a) (test_of b) }
-{
-    if a != 0 {
-        return a;
-    }
-    b
+    Ok(())
 }
 
 // Two vector letters.
-fn test_two(table: &[u8], x: u8, y: u8) -> u8
+fn test_two(table: &[u8], x: u8, y: u8) -> Result<(), Refusal>
     ensures { test_of result ≡ test_letters table.now vector (x ∷ y ∷ []) }
 {
-    let r = test_letter(table, 1, x);
-    if r != 0 {
-        return r;
-    }
+    test_letter(table, 1, x)?;
     test_letter(table, 1, y)
 }
 
 // Three vector letters.
-fn test_three(table: &[u8], x: u8, y: u8, z: u8) -> u8
+fn test_three(table: &[u8], x: u8, y: u8, z: u8) -> Result<(), Refusal>
     ensures { test_of result ≡ test_letters table.now vector (x ∷ y ∷ z ∷ []) }
 {
-    let r = test_letter(table, 1, x);
-    if r != 0 {
-        return r;
-    }
+    test_letter(table, 1, x)?;
     test_two(table, y, z)
 }
 
 // The letters of a factor: one is scalar, those of dots and triples are vectors.
-fn test_factor(table: &[u8], k: u32) -> u8
+fn test_factor(table: &[u8], k: u32) -> Result<(), Refusal>
     requires { k < 16843008 }
     ensures { test_of result ≡ test_letters table.now (when eqb (length (letters_of k)) 1 then scalar else vector) (letters_of k) }
 {
-    let f = letters_of(k);
-    match f {
+    match letters_of(k) {
         Factor::Scalar(x) => test_letter(table, 0, x),
         Factor::Dot(x, y) => test_two(table, x, y),
         Factor::Triple(x, y, z) => test_three(table, x, y, z),
@@ -102,48 +84,36 @@ fn test_factor(table: &[u8], k: u32) -> u8
 }
 
 // The letters of a vector part.
-fn test_part(table: &[u8], p: Part) -> u8
+fn test_part(table: &[u8], p: Part) -> Result<(), Refusal>
     ensures { test_of result ≡ test_letters table.now vector (part_of p) }
 {
     match p {
-        Part::Nothing => 0,
+        Part::Nothing => Ok(()),
         Part::Letter(x) => test_letter(table, 1, x),
         Part::Wedge(x, y) => test_two(table, x, y),
     }
 }
 
 // The letters of a term.
-pub fn test_term(table: &[u8], t: Term) -> u8
+pub fn test_term(table: &[u8], t: Term) -> Result<(), Refusal>
     requires { Counted t }
     ensures { test_of result ≡ test_term table.now (term_of t) }
 {
     let n = t.factor_count as usize;
-    let p = t.part;
-    let mut i: usize = 0;
-    while i < n {
-        let r = test_factor(table, t.factors[i]);
-        if r != 0 {
-            return r;
-        }
-        i += 1;
+    for i in 0..n {
+        test_factor(table, t.factors[i])?;
     }
-    test_part(table, p)
+    test_part(table, t.part)
 }
 
 // The letters of the terms of a form.
-pub fn test_terms(table: &[u8], f: Form) -> u8
+pub fn test_terms(table: &[u8], f: Form) -> Result<(), Refusal>
     requires { Readable 48 f }
     ensures { test_of result ≡ test_terms table.now (terms_of f) }
 {
     let n = f.count;
-    let mut i: usize = 0;
-    while i < n {
-        let t = f.terms[i];
-        let r = test_term(table, t);
-        if r != 0 {
-            return r;
-        }
-        i += 1;
+    for i in 0..n {
+        test_term(table, f.terms[i])?;
     }
-    0
+    Ok(())
 }

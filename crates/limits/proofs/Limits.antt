@@ -17,6 +17,8 @@ use Rattle.terms.specs.declared.types.Term.{Term}
 use Rattle.theory.specs.Tests.{is_true}
 use Rattle.terms.proofs.Arrays.{rest_at}
 use Rattle.rows.specs.Rows.{term_by, terms_by, run_of, Light}
+use Rattle.std.specs.Prelude.{Ok, Err}
+use Rattle.refusal.specs.declared.Refusal.TheVariants.{LargeCoefficient, ManyTerms}
 use Rattle.limits.specs.Limits.{RunTested, limited_of}
 use Rattle.rows.proofs.Runs.{run_length}
 use borrow.Author.Tests.{le-leb, lt-leb}
@@ -66,29 +68,28 @@ module _ (coefs : List ℤ) (n : ℕ) (hc : n ≤ length coefs) where
   unfolding run_of
   run_within rows hr = terms_within (take n rows) (take n coefs) (length-take-le n rows hr ∙ sym (length-take-le n coefs hc))
 
-  pub tested_9 : all coef_within (take n coefs) ≡ false → RunTested n coefs 9
+  pub tested_9 : all coef_within (take n coefs) ≡ false → RunTested n coefs (Err LargeCoefficient)
   unfolding limited_of
   tested_9 e = record {
     is = λ rows hr kind. within_9 kind (run_of n rows coefs) (run_within rows hr ∙ e);
-    few = λ z. absurd (omega arith);
-    light =
-        λ z. absurd (omega arith);
+    few = tt;
+    light = tt;
   }
 
-  pub tested_10 : all coef_within (take n coefs) ≡ true → 48 < n → RunTested n coefs 10
+  pub tested_10 : all coef_within (take n coefs) ≡ true → 48 < n → RunTested n coefs (Err ManyTerms)
   unfolding limited_of
   tested_10 e h = record {
     is = λ rows hr kind. within_10 kind (run_of n rows coefs) (run_within rows hr ∙ e) (omega (arith, run_length rows coefs n hr hc));
-    few = λ z. absurd (omega arith);
-    light = λ z. absurd (omega arith);
+    few = tt;
+    light = tt;
   }
 
-  pub tested_none : all coef_within (take n coefs) ≡ true → n ≤ 48 → RunTested n coefs 0
+  pub tested_none : all coef_within (take n coefs) ≡ true → n ≤ 48 → RunTested n coefs (Ok tt)
   unfolding limited_of Light
   tested_none e h = record {
     is = λ rows hr kind. within_both kind (run_of n rows coefs) (run_within rows hr ∙ e) (omega (arith, run_length rows coefs n hr hc));
-    few = λ z. h;
-    light = λ z. within-light (take n coefs) e;
+    few = h;
+    light = within-light (take n coefs) e;
   }
 
   module _ (i : ℕ) (h : i < n) (inv : all coef_within (take n coefs) ≡ all coef_within (drop i (take n coefs))) (b : Bool)

@@ -8,6 +8,7 @@ ghost use Rattle.rows.specs.Rows.{Light};
 ghost use Rattle.limits.specs.Limits.{RunTested};
 
 use integers::{size, within};
+use refusal::Refusal;
 
 // A bound that is not within, and so says nothing.
 pub const NO_BOUND: u64 = 2147483648;
@@ -17,12 +18,10 @@ fn all_within(coefs: &[i64], n: usize) -> bool
     requires { n ≤ length coefs.now }
     ensures { result ≡ all coef_within (take n coefs.now) }
 {
-    let mut i: usize = 0;
-    while i < n {
+    for i in 0..n {
         if !within(coefs[i]) {
             return false;
         }
-        i += 1;
     }
     true
 }
@@ -38,19 +37,19 @@ fn all_below(coefs: &[i64], n: usize, bound: u64) -> bool
     all_within(coefs, n)
 }
 
-// 9 where one of n coefficients is beyond ±2147483647, else 10 where there are more than 48, else 0. The bound holds where it is within; NO_BOUND says nothing.
-pub fn test_limits(coefs: &[i64], n: usize, bound: u64) -> u8
+// Each of n coefficients within ±2147483647, and not more than 48 of them. The bound holds where it is within; NO_BOUND says nothing.
+pub fn test_limits(coefs: &[i64], n: usize, bound: u64) -> Result<(), Refusal>
     requires { (n ≤ length coefs.now) × (bound ≤ 2147483647 → Light bound n coefs.now) }
     ensures { RunTested n coefs.now result }
 {
     let fine = all_below(coefs, n, bound);
     if !fine {
-        return 9;
+        return Err(Refusal::LargeCoefficient);
     }
     if n > 48 {
-        return 10;
+        return Err(Refusal::ManyTerms);
     }
-    0
+    Ok(())
 }
 
 // The largest of n coefficients, signs left out.
@@ -59,13 +58,11 @@ pub fn largest(coefs: &[i64], n: usize) -> u64
     ensures { Light result n coefs.now × (result ≤ 2147483647) }
 {
     let mut most: u64 = 0;
-    let mut i: usize = 0;
-    while i < n {
+    for i in 0..n {
         let v = size(coefs[i]);
         if v > most {
             most = v;
         }
-        i += 1;
     }
     most
 }

@@ -14,6 +14,7 @@ use Rattle.logs.specs.Steps.{steps_of}
 use Rattle.symbols.specs.Printable.{Printable}
 use Rattle.printing.proofs.Named.{term-named, printable}
 use Rattle.log_lines.specs.Printed.{StepPrintable, StepsPrintable}
+use Rattle.std.specs.Prelude.{Ok}
 use Rattle.log_texts.specs.declared.reading.LogText.{LogText}
 use Rattle.log_texts.specs.Logs.{log_of, LogTextRead}
 use Rattle.log_texts.proofs.Shape.{StepGood, LogGood, log_good}
@@ -36,18 +37,18 @@ pub record Tellable (names table : List ℕ) (r : LogText) : Type 0 where
   pub fit : length names ≤ length table
 
 -- a log that was read can be told
-pub read_tellable : (s : List ℕ) (r : LogText) (names table : List ℕ) → LogTextRead s r names table → r.refusal ≡ 0
+pub read_tellable : (s : List ℕ) (r : LogText) (names table : List ℕ) → LogTextRead s (Ok r) names table
     → Tellable (take r.count names) (take r.count table) r
 unfolding steps_of
-read_tellable s r names table h z =
+read_tellable s r names table h =
     let n = take r.count names in
     let t = take r.count table in
-    let g : LogGood (log_of n t r) = log_good s (log_of n t r) (h.gives z) in
+    let g : LogGood (log_of n t r) = log_good s (log_of n t r) h.is in
     let e : length n ≡ length t = names_count n t g.names_good in
     let many : length t ≤ length n = omega arith in
     record {
-      first = printable t n many r.first (h.first z) g.first.tested;
-      steps = record { valid = h.steps z; steps = each-printable t n many (take r.steps.count r.steps.steps) (h.steps z).steps g.steps };
-      last = printable t n many r.last (h.last z) g.last.tested;
+      first = printable t n many r.first h.first g.first.tested;
+      steps = record { valid = h.steps; steps = each-printable t n many (take r.steps.count r.steps.steps) h.steps.steps g.steps };
+      last = printable t n many r.last h.last g.last.tested;
       fit = omega arith;
     }

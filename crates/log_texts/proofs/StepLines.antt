@@ -14,17 +14,15 @@ use Rattle.specification.specs.Rules.{is_rule, rule_letters}
 use Rattle.specification.specs.Rules as R
 use Rattle.specification.specs.LogTexts.{mark, read_letters_at, read_step_line}
 use Rattle.theory.specs.Tests.{and_both}
+use Rattle.terms.specs.declared.types.Term.{Term}
 use Rattle.terms.specs.Abstraction.{term_of}
 use Rattle.rules.specs.Steps.{step_of}
 use Rattle.std.specs.Prelude.{Ok, Err}
 use Rattle.refusal.specs.declared.Refusal.TheVariants.{Torn}
 use Rattle.refusal.specs.Numbers.{number_of}
 use Rattle.texts.specs.declared.Unread.{Unread}
-use Rattle.texts.proofs.Reasons.{not_zero}
 use Rattle.log_texts.specs.declared.naming.Letters.{Letters}
-use Rattle.log_texts.specs.declared.kinds.Multiplier.{Multiplier}
 use Rattle.log_texts.specs.declared.steps.Rule.{Rule}
-use Rattle.log_texts.specs.declared.steps.StepLine.{StepLine}
 use Rattle.log_texts.specs.Letters.{MarkRead, behind_letters, FormulaAt, LettersRead}
 use Rattle.log_texts.specs.Formulas.{behind_mark, MultiplierRead}
 use Rattle.log_texts.specs.Steps.{behind_colon, RuleRead, StepLineRead}
@@ -86,25 +84,14 @@ module _ (line : List ℕ) (word at b : ℕ) (hw : word ≡ skip line 0) (ha : a
 
 -- ════ the step
 
-refuses-step : (names table line : List ℕ) (number column : ℕ) (r : StepLine) → (number ≡ 0 → ⊥) → (r.refusal ≡ number) × (r.column ≡ column)
-    → read_step_line names table line ≡ refused_at number column → StepLineRead names table line r
-refuses-step names table line number column r z q e = record {
-  refuses = λ _. e ∙ (λ i. refused_at (sym q.0 i) (sym q.1 i));
-  gives = λ y. absurd (z (sym q.0 ∙ y));
-  valid = λ y. absurd (z (sym q.0 ∙ y));
-  six = λ y. absurd (z (sym q.0 ∙ y));
-}
-
 module _ (names table line : List ℕ) where
   -- a line refused by a part
-  unread_step : (u : Unread) (n : ℕ) (r : StepLine) → n ≡ number_of u.why → (r.refusal ≡ n) × (r.column ≡ u.column)
-      → read_step_line names table line ≡ refused_at (number_of u.why) u.column → StepLineRead names table line r
-  unread_step u n r m q e = refuses-step names table line (number_of u.why) u.column r (not_zero u.why) (q.0 ∙ m, q.1) e
+  unread_step : (u : Unread) → read_step_line names table line ≡ refused_at (number_of u.why) u.column → StepLineRead names table line (Err u)
+  unread_step u e = record { is = e; valid = tt; six = tt }
 
   -- no rule
-  pub step_unruled : (u : Unread) → RuleRead line (Err u) → (n : ℕ) (r : StepLine) → n ≡ number_of u.why → (r.refusal ≡ n) × (r.column ≡ u.column)
-      → StepLineRead names table line r
-  step_unruled u h n r m q = unread_step u n r m q (h.is names table)
+  pub step_unruled : (u : Unread) → RuleRead line (Err u) → StepLineRead names table line (Err u)
+  step_unruled u h = unread_step u (h.is names table)
 
   module _ (a : Rule) (ha : RuleRead line (Ok a)) (n : ℕ) (hn : n ≡ rule_letters a.rule) where
     -- what follows the letters
@@ -116,9 +103,8 @@ module _ (names table line : List ℕ) where
     by-letters = ha.is names table ∙ ap (λ (k : ℕ). read_letters_at k names line a.at >>= follows) (sym hn)
 
     -- no letters
-    pub step_unlettered : (u : Unread) → LettersRead (read_letters_at n names line a.at) n (Err u) → (k : ℕ) (r : StepLine) → k ≡ number_of u.why
-        → (r.refusal ≡ k) × (r.column ≡ u.column) → StepLineRead names table line r
-    step_unlettered u h k r m q = unread_step u k r m q (by-letters ∙ ap (λ (x : Placed (List ℕ × ℕ)). x >>= follows) h.is)
+    pub step_unlettered : (u : Unread) → LettersRead (read_letters_at n names line a.at) n (Err u) → StepLineRead names table line (Err u)
+    step_unlettered u h = unread_step u (by-letters ∙ ap (λ (x : Placed (List ℕ × ℕ)). x >>= follows) h.is)
 
     module _ (l : Letters) (hl : LettersRead (read_letters_at n names line a.at) n (Ok l)) where
       -- what follows M
@@ -129,25 +115,22 @@ module _ (names table line : List ℕ) where
       by_mark = by-letters ∙ ap (λ (x : Placed (List ℕ × ℕ)). x >>= follows) hl.is
 
       -- no `, M =`
-      pub step-unmarked : (u : Unread) → FormulaAt line l.at (Err u) → (k : ℕ) (r : StepLine) → k ≡ number_of u.why
-          → (r.refusal ≡ k) × (r.column ≡ u.column) → StepLineRead names table line r
-      step-unmarked u h k r m q = unread_step u k r m q (by_mark ∙ h.is (λ formula. behind_mark names table line formula whole))
+      pub step-unmarked : (u : Unread) → FormulaAt line l.at (Err u) → StepLineRead names table line (Err u)
+      step-unmarked u h = unread_step u (by_mark ∙ h.is (λ formula. behind_mark names table line formula whole))
 
-      module _ (e : ℕ) (he : FormulaAt line l.at (Ok e)) (t : Multiplier) (ht : MultiplierRead names table line e t) where
+      module _ (e : ℕ) (he : FormulaAt line l.at (Ok e)) where
         by-term : read_step_line names table line ≡ behind_mark names table line e whole
         by-term = by_mark ∙ he.is (λ formula. behind_mark names table line formula whole)
 
         -- no term
-        pub step_unmultiplied : (r : StepLine) → (t.refusal ≡ 0 → ⊥) → (r.refusal ≡ t.refusal) × (r.column ≡ t.column) → StepLineRead names table line r
-        step_unmultiplied r z q = refuses-step names table line t.refusal t.column r z q (by-term ∙ ht.refuses z whole)
+        pub step_unmultiplied : (u : Unread) → MultiplierRead names table line e (Err u) → StepLineRead names table line (Err u)
+        step_unmultiplied u h = unread_step u (by-term ∙ h.is whole)
 
         -- a step
-        pub step_read : t.refusal ≡ 0 → StepLineRead names table line
-            (record { refusal = 0; column = 0; step = record { rule = a.rule; letters = l.letters; m = t.m } })
+        pub step_read : (m : Term) → MultiplierRead names table line e (Ok m) → StepLineRead names table line (Ok (record { rule = a.rule; letters = l.letters; m = m }))
         unfolding step_of
-        step_read z = record {
-          refuses = λ y. absurd (y refl);
-          gives = λ _. by-term ∙ ht.gives z whole ∙ ap (λ (k : ℕ). placed (record { rule = a.rule; letters = take k l.letters; m = term_of t.m })) hn;
-          valid = λ _. record { rule = ha.is_one; m = ht.valid z };
-          six = λ _. hl.six;
+        step_read m h = record {
+          is = by-term ∙ h.is whole ∙ ap (λ (k : ℕ). placed (record { rule = a.rule; letters = take k l.letters; m = term_of m })) hn;
+          valid = record { rule = ha.is_one; m = h.valid };
+          six = hl.six;
         }

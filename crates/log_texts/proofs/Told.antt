@@ -23,30 +23,28 @@ use Rattle.terms.specs.declared.types.Term.{Term}
 use Rattle.terms.specs.declared.types.Form.{Form}
 use Rattle.terms.specs.Abstraction.{term_of, form_of, Counted}
 use Rattle.terms.specs.Valid.{FormValid}
-use Rattle.formula_call.specs.declared.TextForm.{TextForm}
-use Rattle.formula_call.specs.Texts.{text_form_of, TextGives}
-use Rattle.log_texts.specs.declared.kinds.Multiplier.{Multiplier}
+use Rattle.std.specs.Prelude.{Ok, Err}
+use Rattle.std.specs.Prelude as Std
+use Rattle.refusal.specs.declared.Refusal.TheVariants.{Torn, WrongKind, WrongShape}
+use Rattle.refusal.specs.Numbers.{number_of}
+use Rattle.texts.specs.declared.Unread.{Unread}
+use Rattle.formula_call.specs.Texts.{TextGives}
 use Rattle.log_texts.specs.Formulas.{OneTerm, behind_mark, MultiplierRead}
-use Rattle.formula_call.proofs.Given.{text_refused, text_given, gives_as}
 use Rattle.log_texts.proofs.Within.{rest_of}
 
 -- ════ the form of a text, or its refusal
 
 -- told as a refusal
-pub gives_refused : (x : Placed S.Form) (t : TextForm) (n c : ℕ) → (n ≡ 0 → ⊥) → t.refusal ≡ n → t.column ≡ c → x ≡ refused_at n c → TextGives x t
-unfolding text_form_of
-gives_refused x t n c z hn hc e =
-    let y : t.refusal ≡ 0 → ⊥ = λ w. z (sym hn ∙ w) in
-    record {
-      is = ap (λ (b : Bool). when b then placed (form_of t.form) else refused_at t.refusal t.column) (ne_eqb t.refusal 0 y)
-          ∙ (λ i. refused_at (hn i) (hc i)) ∙ sym e;
-      valid = λ w. absurd (y w);
-    }
+pub gives_refused : (x : Placed S.Form) (e : Unread) → x ≡ refused_at (number_of e.why) e.column → TextGives x (Err e)
+gives_refused x e p = record { is = sym p; valid = tt }
 
 -- told as a form
-pub gives-form : (x : Placed S.Form) (f : Form) → FormValid f → x ≡ placed (form_of f) → TextGives x (record { refusal = 0; column = 0; form = f })
-unfolding text_form_of
-gives-form x f v e = record { is = sym e; valid = λ _. v }
+pub gives-form : (x : Placed S.Form) (f : Form) → FormValid f → x ≡ placed (form_of f) → TextGives x (Ok f)
+gives-form x f v e = record { is = sym e; valid = v }
+
+-- the same in other words
+pub gives_as : (x y : Placed S.Form) (r : Std.Result Form Unread) → x ≡ y → TextGives x r → TextGives y r
+gives_as x y r e g = record { is = g.is ∙ e; valid = g.valid }
 
 -- ════ the kind that is told
 
@@ -63,7 +61,7 @@ module _ (kind at : ℕ) (f : Form) (v : FormValid f) (long : length f.terms ≡
 
   -- an empty form has it
   pub kind-told : kind ≤ 1 → f.count ≡ 0 → TextGives (of_kind kind at (form_of f))
-      (record { refusal = 0; column = 0; form = record { kind = kind; count = 0; terms = f.terms } })
+      (Ok (record { kind = kind; count = 0; terms = f.terms }))
   unfolding of_kind form_of all ascend
   kind-told k e =
       gives-form (of_kind kind at (form_of f)) (record { kind = kind; count = 0; terms = f.terms })
@@ -72,67 +70,71 @@ module _ (kind at : ℕ) (f : Form) (v : FormValid f) (long : length f.terms ≡
 
   module _ (some : f.count ≡ 0 → ⊥) where
     -- another has another
-    pub kind-other : (f.kind ≡ kind → ⊥) → TextGives (of_kind kind at (form_of f)) (record { refusal = 6; column = at; form = f })
+    pub kind-other : (f.kind ≡ kind → ⊥) → TextGives (of_kind kind at (form_of f)) (Err (record { why = WrongKind; column = at }))
     unfolding of_kind form_of
     kind-other n =
-        gives_refused (of_kind kind at (form_of f)) (record { refusal = 6; column = at; form = f }) 6 at (λ z. omega (arith, z)) refl refl
+        gives_refused (of_kind kind at (form_of f)) (record { why = WrongKind; column = at })
         (rw (ne_eqb (length (form_of f).terms) 0 (λ e. some (sym counted ∙ e)), ne_eqb f.kind kind n))
 
     -- or has it
-    pub kind_same : f.kind ≡ kind → TextGives (of_kind kind at (form_of f)) (record { refusal = 0; column = 0; form = f })
+    pub kind_same : f.kind ≡ kind → TextGives (of_kind kind at (form_of f)) (Ok f)
     unfolding of_kind form_of
     kind_same e =
         gives-form (of_kind kind at (form_of f)) f v
         (rw (ne_eqb (length (form_of f).terms) 0 (λ e. some (sym counted ∙ e)), eq-eqb f.kind kind e))
 
--- ════ the formula behind a word
+-- ════ the formula from a position on
 
-module _ (names table line : List ℕ) (at : ℕ) (t : TextForm) (h : TextGives (text_form names table (take (length line - at) (drop at line))) t) where
-  behind : TextGives (text_form names table (drop at line)) t
-  behind = gives_as _ _ t (ap (text_form names table) (rest_of line at)) h
+module _ (names table line : List ℕ) (at : ℕ) where
+  behind : (r : Std.Result Form Unread) → TextGives (text_form names table (take (length line - at) (drop at line))) r → TextGives (text_form names table (drop at line)) r
+  behind r h = gives_as _ _ r (ap (text_form names table) (rest_of line at)) h
 
-  -- the column of a refusal is in the line
-  pub column_inside : at ≤ length line → (t.refusal ≡ 0 → ⊥) → at + t.column ≤ length line
-  column_inside l z =
-      let w = column_within (drop at line) names table t.refusal t.column (text_refused _ t behind z) in omega (arith, w, length-drop at line)
+  module _ (e : Unread) (h : TextGives (text_form names table (take (length line - at) (drop at line))) (Err e)) where
+    -- the column of a refusal is in the line
+    pub column_inside : at ≤ length line → at + e.column ≤ length line
+    column_inside l =
+        let w = column_within (drop at line) names table (number_of e.why) e.column (sym (behind (Err e) h).is) in omega (arith, w, length-drop at line)
 
-  -- a refusal
-  pub kind_refused : (kind : ℕ) → (t.refusal ≡ 0 → ⊥)
-      → TextGives (kind_at names table line kind at) (record { refusal = t.refusal; column = at + t.column; form = t.form })
-  unfolding kind_at from
-  kind_refused kind z =
-      gives_refused (kind_at names table line kind at) (record { refusal = t.refusal; column = at + t.column; form = t.form }) t.refusal
-      (at + t.column) z refl refl
-      (ap (λ (x : Placed S.Form). from at x >>= of_kind kind at) (text_refused _ t behind z))
+    -- a refusal
+    pub from_refused : TextGives (from at (text_form names table (drop at line))) (Err (record { why = e.why; column = at + e.column }))
+    unfolding from
+    from_refused = gives_refused _ (record { why = e.why; column = at + e.column }) (ap (from at) (sym (behind (Err e) h).is))
 
   -- a form
-  pub kind_given : (kind : ℕ) (r : TextForm) → t.refusal ≡ 0 → TextGives (of_kind kind at (form_of t.form)) r → TextGives (kind_at names table line kind at) r
-  unfolding kind_at from
-  kind_given kind r z g = gives_as _ _ r (sym (ap (λ (x : Placed S.Form). from at x >>= of_kind kind at) (text_given _ t behind z))) g
+  pub from_given : (f : Form) → TextGives (text_form names table (take (length line - at) (drop at line))) (Ok f) → TextGives (from at (text_form names table (drop at line))) (Ok f)
+  unfolding from
+  from_given f h = gives-form _ f h.valid (ap (from at) (sym (behind (Ok f) h).is))
+
+-- ════ the formula behind a word
+
+module _ (names table line : List ℕ) (at : ℕ) where
+  -- a refusal
+  pub kind_refused : (kind : ℕ) (e : Unread) → TextGives (from at (text_form names table (drop at line))) (Err e) → TextGives (kind_at names table line kind at) (Err e)
+  unfolding kind_at
+  kind_refused kind e h = gives_refused _ e (ap (λ (x : Placed S.Form). x >>= of_kind kind at) (sym h.is))
+
+  -- a form
+  pub kind_given : (kind : ℕ) (f : Form) → TextGives (from at (text_form names table (drop at line))) (Ok f) → (r : Std.Result Form Unread)
+      → TextGives (of_kind kind at (form_of f)) r → TextGives (kind_at names table line kind at) r
+  unfolding kind_at
+  kind_given kind f h r g = gives_as _ _ r (ap (λ (x : Placed S.Form). x >>= of_kind kind at) h.is) g
 
   -- no form
-  pub multiplier_refused : (r : Multiplier) → (t.refusal ≡ 0 → ⊥) → (r.refusal ≡ t.refusal) × (r.column ≡ at + t.column)
-      → MultiplierRead names table line at r
-  unfolding behind_mark from
-  multiplier_refused r z q = record {
-    refuses = λ _ rest. ap (λ (x : Placed S.Form). from at x >>= λ f. one_term at f >>= rest) (text_refused _ t behind z)
-        ∙ (λ i. refused_at (sym q.0 i) (sym q.1 i));
-    gives = λ e. absurd (z (sym q.0 ∙ e));
-    valid = λ e. absurd (z (sym q.0 ∙ e));
+  pub multiplier_refused : (e : Unread) → TextGives (from at (text_form names table (drop at line))) (Err e) → MultiplierRead names table line at (Err e)
+  unfolding behind_mark
+  multiplier_refused e h = record {
+    is = λ rest. ap (λ (x : Placed S.Form). x >>= λ f. one_term at f >>= rest) (sym h.is);
+    valid = tt;
   }
 
-  module _ (z : t.refusal ≡ 0) where
-    by-terms : (rest : S.Term → Placed R.Step) → behind_mark names table line at rest ≡ (one_term at (form_of t.form) >>= rest)
-    unfolding behind_mark from
-    by-terms rest = ap (λ (x : Placed S.Form). from at x >>= λ f. one_term at f >>= rest) (text_given _ t behind z)
-
-    -- its terms decide
-    pub multiplier-by : (r : Multiplier) → OneTerm (one_term at (form_of t.form)) r → MultiplierRead names table line at r
-    multiplier-by r g = record {
-      refuses = λ y rest. by-terms rest ∙ ap (λ (x : Placed S.Term). x >>= rest) (g.refuses y);
-      gives = λ y rest. by-terms rest ∙ ap (λ (x : Placed S.Term). x >>= rest) (g.gives y);
-      valid = g.valid;
-    }
+  -- its terms decide
+  pub multiplier-by : (f : Form) → TextGives (from at (text_form names table (drop at line))) (Ok f) → (r : Std.Result Term Unread) → OneTerm (one_term at (form_of f)) r
+      → MultiplierRead names table line at r
+  unfolding behind_mark
+  multiplier-by f h r g = record {
+    is = λ rest. ap (λ (x : Placed S.Form). x >>= λ f. one_term at f >>= rest) (sym h.is) ∙ ap (λ (x : Placed S.Term). x >>= rest) g.is;
+    valid = g.valid;
+  }
 
 -- ════ one term
 
@@ -145,20 +147,15 @@ many at kind (t ∷ u ∷ ts) n = refl
 
 module _ (at : ℕ) (f : Form) (v : FormValid f) (long : length f.terms ≡ 48) where
   -- not one
-  pub terms-many : (r : Multiplier) → (f.count ≡ 1 → ⊥) → (r.refusal ≡ 11) × (r.column ≡ at) → OneTerm (one_term at (form_of f)) r
-  terms-many r n q = record {
-    refuses = λ _. many at (form_of f).kind (form_of f).terms (λ e. n (sym (counted 0 at f v long) ∙ e)) ∙ (λ i. refused_at (sym q.0 i) (sym q.1 i));
-    gives = λ e. absurd (omega (arith, q.0, e));
-    valid = λ e. absurd (omega (arith, q.0, e));
-  }
+  pub terms-many : (f.count ≡ 1 → ⊥) → OneTerm (one_term at (form_of f)) (Err (record { why = WrongShape; column = at }))
+  terms-many n = record { is = many at (form_of f).kind (form_of f).terms (λ e. n (sym (counted 0 at f v long) ∙ e)); valid = tt }
 
   -- one
-  pub terms_one : (d : Term) → f.count ≡ 1 → OneTerm (one_term at (form_of f)) (record { refusal = 0; column = 0; m = get_or f.terms 0 d })
+  pub terms_one : (d : Term) → f.count ≡ 1 → OneTerm (one_term at (form_of f)) (Ok (get_or f.terms 0 d))
   unfolding one_term form_of all
   terms_one d e = record {
-    refuses = λ y. absurd (y refl);
-    gives = λ _. ap (λ (ts : List S.Term). one_term at (record { kind = f.kind; terms = ts })) (one f.count f.terms e (omega (arith, long)));
-    valid = λ _. record {
+    is = ap (λ (ts : List S.Term). one_term at (record { kind = f.kind; terms = ts })) (one f.count f.terms e (omega (arith, long)));
+    valid = record {
       counted = first f.count f.terms e (omega (arith, long)) v.counted;
       in_shape = (and_split (term_in_shape (term_of (get_or f.terms 0 d))) true
           (subst (λ (ts : List S.Term). T (all term_in_shape ts)) (one f.count f.terms e (omega (arith, long))) v.in_shape.terms)).0;
@@ -192,16 +189,16 @@ module _ (names table line : List ℕ) (at : ℕ) (ha : at ≡ skip line 0) (w :
   here = ap by-words (sym ha)
 
   -- `vector`
-  pub line-vector : (after : ℕ) (r : TextForm) → w ≡ true → after ≡ skip line (at + 6) → TextGives (kind_at names table line 1 after) r
+  pub line-vector : (after : ℕ) (r : Std.Result Form Unread) → w ≡ true → after ≡ skip line (at + 6) → TextGives (kind_at names table line 1 after) r
       → TextGives (read_form_line names table line) r
   line-vector after r e q g = gives_as _ _ r (sym (here ∙ rw (sym hw ∙ e, q))) g
 
   module _ (ow : w ≡ false) (v : Bool) (hv : v ≡ is_word_at (bytes "scalar") line at) where
     -- `scalar`
-    pub line-scalar : (after : ℕ) (r : TextForm) → v ≡ true → after ≡ skip line (at + 6) → TextGives (kind_at names table line 0 after) r
+    pub line-scalar : (after : ℕ) (r : Std.Result Form Unread) → v ≡ true → after ≡ skip line (at + 6) → TextGives (kind_at names table line 0 after) r
         → TextGives (read_form_line names table line) r
     line-scalar after r e q g = gives_as _ _ r (sym (here ∙ rw (sym hw ∙ ow, sym hv ∙ e, q))) g
 
     -- neither
-    pub line-torn : (r : TextForm) → v ≡ false → (r.refusal ≡ 4) × (r.column ≡ at) → TextGives (read_form_line names table line) r
-    line-torn r e q = gives_refused _ r 4 at (λ z. omega (arith, z)) q.0 q.1 (here ∙ rw (sym hw ∙ ow, sym hv ∙ e))
+    pub line-torn : v ≡ false → TextGives (read_form_line names table line) (Err (record { why = Torn; column = at }))
+    line-torn e = gives_refused _ (record { why = Torn; column = at }) (here ∙ rw (sym hw ∙ ow, sym hv ∙ e))

@@ -1,7 +1,7 @@
 -- The line of a step. Assumes nothing.
 use Rattle.std.specs.Prelude.{◌≡◌, IfOk, List, ℕ, T, length}
 use Rattle.std.specs.Prelude as Std
-use Rattle.specification.specs.Text.{Placed, refused_at, placed, ◌>>=◌}
+use Rattle.specification.specs.Text.{Placed, placed, ◌>>=◌}
 use Rattle.specification.specs.Rules.{is_rule, rule_letters}
 use Rattle.specification.specs.Rules as R
 use Rattle.specification.specs.LogTexts.{read_letters_at, read_step_line}
@@ -9,7 +9,7 @@ use Rattle.rules.specs.Steps.{step_of, StepValid}
 use Rattle.texts.specs.declared.Unread.{Unread}
 use Rattle.texts.specs.Readings.{placed_of}
 use Rattle.log_texts.specs.declared.steps.Rule.{Rule}
-use Rattle.log_texts.specs.declared.steps.StepLine.{StepLine}
+use Rattle.rules.specs.declared.steps.Step.{Step}
 use Rattle.log_texts.specs.Letters.{behind_letters}
 use Rattle.log_texts.specs.Formulas.{behind_mark}
 
@@ -30,8 +30,7 @@ pub record RuleRead (line : List ℕ) (r : Std.Result Rule Unread) : Type 0 wher
   pub is_one : IfOk r (λ q. T (is_rule q.rule))
 
 -- the step of a line, or the refusal at its column
-pub record StepLineRead (names table line : List ℕ) (r : StepLine) : Type 0 where
-  pub refuses : (r.refusal ≡ 0 → ⊥) → read_step_line names table line ≡ refused_at r.refusal r.column
-  pub gives : r.refusal ≡ 0 → read_step_line names table line ≡ placed (step_of r.step)
-  pub valid : r.refusal ≡ 0 → StepValid r.step
-  pub six : r.refusal ≡ 0 → length r.step.letters ≡ 6
+pub record StepLineRead (names table line : List ℕ) (r : Std.Result Step Unread) : Type 0 where
+  pub is : read_step_line names table line ≡ placed_of step_of r
+  pub valid : IfOk r StepValid
+  pub six : IfOk r (λ t. length t.letters ≡ 6)

@@ -1,82 +1,66 @@
 // The formula of a line: a form with its kind, and the one term M of a step.
-ghost use Rattle.std.specs.Prelude.{◌≡◌, ◌≤◌, length};
-ghost use Rattle.specification.specs.LogTexts.{of_kind, kind_at, read_form_line, one_term};
+ghost use Rattle.std.specs.Prelude.{◌≡◌, ◌≤◌, length, drop};
+ghost use Rattle.specification.specs.Text.{text_form};
+ghost use Rattle.specification.specs.LogTexts.{from, of_kind, kind_at, read_form_line, one_term};
 ghost use Rattle.terms.specs.Abstraction.{form_of};
 ghost use Rattle.terms.specs.Valid.{FormValid};
 ghost use Rattle.formulas.specs.Readings.{Named};
 ghost use Rattle.formula_call.specs.Texts.{TextGives};
 ghost use Rattle.log_texts.specs.Formulas.{OneTerm, MultiplierRead};
 
-use formula_call::{TextForm, form_of_text};
+use formula_call::form_of_text;
 use lines::words::is_word_at;
-use terms::build::{no_term, refuse};
+use refusal::Refusal;
 use terms::types::{Form, Term};
-use texts::past_blanks;
+use texts::{Unread, past_blanks};
+
+// The formula of a line from a position on.
+fn formula_from(names: &[u8], table: &[u8], line: &[u8], at: usize) -> Result<Form, Unread>
+    requires { Named names.now table.now × (at ≤ length line.now) }
+    ensures { TextGives (from at (text_form names.now table.now (drop at line.now))) result }
+{
+    match form_of_text(names, table, &line[at..]) {
+        Ok(f) => Ok(f),
+        Err(e) => Err(Unread {
+            why: e.why,
+            column: at + e.column,
+        }),
+    }
+}
 
 // A form with the kind that is told: an empty form has this kind, another has to have it.
-fn of_kind(kind: u8, at: usize, f: Form) -> TextForm
+fn of_kind(kind: u8, at: usize, f: Form) -> Result<Form, Unread>
     requires { FormValid f × (kind ≤ 1) }
     ensures { TextGives (of_kind kind at (form_of f)) result }
 {
     if f.count == 0 {
-        let ts = f.terms;
-        let g = Form {
+        let terms = f.terms;
+        return Ok(Form {
             kind,
             count: 0,
-            terms: ts,
-        };
-        return TextForm {
-            refusal: 0,
-            column: 0,
-            form: g,
-        };
+            terms,
+        });
     }
     if f.kind != kind {
-        return TextForm {
-            refusal: 6,
+        return Err(Unread {
+            why: Refusal::WrongKind,
             column: at,
-            form: f,
-        };
+        });
     }
-    TextForm {
-        refusal: 0,
-        column: 0,
-        form: f,
-    }
+    Ok(f)
 }
 
 // The formula behind a word of a line.
-fn kind_at(names: &[u8], table: &[u8], line: &[u8], kind: u8, at: usize) -> TextForm
+fn kind_at(names: &[u8], table: &[u8], line: &[u8], kind: u8, at: usize) -> Result<Form, Unread>
     requires { Named names.now table.now × (at ≤ length line.now) × (kind ≤ 1) }
     ensures { TextGives (kind_at names.now table.now line.now kind at) result }
 {
-    let t = form_of_text(names, table, &line[at..]);
-    let f = t.form;
-    if t.refusal != 0 {
-        return TextForm {
-            refusal: t.refusal,
-            column: at + t.column,
-            form: f,
-        };
-    }
+    let f = formula_from(names, table, line, at)?;
     of_kind(kind, at, f)
 }
 
-// A line that is refused at a column.
-pub fn unread(n: u8, column: usize) -> TextForm
-    ensures { (result.refusal ≡ n) × (result.column ≡ column) }
-{
-    let o = refuse(n);
-    let f = o.form;
-    TextForm {
-        refusal: n,
-        column,
-        form: f,
-    }
-}
-
 // `vector` or `scalar`, then a formula.
-pub fn read_form_line(names: &[u8], table: &[u8], line: &[u8]) -> TextForm
+pub fn read_form_line(names: &[u8], table: &[u8], line: &[u8]) -> Result<Form, Unread>
     requires { Named names.now table.now }
     ensures { TextGives (read_form_line names.now table.now line.now) result }
 {
@@ -89,54 +73,31 @@ pub fn read_form_line(names: &[u8], table: &[u8], line: &[u8]) -> TextForm
         let scalars = past_blanks(line, at + 6);
         return kind_at(names, table, line, 0, scalars);
     }
-    unread(4, at)
+    Err(Unread {
+        why: Refusal::Torn,
+        column: at,
+    })
 }
 
-// The term M of a step, or a refusal with its column: the term beside it means nothing.
-#[derive(Clone, Copy)]
-pub struct Multiplier {
-    pub refusal: u8,
-    pub column: usize,
-    pub m: Term,
-}
-
-// No term.
-fn no_multiplier(n: u8, column: usize) -> Multiplier
-    ensures { (result.refusal ≡ n) × (result.column ≡ column) }
-{
-    let m = no_term();
-    Multiplier {
-        refusal: n,
-        column,
-        m,
-    }
-}
-
-// The one term of a form: 11 where there are none or more.
-fn one_term(at: usize, f: Form) -> Multiplier
+// The one term of a form: refused where there are none or more.
+fn one_term(at: usize, f: Form) -> Result<Term, Unread>
     requires { FormValid f }
     ensures { OneTerm (one_term at (form_of f)) result }
 {
     if f.count != 1 {
-        return no_multiplier(11, at);
+        return Err(Unread {
+            why: Refusal::WrongShape,
+            column: at,
+        });
     }
-    let m = f.terms[0];
-    Multiplier {
-        refusal: 0,
-        column: 0,
-        m,
-    }
+    Ok(f.terms[0])
 }
 
 // M from a position on.
-pub fn read_multiplier(names: &[u8], table: &[u8], line: &[u8], at: usize) -> Multiplier
+pub fn read_multiplier(names: &[u8], table: &[u8], line: &[u8], at: usize) -> Result<Term, Unread>
     requires { Named names.now table.now × (at ≤ length line.now) }
     ensures { MultiplierRead names.now table.now line.now at result }
 {
-    let t = form_of_text(names, table, &line[at..]);
-    if t.refusal != 0 {
-        return no_multiplier(t.refusal, at + t.column);
-    }
-    let f = t.form;
+    let f = formula_from(names, table, line, at)?;
     one_term(at, f)
 }

@@ -5,7 +5,6 @@ ghost use Rattle.log_texts.specs.Steps.{RuleRead, StepLineRead};
 
 use crate::kinds::read_multiplier;
 use crate::naming::{read_letters, read_mark, to_formula};
-use logs::steps::no_step;
 use refusal::Refusal;
 use rules::steps::{Step, rule_letters};
 use texts::{Unread, behind, byte_at, past_blanks};
@@ -38,58 +37,20 @@ fn read_rule(line: &[u8]) -> Result<Rule, Unread>
     })
 }
 
-// A step, or a refusal with its column: the step beside it means nothing.
-#[derive(Clone, Copy)]
-pub struct StepLine {
-    pub refusal: u8,
-    pub column: usize,
-    pub step: Step,
-}
-
-// A refusal at a column.
-pub fn no_step_line(n: u8, column: usize) -> StepLine
-    ensures { (result.refusal ≡ n) × (result.column ≡ column) }
-{
-    let s = no_step();
-    StepLine {
-        refusal: n,
-        column,
-        step: s,
-    }
-}
-
 // `rule 2: a b c d, M = 1`.
-pub fn read_step_line(names: &[u8], table: &[u8], line: &[u8]) -> StepLine
+pub fn read_step_line(names: &[u8], table: &[u8], line: &[u8]) -> Result<Step, Unread>
     requires { Named names.now table.now }
     ensures { StepLineRead names.now table.now line.now result }
 {
-    let a = match read_rule(line) {
-        Ok(a) => a,
-        Err(e) => return no_step_line(e.why.number(), e.column),
-    };
+    let a = read_rule(line)?;
     let n = rule_letters(a.rule);
-    let l = match read_letters(names, line, a.at, n) {
-        Ok(l) => l,
-        Err(e) => return no_step_line(e.why.number(), e.column),
-    };
-    let at = match to_formula(line, l.at) {
-        Ok(at) => at,
-        Err(e) => return no_step_line(e.why.number(), e.column),
-    };
-    let t = read_multiplier(names, table, line, at);
-    if t.refusal != 0 {
-        return no_step_line(t.refusal, t.column);
-    }
+    let l = read_letters(names, line, a.at, n)?;
+    let at = to_formula(line, l.at)?;
+    let m = read_multiplier(names, table, line, at)?;
     let letters = l.letters;
-    let m = t.m;
-    let step = Step {
+    Ok(Step {
         rule: a.rule,
         letters,
         m,
-    };
-    StepLine {
-        refusal: 0,
-        column: 0,
-        step,
-    }
+    })
 }

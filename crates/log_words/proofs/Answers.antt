@@ -20,6 +20,9 @@ use Rattle.logs.specs.Writing.{LogWritten}
 use Rattle.lines.specs.Places.{place_of}
 use Rattle.log_texts.specs.Logs.{log_of, LogTextRead}
 use Rattle.log_texts.specs.declared.reading.LogText.{LogText}
+use Rattle.std.specs.Prelude.{Ok, Err}
+use Rattle.refusal.specs.Numbers.{number_of}
+use Rattle.lines.specs.declared.places.UnreadLine.{UnreadLine}
 use Rattle.theory.specs.Text.LogColumns.{log_within}
 
 -- a log written in front of lent bytes
@@ -34,35 +37,35 @@ module _ (before after : List ℕ) (n : ℕ) (f : S.Form) (q : List Step) (g : S
 
 -- ════ a text that was read
 
-module _ (s : List ℕ) (l : LogText) (names table : List ℕ) (r : LogTextRead s l names table) where
+module _ (s names table : List ℕ) where
   -- it is refused
-  module _ (n : l.refusal ≡ 0 → ⊥) where
-    pub log-column : l.column ≤ length (line_of (place_of s l.place))
-    log-column = told-within (read_log_text s) l.refusal l.place.number l.column (line_of (place_of s l.place)) (log_within s) (r.refuses n)
+  module _ (e : UnreadLine) (r : LogTextRead s (Err e) names table) where
+    pub log-column : e.column ≤ length (line_of (place_of s e.place))
+    log-column = told-within (read_log_text s) (number_of e.why) e.place.number e.column (line_of (place_of s e.place)) (log_within s) r.is
 
-    refused_answer : (f : LogRead → Lined (List ℕ)) (out : List ℕ) (end : ℕ)
-        → Told out end (refusal_text l.refusal l.place.number l.column (line_of (place_of s l.place))) → Told out end (answer_text (read_log_text s >>> f))
-    unfolding answer_text
-    refused_answer f out end t = subst (λ (x : Lined LogRead). Told out end (answer_text (x >>> f))) (sym (r.refuses n)) t
+    module _ (n : ℕ) (q : n ≡ number_of e.why) (out : List ℕ) (end : ℕ) (t : Told out end (refusal_text n e.place.number e.column (line_of (place_of s e.place)))) where
+      refused_answer : (f : LogRead → Lined (List ℕ)) → Told out end (answer_text (read_log_text s >>> f))
+      unfolding answer_text
+      refused_answer f =
+          subst (λ (x : Lined LogRead). Told out end (answer_text (x >>> f))) (sym r.is)
+          (subst (λ (m : ℕ). Told out end (refusal_text m e.place.number e.column (line_of (place_of s e.place)))) q t)
 
-    pub check_refused : (out : List ℕ) (end : ℕ) → Told out end (refusal_text l.refusal l.place.number l.column (line_of (place_of s l.place)))
-        → Told out end (answer_text (check_input s))
-    unfolding check_input
-    check_refused out end t = refused_answer _ out end t
+      pub check_refused : Told out end (answer_text (check_input s))
+      unfolding check_input
+      check_refused = refused_answer _
 
-    pub pack_refused : (out : List ℕ) (end : ℕ) → Told out end (refusal_text l.refusal l.place.number l.column (line_of (place_of s l.place)))
-        → Told out end (answer_text (pack_input s))
-    unfolding pack_input
-    pack_refused out end t = refused_answer _ out end t
+      pub pack_refused : Told out end (answer_text (pack_input s))
+      unfolding pack_input
+      pack_refused = refused_answer _
 
   -- it is a log
-  module _ (e : l.refusal ≡ 0) (log : List ℕ) (m : ℕ) (before : List ℕ) (w : LogWritten before log m (form_of l.first) (steps_of l.steps) (form_of l.last))
+  module _ (l : LogText) (r : LogTextRead s (Ok l) names table) (log : List ℕ) (m : ℕ) (before : List ℕ) (w : LogWritten before log m (form_of l.first) (steps_of l.steps) (form_of l.last))
       (out : List ℕ) (end : ℕ) where
     given_answer : (f : LogRead → Lined (List ℕ)) (text : List ℕ) → f (log_of (take l.count names) (take l.count table) l) ≡ lined text → Told out end text
         → Told out end (answer_text (read_log_text s >>> f))
     unfolding answer_text
     given_answer f text z t =
-        subst (λ (x : Lined LogRead). Told out end (answer_text (x >>> f))) (sym (r.gives e)) (subst (λ (y : Lined (List ℕ)). Told out end (answer_text y)) (sym z) t)
+        subst (λ (x : Lined LogRead). Told out end (answer_text (x >>> f))) (sym r.is) (subst (λ (y : Lined (List ℕ)). Told out end (answer_text y)) (sym z) t)
 
     pub pack_given : l.count ≤ length table → Told out end ((l.count ∷ []) ++ take l.count table ++ take m log) → Told out end (answer_text (pack_input s))
     unfolding pack_input log_bytes_of

@@ -32,11 +32,10 @@ pub fn check_text(s: &[u8], out: &mut [u8]) -> usize
 {
     let mut names = [0u8; 24];
     let mut table = [0u8; 24];
-    let l = read_log_text(s, &mut names, &mut table);
-    if l.refusal != 0 {
-        let p = l.place;
-        return tell_line(s, l.refusal, p, l.column, out);
-    }
+    let l = match read_log_text(s, &mut names, &mut table) {
+        Ok(l) => l,
+        Err(e) => return tell_line(s, e.why.number(), e.place, e.column, out),
+    };
     let n = l.count;
     let f = l.first;
     let steps = l.steps;
@@ -55,11 +54,10 @@ pub fn pack_text(s: &[u8], out: &mut [u8]) -> usize
 {
     let mut names = [0u8; 24];
     let mut table = [0u8; 24];
-    let l = read_log_text(s, &mut names, &mut table);
-    if l.refusal != 0 {
-        let p = l.place;
-        return tell_line(s, l.refusal, p, l.column, out);
-    }
+    let l = match read_log_text(s, &mut names, &mut table) {
+        Ok(l) => l,
+        Err(e) => return tell_line(s, e.why.number(), e.place, e.column, out),
+    };
     let n = l.count;
     let f = l.first;
     let steps = l.steps;

@@ -3,3 +3,4 @@ pub mod StepRecords
 pub mod StepLetters
 pub mod LogShape
 pub mod WrittenLogs
+pub mod AtSteps

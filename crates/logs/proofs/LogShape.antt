@@ -5,7 +5,7 @@ use mathlib.Core.List.{List, []}
 use Prim.Native.Nat.{ℕ, ◌+◌, ◌<◌, ◌≤◌}
 use borrow.Author.Tests.{lt-ltb, le-ltb, le-leb, lt-leb, eq-eqb, ne_eqb}
 use lib.ListN.{length, get_or}
-use Rattle.specification.specs.Results.{Result, refused, given, when◌then◌else◌}
+use Rattle.specification.specs.Results.{Result, refused, given}
 use Rattle.specification.specs.Terms as S
 use Rattle.specification.specs.Records.{read_form_at}
 use Rattle.specification.specs.Rules as R
@@ -14,117 +14,80 @@ use Rattle.theory.specs.Records.Positions.{Bytes}
 use Rattle.theory.specs.Records.Forms.{form_written}
 use Rattle.terms.specs.Abstraction.{form_of}
 use Rattle.terms.specs.Valid.{FormValid}
-use Rattle.forms.specs.declared.FormReading.{FormReading}
+use Rattle.std.specs.Prelude.{Ok, Err}
+use Rattle.refusal.specs.declared.Refusal.{Refusal}
+use Rattle.refusal.specs.declared.Refusal.TheVariants.{WrongShape}
+use Rattle.refusal.specs.Numbers.{number_of}
+use Rattle.terms.specs.declared.types.Form.{Form}
+use Rattle.logs.specs.declared.steps.Steps.{Steps}
 use Rattle.forms.specs.Reading.{form_read_of, FormRead}
-use Rattle.logs.specs.declared.reading.StepsReading.{StepsReading}
 use Rattle.logs.specs.declared.reading.LogReading.{LogReading}
 use Rattle.logs.specs.Steps.{steps_of}
 use Rattle.logs.specs.Reading.{steps_read_of, StepsRead, parts_of, log_read_of, LogRead}
 
 -- ════ readings
 
--- a form that was read
-pub form_given : (x : Result (S.Form × ℕ)) (q : FormReading) → FormRead x q → q.ok ≡ true → x ≡ given (form_of q.form, q.next)
+-- a form that was read is in shape
+pub form-valid : (s : List ℕ) (at : ℕ) (f : Form) (next : ℕ) → Bytes s → FormRead (read_form_at s at) (Ok (f, next)) → FormValid f
 unfolding form_read_of
-form_given x q w z = sym w.is ∙ ap (λ (b : Bool). when b then given (form_of q.form, q.next) else refused 11) z
+form-valid s at f next bs w =
+    record { few = w.readable.few; counted = w.readable.counted; in_shape = (form_written s at next (form_of f) bs (sym w.is)).in_shape }
 
--- or refused
-form_refused : (x : Result (S.Form × ℕ)) (q : FormReading) → FormRead x q → q.ok ≡ false → x ≡ refused 11
-unfolding form_read_of
-form_refused x q w z = sym w.is ∙ ap (λ (b : Bool). when b then given (form_of q.form, q.next) else refused 11) z
-
--- it is in shape
-pub form-valid : (s : List ℕ) (at : ℕ) (q : FormReading) → Bytes s → FormRead (read_form_at s at) q → q.ok ≡ true → FormValid q.form
-form-valid s at q bs w z =
-    record { few = w.readable.few; counted = w.readable.counted; in_shape = (form_written s at q.next (form_of q.form) bs (form_given (read_form_at s at) q w z)).in_shape }
-
--- steps that were read
-steps_given : (x : Result (List R.Step × ℕ)) (n : ℕ) (q : StepsReading) → StepsRead x n q → q.ok ≡ true → x ≡ given (steps_of q.steps, q.next)
-unfolding steps_read_of
-steps_given x n q w z = sym w.is ∙ ap (λ (b : Bool). when b then given (steps_of q.steps, q.next) else refused 11) z
-
-steps_refused : (x : Result (List R.Step × ℕ)) (n : ℕ) (q : StepsReading) → StepsRead x n q → q.ok ≡ false → x ≡ refused 11
-unfolding steps_read_of
-steps_refused x n q w z = sym w.is ∙ ap (λ (b : Bool). when b then given (steps_of q.steps, q.next) else refused 11) z
+-- a log refused
+log-not : (x : Result Log) (e : Refusal) → x ≡ refused (number_of e) → LogRead x (Err e)
+unfolding log_read_of
+log-not x e h = record { is = sym h; first = tt; steps = tt; last = tt }
 
 -- ════ the shape
 
-module _ (s : List ℕ) (first : FormReading) (wf : FormRead (read_form_at s 0) first) where
-  pub first_refused : first.ok ≡ false → read_log s ≡ refused 11
-  unfolding read_log
-  first_refused z = rw (form_refused (read_form_at s 0) first wf z)
+module _ (s : List ℕ) where
+  pub first_refused : (e : Refusal) → FormRead (read_form_at s 0) (Err e) → LogRead (read_log s) (Err e)
+  unfolding read_log form_read_of
+  first_refused e w = log-not (read_log s) e (rw (← w.is))
 
-  module _ (zf : first.ok ≡ true) where
-    pub count_absent : length s ≤ first.next → read_log s ≡ refused 11
-    unfolding read_log
-    count_absent h = rw (form_given (read_form_at s 0) first wf zf, le-ltb first.next (length s) h)
+  module _ (f : Form) (a : ℕ) (wf : FormRead (read_form_at s 0) (Ok (f, a))) where
+    pub count_absent : length s ≤ a → LogRead (read_log s) (Err WrongShape)
+    unfolding read_log form_read_of
+    count_absent h = log-not (read_log s) WrongShape (rw (← wf.is, le-ltb a (length s) h))
 
-    module _ (h : first.next < length s) where
-      pub count_large : 64 < get_or s first.next 0 → read_log s ≡ refused 11
-      unfolding read_log
-      count_large g = rw (form_given (read_form_at s 0) first wf zf, lt-ltb first.next (length s) h, lt-leb (get_or s first.next 0) 64 g)
+    module _ (h : a < length s) where
+      pub count_large : 64 < get_or s a 0 → LogRead (read_log s) (Err WrongShape)
+      unfolding read_log form_read_of
+      count_large g = log-not (read_log s) WrongShape (rw (← wf.is, lt-ltb a (length s) h, lt-leb (get_or s a 0) 64 g))
 
-      module _ (g : get_or s first.next 0 ≤ 64) (q : StepsReading) (wq : StepsRead (read_steps (get_or s first.next 0) [] s (first.next + 1)) (get_or s first.next 0) q) where
-        pub step_refused_lem : q.ok ≡ false → read_log s ≡ refused 11
-        unfolding read_log
-        step_refused_lem z =
-            rw (
-              form_given (read_form_at s 0) first wf zf,
-              lt-ltb first.next (length s) h,
-              le-leb (get_or s first.next 0) 64 g,
-              steps_refused (read_steps (get_or s first.next 0) [] s (first.next + 1)) (get_or s first.next 0) q wq z,
-            )
+      module _ (g : get_or s a 0 ≤ 64) where
+        pub step_refused_lem : (e : Refusal) → StepsRead (read_steps (get_or s a 0) [] s (a + 1)) (get_or s a 0) (Err e) → LogRead (read_log s) (Err e)
+        unfolding read_log form_read_of steps_read_of
+        step_refused_lem e w = log-not (read_log s) e (rw (← wf.is, lt-ltb a (length s) h, le-leb (get_or s a 0) 64 g, ← w.is))
 
-        module _ (zq : q.ok ≡ true) (last : FormReading) (wl : FormRead (read_form_at s q.next) last) where
-          pub last_refused : last.ok ≡ false → read_log s ≡ refused 11
-          unfolding read_log
-          last_refused z =
-              rw (
-                form_given (read_form_at s 0) first wf zf,
-                lt-ltb first.next (length s) h,
-                le-leb (get_or s first.next 0) 64 g,
-                steps_given (read_steps (get_or s first.next 0) [] s (first.next + 1)) (get_or s first.next 0) q wq zq,
-                form_refused (read_form_at s q.next) last wl z,
-              )
+        module _ (q : Steps) (b : ℕ) (wq : StepsRead (read_steps (get_or s a 0) [] s (a + 1)) (get_or s a 0) (Ok (q, b))) where
+          pub last_refused : (e : Refusal) → FormRead (read_form_at s b) (Err e) → LogRead (read_log s) (Err e)
+          unfolding read_log form_read_of steps_read_of
+          last_refused e w = log-not (read_log s) e (rw (← wf.is, lt-ltb a (length s) h, le-leb (get_or s a 0) 64 g, ← wq.is, ← w.is))
 
-          pub bytes_left : last.ok ≡ true → (last.next ≡ length s → ⊥) → read_log s ≡ refused 11
-          unfolding read_log
-          bytes_left z e =
-              rw (
-                form_given (read_form_at s 0) first wf zf,
-                lt-ltb first.next (length s) h,
-                le-leb (get_or s first.next 0) 64 g,
-                steps_given (read_steps (get_or s first.next 0) [] s (first.next + 1)) (get_or s first.next 0) q wq zq,
-                form_given (read_form_at s q.next) last wl z,
-                ne_eqb last.next (length s) e,
-              )
+          module _ (l : Form) (end : ℕ) (wl : FormRead (read_form_at s b) (Ok (l, end))) where
+            pub bytes_left : (end ≡ length s → ⊥) → LogRead (read_log s) (Err WrongShape)
+            unfolding read_log form_read_of steps_read_of
+            bytes_left e = log-not (read_log s) WrongShape (rw (← wf.is, lt-ltb a (length s) h, le-leb (get_or s a 0) 64 g, ← wq.is, ← wl.is, ne_eqb end (length s) e))
 
-          -- the whole log
-          pub log_given : last.ok ≡ true → last.next ≡ length s
-              → read_log s ≡ given (record { first = form_of first.form; first_end = first.next; steps = steps_of q.steps; last_start = q.next; last = form_of last.form })
-          unfolding read_log
-          log_given z e =
-              rw (
-                form_given (read_form_at s 0) first wf zf,
-                lt-ltb first.next (length s) h,
-                le-leb (get_or s first.next 0) 64 g,
-                steps_given (read_steps (get_or s first.next 0) [] s (first.next + 1)) (get_or s first.next 0) q wq zq,
-                form_given (read_form_at s q.next) last wl z,
-                eq-eqb last.next (length s) e,
-              )
+            -- the whole log
+            pub log_given : Bytes s → end ≡ length s → LogRead (read_log s) (Ok (record { first_end = a; last_start = b; first = f; steps = q; last = l }))
+            unfolding read_log form_read_of steps_read_of log_read_of parts_of
+            log_given bs e = record {
+              is = sym (rw (← wf.is, lt-ltb a (length s) h, le-leb (get_or s a 0) 64 g, ← wq.is, ← wl.is, eq-eqb end (length s) e));
+              first = form-valid s 0 f a bs wf;
+              steps = wq.valid;
+              last = form-valid s b l end bs wl;
+            }
 
 -- ════ the answer
 
--- a refusal in other words
-pub refused_as_lem : (x : Result Log) (q : LogReading) → LogRead (refused 11) q → x ≡ refused 11 → LogRead x q
-refused_as_lem x q w e = record { is = w.is ∙ sym e; first = w.first; steps = w.steps; last = w.last }
-
 -- a log that was read
-pub log-parts : (x : Result Log) (q : LogReading) → LogRead x q → q.ok ≡ true → x ≡ given (parts_of q)
+pub log-parts : (x : Result Log) (q : LogReading) → LogRead x (Ok q) → x ≡ given (parts_of q)
 unfolding log_read_of
-log-parts x q w z = sym w.is ∙ ap (λ (b : Bool). when b then given (parts_of q) else refused 11) z
+log-parts x q w = sym w.is
 
 -- or refused
-pub log_refused : (x : Result Log) (q : LogReading) → LogRead x q → q.ok ≡ false → x ≡ refused 11
+pub log_refused : (x : Result Log) (e : Refusal) → LogRead x (Err e) → x ≡ refused (number_of e)
 unfolding log_read_of
-log_refused x q w z = sym w.is ∙ ap (λ (b : Bool). when b then given (parts_of q) else refused 11) z
+log_refused x e w = sym w.is

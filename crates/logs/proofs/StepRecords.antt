@@ -8,7 +8,7 @@ use borrow.Author.Tests.{lt-ltb, le-ltb}
 use lib.Dec.{T, leb}
 use lib.ListN.{length, get_or, take, drop, set, length-drop, length-map}
 use lib.Seq.{get_or-drop, length-take-le}
-use Rattle.specification.specs.Results.{Result, refused, given, ◌>>=◌, ◌>>◌, when◌then◌else◌}
+use Rattle.specification.specs.Results.{Result, refused, given, ◌>>=◌, ◌>>◌}
 use Rattle.specification.specs.Terms as S
 use Rattle.specification.specs.Records.{read_letters, read_term_at}
 use Rattle.specification.specs.Rules.{is_rule, rule_letters}
@@ -19,13 +19,14 @@ use Rattle.theory.specs.Records.Positions.{Bytes}
 use Rattle.theory.specs.Records.Terms.{term_written}
 use Rattle.terms.specs.Abstraction.{term_of}
 use Rattle.terms.proofs.Arrays.{no_term, stored-behind, mapped-behind, copied_more}
-use Rattle.records.specs.declared.read.TermReading.{TermReading}
+use Rattle.std.specs.Prelude.{Ok, Err}
+use Rattle.refusal.specs.declared.Refusal.{Refusal}
+use Rattle.refusal.specs.Numbers.{number_of}
 use Rattle.records.specs.Reading.{read_of, TermRead}
+use Rattle.terms.specs.declared.types.Term.{Term}
 use Rattle.rules.specs.declared.steps.Step.{Step}
 use Rattle.rules.specs.Steps.{step_of, StepValid}
-use Rattle.logs.specs.declared.reading.StepReading.{StepReading}
 use Rattle.logs.specs.declared.steps.Steps.{Steps}
-use Rattle.logs.specs.declared.reading.StepsReading.{StepsReading}
 use Rattle.logs.specs.Steps.{steps_of, StepsValid}
 use Rattle.logs.specs.Reading.{step_read_of, StepRead, steps_read_of, StepsRead}
 
@@ -42,23 +43,10 @@ letter-copied s at i ls e h g =
     ap (λ (x : ℕ). take (i + 1) (set ls i x)) (sym (get_or-drop at s i 0))
     ∙ copied_more ls (drop at s) i 0 e h (omega (arith, length-drop at s))
 
--- a refusal in other words
-pub refused_as_lem : (x : Result (R.Step × ℕ)) (q : StepReading) → StepRead (refused 11) q → x ≡ refused 11 → StepRead x q
-refused_as_lem x q w e = record { is = w.is ∙ sym e; valid = w.valid }
-
--- a term that was read
-given_read : (t : TermReading) → t.ok ≡ true → read_of t ≡ given (term_of t.term, t.next)
-unfolding read_of
-given_read t z = rw z
-
--- reading on behind it
-read_on : (o : Bool) (t : S.Term) (next : ℕ) (f : S.Term → R.Step)
-    → ◌>>=◌ {A = S.Term × ℕ} {B = R.Step × ℕ} (when o then given (t, next) else refused 11) (λ p. given (f p.0, p.1)) ≡ (when o then given (
-      f t,
-      next,
-    ) else refused 11)
-read_on true t next f = refl
-read_on false t next f = refl
+-- a step refused for its shape
+pub step_refused : (x : Result (R.Step × ℕ)) (e : Refusal) → x ≡ refused (number_of e) → StepRead x (Err e)
+unfolding step_read_of
+step_refused x e h = record { is = sym h; valid = tt }
 
 module _ (s : List ℕ) (at : ℕ) where
   -- nothing stands there
@@ -88,21 +76,24 @@ module _ (s : List ℕ) (at : ℕ) where
         unfolding read_step_at read_letters
         by-term = rw (lt-ltb at (length s) h, ← eb, hb, ← en, ← el, hl)
 
+        -- M is refused
+        pub term_refused : (e : Refusal) → TermRead (read_term_at s (at + 1 + n)) (Err e) → StepRead (read_step_at s at) (Err e)
+        unfolding read_of
+        term_refused e w = step_refused (read_step_at s at) e (by-term ∙ rw (← w.is))
+
         -- a step with M as it was read
-        pub step_of-term : Bytes s → (t : TermReading) (ls : List ℕ) → TermRead (read_term_at s (at + 1 + n)) t → take n ls ≡ take n (drop (at + 1) s)
-            → StepRead (read_step_at s at) (record { ok = t.ok; next = t.next; step = record { rule = get_or s at 0; letters = ls; m = t.term } })
+        pub step_of-term : Bytes s → (t : Term) (next : ℕ) (ls : List ℕ) → TermRead (read_term_at s (at + 1 + n)) (Ok (t, next)) → take n ls ≡ take n (drop (at + 1) s)
+            → StepRead (read_step_at s at) (Ok (record { rule = get_or s at 0; letters = ls; m = t }, next))
         unfolding read_of step_read_of step_of
-        step_of-term bs t ls w e =
+        step_of-term bs t next ls w e =
             record {
-              is = (λ i. when t.ok then given (record { rule = get_or s at 0; letters = letters i; m = term_of t.term }, t.next) else refused 11)
-                  ∙ sym (by-term ∙ ap (λ (x : Result (S.Term × ℕ)). x >>= λ p. given (whole p.0, p.1)) (sym w.is) ∙ read_on t.ok
-                  (term_of t.term) t.next whole);
-              valid = λ z. record {
+              is = (λ i. given (record { rule = get_or s at 0; letters = letters i; m = term_of t }, next))
+                  ∙ sym (by-term ∙ ap (λ (x : Result (S.Term × ℕ)). x >>= λ p. given (whole p.0, p.1)) (sym w.is));
+              valid = record {
                 rule = subst T (sym hb ∙ eb) tt;
                 m = record {
                   counted = w.counted;
-                  in_shape = (term_written s (at + 1 + n) t.next (term_of t.term) bs (sym w.is
-                      ∙ given_read t z)).in_shape;
+                  in_shape = (term_written s (at + 1 + n) next (term_of t) bs (sym w.is)).in_shape;
                 };
               };
             }
@@ -118,15 +109,15 @@ module _ (s : List ℕ) (at : ℕ) where
 
 module _ (s : List ℕ) (at : ℕ) where
   -- a step is refused
-  pub turn_refused : (c : ℕ) (before : List R.Step) → read_step_at s at ≡ refused 11 → read_steps (suc c) before s at ≡ refused 11
-  unfolding read_steps
-  turn_refused c before e = rw e
+  pub turn_refused : (c : ℕ) (before : List R.Step) (e : Refusal) → StepRead (read_step_at s at) (Err e) → read_steps (suc c) before s at ≡ refused (number_of e)
+  unfolding read_steps step_read_of
+  turn_refused c before e w = rw (← w.is)
 
   -- a step stands behind those before
-  pub turned : (c : ℕ) (before : List R.Step) (t : R.Step) (next : ℕ) → read_step_at s at ≡ given (t, next)
-      → read_steps (suc c) before s at ≡ read_steps c (before ++ t ∷ []) s next
-  unfolding read_steps
-  turned c before t next e = rw e
+  pub turned : (c : ℕ) (before : List R.Step) (t : Step) (next : ℕ) → StepRead (read_step_at s at) (Ok (t, next))
+      → read_steps (suc c) before s at ≡ read_steps c (before ++ step_of t ∷ []) s next
+  unfolding read_steps step_read_of
+  turned c before t next w = rw (← w.is)
 
 -- a step stored behind those that stand
 module _ (r r' : Steps) (t : Step) (i : ℕ) (e : r.count ≡ i) (e' : r'.count ≡ i + 1) (inside : i < length r.steps)
@@ -142,34 +133,15 @@ module _ (r r' : Steps) (t : Step) (i : ℕ) (e : r.count ≡ i) (e' : r'.count 
 pub pushed-valid : (l : List Step) (i : ℕ) (t : Step) → i < length l → All StepValid (take i l) → StepValid t → All StepValid (take (i + 1) (set l i t))
 pushed-valid l i t h a v = subst (All StepValid) (sym (stored-behind l i t h)) (all_append StepValid (take i l) (t ∷ []) a (v, tt))
 
--- a step that was read
-pub step_given : (x : Result (R.Step × ℕ)) (q : StepReading) → StepRead x q → q.ok ≡ true → x ≡ given (step_of q.step, q.next)
-unfolding step_read_of
-step_given x q w z = sym w.is ∙ rw z
-
--- or refused
-pub step_refused_lem : (x : Result (R.Step × ℕ)) (q : StepReading) → StepRead x q → q.ok ≡ false → x ≡ refused 11
-unfolding step_read_of
-step_refused_lem x q w z = sym w.is ∙ rw z
-
 -- what was read of the steps
-pub steps_refused : (x : Result (List R.Step × ℕ)) (n : ℕ) (r : StepsReading) → r.ok ≡ false → StepsValid r.steps → x ≡ refused 11 → StepsRead x n r
+pub steps_refused : (x : Result (List R.Step × ℕ)) (n : ℕ) (e : Refusal) → x ≡ refused (number_of e) → StepsRead x n (Err e)
 unfolding steps_read_of
-steps_refused x n r z v e = record {
-  is = ap (λ (b : Bool). when b then given (steps_of r.steps, r.next) else refused 11) z ∙ sym e;
-  count = λ t. absurd (true≢false (sym t ∙ z));
-  valid = v;
-}
+steps_refused x n e h = record { is = sym h; count = tt; valid = tt }
 
-pub steps_given : (x : Result (List R.Step × ℕ)) (n : ℕ) (r : StepsReading) → r.ok ≡ true → r.steps.count ≡ n → StepsValid r.steps
-    → x ≡ given (steps_of r.steps, r.next) → StepsRead x n r
+pub steps_given : (x : Result (List R.Step × ℕ)) (n : ℕ) (q : Steps) (next : ℕ) → q.count ≡ n → StepsValid q
+    → x ≡ given (steps_of q, next) → StepsRead x n (Ok (q, next))
 unfolding steps_read_of
-steps_given x n r z c v e = record {
-  is = ap (λ (b : Bool). when b then given (steps_of r.steps, r.next) else refused 11) z ∙ sym e;
-  count = λ t. c;
-  valid =
-      v;
-}
+steps_given x n q next c v e = record { is = sym e; count = c; valid = v }
 
 -- the steps that stand are in shape
 pub steps_stand_lem : (r : Steps) (i : ℕ) → r.count ≡ i → i ≤ 64 → length r.steps ≡ 64 → All StepValid (take i r.steps) → StepsValid r

@@ -1,12 +1,14 @@
 -- Steps as data, and the refusals of their letters. Assumes nothing.
-use Rattle.std.specs.Prelude.{◌≡◌, List, map, ℕ, ◌≤◌, eqb, length, take}
-use Rattle.specification.specs.Results.{when◌then◌else◌}
+use Rattle.std.specs.Prelude.{◌≡◌, List, map, ℕ, ◌≤◌, length, take, Ok, Err}
+use Rattle.std.specs.Prelude as Std
 use Rattle.specification.specs.Rules as R
 use Rattle.specification.specs.Logs.{Checked, refused_at, steps_letters}
 use Rattle.theory.specs.Elements.{All}
 use Rattle.rules.specs.Steps.{step_of, StepValid}
 use Rattle.logs.specs.declared.steps.Steps.{Steps}
-use Rattle.logs.specs.declared.steps.Refusal.{Refusal}
+use Rattle.refusal.specs.declared.Refusal.{Refusal}
+use Rattle.refusal.specs.Numbers.{number_of}
+use Rattle.logs.specs.declared.steps.RefusedAt.{RefusedAt}
 
 -- the steps
 unfoldable pub steps_of : Steps → List R.Step
@@ -18,10 +20,16 @@ pub record StepsValid (q : Steps) : Type 0 where
   pub long : length q.steps ≡ 64
   pub steps : All StepValid (take q.count q.steps)
 
--- a refusal and its step, or what follows where the number is 0
-unfoldable pub found_of : (number step : ℕ) (rest : Checked) → Checked
-found_of n k rest = when eqb n 0 then rest else refused_at n k
+-- what follows, or a refusal and its step
+unfoldable pub found_of : {A : Type 0} → Std.Result A RefusedAt → (A → Checked) → Checked
+found_of (Ok a) rest = rest a
+found_of (Err e) rest = refused_at (number_of e.why) e.step
+
+-- an answer about one step: a refusal gets the step
+abbrev pub at_step : {A : Type 0} → Std.Result A Refusal → ℕ → Std.Result A RefusedAt
+at_step (Ok a) k = Ok a
+at_step (Err e) k = Err (record { why = e; step = k })
 
 -- the first refusal among the steps' letters
-pub record StepsTested (table : List ℕ) (q : Steps) (r : Refusal) : Type 0 where
-  pub is : (rest : Checked) → steps_letters table 1 (steps_of q) rest ≡ found_of r.number r.step rest
+pub record StepsTested (table : List ℕ) (q : Steps) (r : Std.Result (Unit {0}) RefusedAt) : Type 0 where
+  pub is : (rest : Checked) → steps_letters table 1 (steps_of q) rest ≡ found_of r (λ _. rest)

@@ -1,8 +1,9 @@
 // Steps in their order with their count, and their letters in byte order.
 ghost use Rattle.std.specs.Prelude.{◌≡◌, length};
 ghost use Rattle.terms.specs.Abstraction.{Counted};
-ghost use Rattle.logs.specs.Steps.{StepsValid, StepsTested};
+ghost use Rattle.logs.specs.Steps.{at_step, StepsValid, StepsTested};
 
+use refusal::Refusal;
 use rules::admissible::test_step_letters;
 use rules::steps::Step;
 use terms::build::no_term;
@@ -14,11 +15,21 @@ pub struct Steps {
     pub steps: [Step; 64],
 }
 
-// A refusal and its step, or 0.
+// Why a log is refused, and at which step: 0 for the first form, one more than the number of steps for the last form.
 #[derive(Clone, Copy)]
-pub struct Refusal {
-    pub number: u8,
+pub struct RefusedAt {
+    pub why: Refusal,
     pub step: u8,
+}
+
+// An answer about one step of a log: a refusal gets the step.
+pub fn at_step<T>(r: Result<T, Refusal>, step: u8) -> Result<T, RefusedAt>
+    ensures { result ≡ at_step r step }
+{
+    match r {
+        Ok(x) => Ok(x),
+        Err(why) => Err(RefusedAt { why, step }),
+    }
 }
 
 // A step that counts for nothing.
@@ -29,8 +40,8 @@ pub fn no_step() -> Step
     let letters = [0u8; 6];
     Step {
         rule: 0,
-        letters: letters,
-        m: m,
+        letters,
+        m,
     }
 }
 
@@ -46,21 +57,14 @@ pub fn no_steps() -> Steps
     }
 }
 
-// The letters of all steps: the first refusal and its step.
-pub fn test_steps(table: &[u8], q: Steps) -> Refusal
+// The letters of all steps, in byte order.
+pub fn test_steps(table: &[u8], q: Steps) -> Result<(), RefusedAt>
     requires { StepsValid q }
     ensures { StepsTested table.now q result }
 {
     let n = q.count;
-    let mut i: usize = 0;
-    while i < n {
-        let t = q.steps[i];
-        let r = test_step_letters(table, t);
-        i += 1;
-        if r != 0 {
-            let k = i as u8;
-            return Refusal { number: r, step: k };
-        }
+    for i in 0..n {
+        at_step(test_step_letters(table, q.steps[i]), i as u8 + 1)?;
     }
-    Refusal { number: 0, step: 0 }
+    Ok(())
 }

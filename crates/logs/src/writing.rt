@@ -21,10 +21,8 @@ pub fn write_letters(out: &mut [u8], at: usize, letters: &[u8]) -> usize
     ensures { Written out.old out.new at result letters.now }
 {
     let n = letters.len();
-    let mut i: usize = 0;
-    while i < n {
+    for i in 0..n {
         out[at + i] = letters[i];
-        i += 1;
     }
     at + n
 }
@@ -49,11 +47,9 @@ fn write_steps(out: &mut [u8], at: usize, q: Steps) -> usize
 {
     let n = q.count;
     let mut next = at;
-    let mut i: usize = 0;
-    while i < n {
+    for i in 0..n {
         let s = q.steps[i];
         next = write_step(out, next, s);
-        i += 1;
     }
     next
 }

@@ -17,7 +17,7 @@ use marking::marking::{factors_mark, part_mark, term_mark};
 use marking::products::{letter_marks, product_mark, row_score};
 use rule_table::{rule_rows, times_row};
 use rules::steps::{Step, row_count};
-use terms::order::{compare, is_equal};
+use terms::order::compare;
 use terms::types::Term;
 
 // The marks of a step: those of M's factors and of its vector part, and those of the rule's letters at their places.
@@ -74,7 +74,7 @@ fn row_gain(t: Term, m: Term, letters: [u8; 6], k: u64) -> i64
     ensures { RowGained (term_of t) (times_term (term_of m) (row_term letters k)) result }
 {
     let u = times_row(m, letters, k);
-    if is_equal(compare(t, u)) {
+    if compare(t, u).is_eq() {
         return u.coef;
     }
     0

@@ -1,5 +1,5 @@
 -- The call that prints a form with declared names: its tests in order, and the text. Assumes nothing.
-use mathlib.Core.Path.{◌≡◌, ap, sym, ◌∙◌}
+use mathlib.Core.Path.{◌≡◌, refl, ap, sym, ◌∙◌}
 use mathlib.Core.Bool.{Bool, true, false}
 use mathlib.Core.List.{List}
 use Prim.Native.Nat.{ℕ, ◌≤◌, ◌<◌}
@@ -15,18 +15,19 @@ use Rattle.specification.specs.Text.{good_names, test_names, print_named_tested,
 use Rattle.theory.specs.Tests.{refused≢given, given_same, holds}
 use Rattle.theory.specs.Records.Taken.{taken_so}
 use Rattle.theory.specs.Text.Names.{names_count}
-use Rattle.terms.specs.declared.types.Outcome.{Outcome}
+use Rattle.std.specs.Prelude.{Ok, Err}
+use Rattle.std.specs.Prelude as Std
+use Rattle.refusal.specs.declared.Refusal.{Refusal}
+use Rattle.refusal.specs.Numbers.{number_of}
+use Rattle.refusal.specs.Tests.{test_of}
+use Rattle.terms.specs.declared.types.Form.{Form}
 use Rattle.terms.specs.Abstraction.{form_of}
 use Rattle.terms.specs.Valid.{Gives}
-use Rattle.terms.proofs.Outcomes.{worked_given, worked_refused}
-use Rattle.letters.specs.Tested.{test_of}
-use Rattle.letters.proofs.LetterTests.{test-passed, test_refused}
+use Rattle.terms.proofs.Outcomes.{worked_given}
 use Rattle.records.proofs.Inside.{written_inside}
 use Rattle.symbols.specs.Printable.{Printable}
 use Rattle.printing.proofs.Named.{printable}
-use Rattle.printer_call.specs.declared.Printing.{Printing}
-use Rattle.printer_call.specs.declared.Printing.TheVariants.{Printed}
-use Rattle.printer_call.specs.Answers.{printing_of}
+use Rattle.printer_call.specs.Answers.{length_of}
 
 module _ (table names form out : List ℕ) where
   answers : (x : Result S.Form) → print_named_tested table names form out ≡ x → print_named_answer names x out ≡ print_named_call table names form out
@@ -38,53 +39,52 @@ module _ (table names form out : List ℕ) where
   unfolding print_named_answer
   refused_so n e = answers (refused n) e
 
-  module _ (c : ℕ) (h : test_of c ≡ test_table table) where
-    -- 1 of the table
-    pub table_refused : (c ≡ 0 → ⊥) → ◌≡◌ {A = Result ℕ × List ℕ} (refused c, out) (print_named_call table names form out)
-    unfolding print_named_tested
-    table_refused n = refused_so c (rw (← h, test_refused c n))
+  -- the table is refused
+  pub table_refused : (e : Refusal) → test_of (Err e) ≡ test_table table → ◌≡◌ {A = Result ℕ × List ℕ} (refused (number_of e), out) (print_named_call table names form out)
+  unfolding print_named_tested
+  table_refused e h = refused_so (number_of e) (rw (← h) refl)
 
-    module _ (z : c ≡ 0) (g : Bool) (hg : g ≡ good_names names table) where
-      -- 1 of the names
-      pub names_refused : g ≡ false → ◌≡◌ {A = Result ℕ × List ℕ} (refused 1, out) (print_named_call table names form out)
+  module _ (u : Unit {0}) (h : test_of (Ok u) ≡ test_table table) (g : Bool) (hg : g ≡ good_names names table) where
+    -- the names are
+    pub names_refused : g ≡ false → ◌≡◌ {A = Result ℕ × List ℕ} (refused 1, out) (print_named_call table names form out)
+    unfolding print_named_tested test_names
+    names_refused e = refused_so 1 (rw (← h, sym hg ∙ e))
+
+    module _ (t : g ≡ true) where
+      -- the memory is too short
+      pub out_refused : length out < line_bytes → ◌≡◌ {A = Result ℕ × List ℕ} (refused 2, out) (print_named_call table names form out)
       unfolding print_named_tested test_names
-      names_refused e = refused_so 1 (rw (← h, test-passed c z, sym hg ∙ e))
+      out_refused l = refused_so 2 (rw (← h, sym hg ∙ t, lt-leb line_bytes (length out) l))
 
-      module _ (t : g ≡ true) where
-        -- 2
-        pub out_refused : length out < line_bytes → ◌≡◌ {A = Result ℕ × List ℕ} (refused 2, out) (print_named_call table names form out)
+      module _ (l : line_bytes ≤ length out) where
+        form-decides : print_named_tested table names form out ≡ take_form table form
         unfolding print_named_tested test_names
-        out_refused l = refused_so 2 (rw (← h, test-passed c z, sym hg ∙ t, lt-leb line_bytes (length out) l))
+        form-decides = rw (← h, sym hg ∙ t, le-leb line_bytes (length out) l)
 
-        module _ (l : line_bytes ≤ length out) (w : Outcome) (read : Gives (take_form table form) w) where
-          form-decides : print_named_tested table names form out ≡ take_form table form
-          unfolding print_named_tested test_names
-          form-decides = rw (← h, test-passed c z, sym hg ∙ t, le-leb line_bytes (length out) l)
+        -- what the form is refused with
+        pub form_refused : (e : Refusal) → Gives (take_form table form) (Err e) → ◌≡◌ {A = Result ℕ × List ℕ} (refused (number_of e), out) (print_named_call table names form out)
+        form_refused e read = refused_so (number_of e) (form-decides ∙ sym read.is)
 
-          -- what the form is refused with
-          pub form_refused : (w.refusal ≡ 0 → ⊥) → ◌≡◌ {A = Result ℕ × List ℕ} (refused w.refusal, out) (print_named_call table names form out)
-          form_refused n = refused_so w.refusal (form-decides ∙ worked_refused (take_form table form) w read n)
+        module _ (f : Form) (read : Gives (take_form table form) (Ok f)) where
+          -- a form that was taken can be printed
+          pub form-printable : Printable names f
+          form-printable =
+              let fit = names_count names table (holds (good_names names table) (sym hg ∙ t)) in
+              printable table names (omega arith) f read.valid
+              (taken_so table form (form_of f) (worked_given (take_form table form) f read)).letters_tested
 
-          module _ (e : w.refusal ≡ 0) where
-            -- a form that was taken can be printed
-            pub form-printable : Printable names w.form
-            form-printable =
-                let fit = names_count names table (holds (good_names names table) (sym hg ∙ t)) in
-                printable table names (omega arith) w.form (read.valid e)
-                (taken_so table form (form_of w.form) (worked_given (take_form table form) w read e)).letters_tested
-
-            -- and its text is written
-            pub form-printed : (n : ℕ) (after : List ℕ) → TextWritten out after n (print_form names (form_of w.form).terms)
-                → ◌≡◌ {A = Result ℕ × List ℕ} (given n, after) (print_named_call table names form out)
-            unfolding print_named_answer
-            form-printed n after v =
-                (λ i. (given (v.ends i), v.bytes i)) ∙ answers (given (form_of w.form)) (form-decides ∙ worked_given (take_form table form) w read e)
+          -- and its text is written
+          pub form-printed : (n : ℕ) (after : List ℕ) → TextWritten out after n (print_form names (form_of f).terms)
+              → ◌≡◌ {A = Result ℕ × List ℕ} (given n, after) (print_named_call table names form out)
+          unfolding print_named_answer
+          form-printed n after v =
+              (λ i. (given (v.ends i), v.bytes i)) ∙ answers (given (form_of f)) (form-decides ∙ worked_given (take_form table form) f read)
 
 -- a text that was printed lies inside the memory lent
-pub text-inside : (table names form out after : List ℕ) (a : Printing) (n : ℕ)
-    → ◌≡◌ {A = Result ℕ × List ℕ} (printing_of a, after) (print_named_call table names form out) → a ≡ Printed n → n ≤ length after
-unfolding printing_of print_named_call print_named_answer
-text-inside table names form out after a n contract g = go (print_named_tested table names form out) ((λ i. (printing_of (sym g i), after)) ∙ contract)
+pub text-inside : (table names form out after : List ℕ) (a : Std.Result ℕ Refusal) (n : ℕ)
+    → ◌≡◌ {A = Result ℕ × List ℕ} (length_of a, after) (print_named_call table names form out) → a ≡ Ok n → n ≤ length after
+unfolding print_named_call print_named_answer
+text-inside table names form out after a n contract g = go (print_named_tested table names form out) ((λ i. (length_of (sym g i), after)) ∙ contract)
   where
     go : (x : Result S.Form) → ◌≡◌ {A = Result ℕ × List ℕ} (given n, after) (print_named_answer names x out) → n ≤ length after
     go (refused m) e = absurd (refused≢given (sym (ap (λ (p : Result ℕ × List ℕ). p.0) e)))

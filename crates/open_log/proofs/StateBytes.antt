@@ -1,13 +1,13 @@
 -- The bytes of a state: the tests of reading one, in their order, and the parts written one behind the other. Assumes nothing.
 use mathlib.Core.Path.{◌≡◌, refl, ap, sym, ◌∙◌}
-use mathlib.Core.Bool.{Bool, true, false}
+use mathlib.Core.Bool.{Bool, true, false, true≢false}
 use mathlib.Core.List.{List, [], ◌∷◌, ◌++◌}
 use Prim.Native.Nat.{ℕ, ◌+◌, ◌-◌, ◌≤◌, ◌<◌}
 use native.Mathlib.Omega.{arith}
 use lib.Dec.{T}
 use lib.ListN.{length, get_or, take, drop, set, length-take, length-drop, length-set}
 use lib.Seq.{append_snoc, take_all, length-take-le}
-use borrow.Author.Tests.{eq-eqb, ne_eqb, le-leb, lt-leb}
+use borrow.Author.Tests.{le-leb, lt-leb}
 use Rattle.specification.specs.Results.{Result, Test, refused, given, require}
 use Rattle.specification.specs.Letters.{good_table, test_table}
 use Rattle.specification.specs.Records.{write_form, write_into, take_form}
@@ -16,33 +16,41 @@ use Rattle.specification.specs.OpenLogs as O
 use Rattle.theory.specs.Tests.{is_true, refused≢given}
 use Rattle.theory.specs.Shape.Letters.{good_short, table_good_lem}
 use Rattle.terms.specs.Abstraction.{form_of}
-use Rattle.terms.specs.declared.types.Outcome.{Outcome}
-use Rattle.terms.specs.Abstraction.{outcome_of}
+use Rattle.terms.specs.declared.types.Form.{Form}
 use Rattle.terms.specs.Valid.{Gives}
-use Rattle.letters.specs.Tested.{test_of}
 use Rattle.record_writing.specs.Written.{Written}
 use Rattle.forms.specs.Written.{FormWritten}
 use Rattle.record_writing.proofs.Writes.{written_store, written_then}
 use Rattle.logs.proofs.WrittenLogs.{part_written}
 use Rattle.forms.proofs.Forms.{front_is}
-use Rattle.letters.proofs.LetterTests.{test_refused, test-passed}
 use Rattle.open_log.specs.declared.state.State.{State}
-use Rattle.std.specs.Prelude.{Some, None}
+use Rattle.std.specs.Prelude.{Ok, Err, is_err}
+use Rattle.std.specs.Prelude as Std
+use Rattle.refusal.specs.declared.Refusal.{Refusal}
+use Rattle.refusal.specs.declared.Refusal.TheVariants.{WrongShape}
+use Rattle.refusal.specs.Numbers.{number_of}
+use Rattle.refusal.specs.Tests.{answer_of, test_of}
 use Rattle.open_log.specs.States.{state_of, state_read_of, StateReadAs, StateWritten}
 
 -- a refusal, whatever refused
-pub not_read : (x : Result O.State) → x ≡ refused 11 → StateReadAs x None
+pub not_read : (x : Result O.State) → x ≡ refused 11 → StateReadAs x (Err WrongShape)
 unfolding state_read_of
 not_read x e = record { is = sym e; valid = tt }
 
 -- a table that fails its test is not good
-table-bad : (table : List ℕ) (n : ℕ) → test_of n ≡ test_table table → (n ≡ 0 → ⊥) → good_table table ≡ false
+table-bad : (table : List ℕ) (r : Std.Result (Unit {0}) Refusal) → test_of r ≡ test_table table → is_err r ≡ true → good_table table ≡ false
 unfolding test_table
-table-bad table n e z = go (good_table table) (sym (test_refused n z) ∙ e)
+table-bad table (Ok u) e h = absurd (true≢false (sym h))
+table-bad table (Err w) e h = go (good_table table) e
   where
-    go : (b : Bool) → ◌≡◌ {A = Test} (refused n) (require b 1) → b ≡ false
+    go : (b : Bool) → ◌≡◌ {A = Test} (refused (number_of w)) (require b 1) → b ≡ false
     go true e = absurd (refused≢given e)
     go false e = refl
+
+-- one that passes it is
+table_good : (table : List ℕ) (r : Std.Result (Unit {0}) Refusal) → test_of r ≡ test_table table → is_err r ≡ false → T (good_table table)
+table_good table (Ok u) e h = table_good_lem table (sym e)
+table_good table (Err w) e h = absurd (true≢false h)
 
 module _ (s : List ℕ) where
   -- bytes are missing
@@ -71,15 +79,15 @@ module _ (s : List ℕ) where
     unfolding state_form
     rest-is = take_all (length s - (get_or s 0 0 + 2)) (drop (get_or s 0 0 + 2) s) (simp length-drop (omega arith))
 
-    module _ (k : ℕ) (tested : test_of k ≡ test_table part) where
+    module _ (k : Std.Result (Unit {0}) Refusal) (tested : test_of k ≡ test_table part) where
       -- the table is bad
-      pub bad-table : (k ≡ 0 → ⊥) → read_state s ≡ refused 11
+      pub bad-table : is_err k ≡ true → read_state s ≡ refused 11
       unfolding read_state
       bad-table z = simp (le-leb (get_or s 0 0 + 2) (length s) l, ap good_table (sym part_is) ∙ table-bad part k tested z)
 
-      module _ (z : k ≡ 0) where
+      module _ (z : is_err k ≡ false) where
         good : T (good_table part)
-        good = table_good_lem part (sym tested ∙ test-passed k z)
+        good = table_good part k tested z
 
         -- it is no longer than a table may be
         pub part_short : length part ≤ 24
@@ -93,28 +101,28 @@ module _ (s : List ℕ) where
         unfolding read_state state_count
         too_many_taken h = simp (le-leb (get_or s 0 0 + 2) (length s) l, good_is, lt-leb (get_or s (get_or s 0 0 + 1) 0) 64 h)
 
-        module _ (few : get_or s (get_or s 0 0 + 1) 0 ≤ 64) (w : Outcome) (taken : Gives (take_form part rest) w) where
-          form_is : outcome_of w ≡ take_form (state_table s) (state_form s)
-          form_is = taken.is ∙ λ i. take_form (part_is i) (rest-is i)
+        module _ (few : get_or s (get_or s 0 0 + 1) 0 ≤ 64) where
+          form_is : (w : Std.Result Form Refusal) → Gives (take_form part rest) w → answer_of form_of w ≡ take_form (state_table s) (state_form s)
+          form_is w taken = taken.is ∙ λ i. take_form (part_is i) (rest-is i)
 
           -- the form is not taken
-          pub bad-form : (w.refusal ≡ 0 → ⊥) → read_state s ≡ refused 11
-          unfolding read_state state_count else_shape outcome_of
-          bad-form h =
-              let e : take_form (state_table s) (state_form s) ≡ refused w.refusal = sym form_is ∙ rw (ne_eqb w.refusal 0 h) in
-              simp (le-leb (get_or s 0 0 + 2) (length s) l, good_is, le-leb (get_or s (get_or s 0 0 + 1) 0) 64 few, e)
+          pub bad-form : (e : Refusal) → Gives (take_form part rest) (Err e) → read_state s ≡ refused 11
+          unfolding read_state state_count else_shape
+          bad-form e taken =
+              let p : take_form (state_table s) (state_form s) ≡ refused (number_of e) = sym (form_is (Err e) taken) in
+              simp (le-leb (get_or s 0 0 + 2) (length s) l, good_is, le-leb (get_or s (get_or s 0 0 + 1) 0) 64 few, p)
 
           -- a state is read
-          pub state-is : w.refusal ≡ 0 → (letters : List ℕ) → take (length part) letters ≡ part
-              → StateReadAs (read_state s) (Some (record { letters = get_or s 0 0; table = letters; count = get_or s (get_or s 0 0 + 1) 0; form = w.form }))
-          unfolding read_state state_count else_shape outcome_of state_read_of state_of
-          state-is h letters copied =
-              let e : take_form (state_table s) (state_form s) ≡ given (form_of w.form) = sym form_is ∙ rw (eq-eqb w.refusal 0 h) in
+          pub state-is : (f : Form) → Gives (take_form part rest) (Ok f) → (letters : List ℕ) → take (length part) letters ≡ part
+              → StateReadAs (read_state s) (Ok (record { letters = get_or s 0 0; table = letters; count = get_or s (get_or s 0 0 + 1) 0; form = f }))
+          unfolding read_state state_count else_shape state_read_of state_of
+          state-is f taken letters copied =
+              let e : take_form (state_table s) (state_form s) ≡ given (form_of f) = sym (form_is (Ok f) taken) in
               let long : length part ≡ get_or s 0 0 = simp (length-take, length-drop) (omega arith) in
               let table : take (get_or s 0 0) letters ≡ state_table s = ap (λ (n : ℕ). take n letters) (sym long) ∙ copied ∙ part_is in
               record {
                 is = simp (le-leb (get_or s 0 0 + 2) (length s) l, good_is, le-leb (get_or s (get_or s 0 0 + 1) 0) 64 few, e, table);
-                valid = record { few = omega (arith, part_short, long); form = taken.valid h };
+                valid = record { few = omega (arith, part_short, long); form = taken.valid };
               }
 
 -- ════ writing

@@ -1,6 +1,9 @@
 -- The state of an open log as data, and what was read of it. Assumes nothing.
-use Rattle.std.specs.Prelude.{◌≡◌, Option, Some, None, IfSome, List, ℕ, ◌≤◌, length, take}
-use Rattle.specification.specs.Results.{Result, refused, given}
+use Rattle.std.specs.Prelude.{◌≡◌, List, ℕ, ◌≤◌, length, take, IfOk}
+use Rattle.std.specs.Prelude as Std
+use Rattle.specification.specs.Results.{Result}
+use Rattle.refusal.specs.declared.Refusal.{Refusal}
+use Rattle.refusal.specs.Tests.{answer_of}
 use Rattle.specification.specs.Records.{write_into}
 use Rattle.specification.specs.OpenLogs.{write_state}
 use Rattle.specification.specs.OpenLogs as O
@@ -17,15 +20,14 @@ pub record StateValid (s : State) : Type 0 where
   pub few : s.letters ≤ 24
   pub form : FormValid s.form
 
--- what was read of a state; the only refusal here is 11
-unfoldable pub state_read_of : Option State → Result O.State
-state_read_of (Some s) = given (state_of s)
-state_read_of None = refused 11
+-- what was read of a state
+unfoldable pub state_read_of : Std.Result State Refusal → Result O.State
+state_read_of q = answer_of state_of q
 
 -- a state read
-pub record StateReadAs (read : Result O.State) (q : Option State) : Type 0 where
+pub record StateReadAs (read : Result O.State) (q : Std.Result State Refusal) : Type 0 where
   pub is : state_read_of q ≡ read
-  pub valid : IfSome q StateValid
+  pub valid : IfOk q StateValid
 
 -- the bytes of a state in front of those lent, and how many
 pub record StateWritten (before after : List ℕ) (size : ℕ) (state : O.State) : Type 0 where

@@ -17,7 +17,5 @@ pub fn is_reached(last: Form, reached: Form) -> bool
     let mut rows = [z; 48];
     let mut coefs = [0i64; 48];
     hold(reached, &mut rows, &mut coefs);
-    let kind = reached.kind;
-    let count = reached.count;
-    same_form(last, kind, &rows, &coefs, count)
+    same_form(last, reached.kind, &rows, &coefs, reached.count)
 }

@@ -6,101 +6,67 @@ ghost use Rattle.specification.specs.OpenLogs.{open_call, add_call, look_call, D
 ghost use Rattle.decision.specs.Answers.{decision_of};
 ghost use Rattle.open_log.specs.Answers.{answered_of, closed_of};
 
-use adding::{Answer, add_step};
+use adding::add_step;
 use closing::is_reached;
 use decision::{Decision, decide};
 use forms::{FORM_BYTES, read_form, write_form};
 use letters::check_table;
+use refusal::Refusal;
 use state::{STATE_BYTES, State, read_state, table_of, write_state};
 
 pub mod adding;
 pub mod closing;
 pub mod state;
 
-// A call's answer: how many bytes were written, or the number of the refusal.
-#[derive(Clone, Copy)]
-pub enum Answered {
-    Written(usize),
-    Refused(u8),
-}
-
-// The answer to a closing: accepted, or the number of the refusal.
-#[derive(Clone, Copy)]
-pub enum Closed {
-    Accepted,
-    Refused(u8),
-}
-
-// Open a log with a table and a first form: 1, 2, then contents.
-pub fn open(table: &[u8], form: &[u8], out: &mut [u8]) -> Answered
+// Open a log with a table and a first form: 1, 2, then contents. The answer of a call that writes is how many bytes it wrote.
+pub fn open(table: &[u8], form: &[u8], out: &mut [u8]) -> Result<usize, Refusal>
     ensures { (answered_of result, out.new) ≡ open_call table.now form.now out.old }
 {
-    let c = check_table(table);
-    if c != 0 {
-        return Answered::Refused(c);
-    }
+    check_table(table)?;
     if out.len() < STATE_BYTES {
-        return Answered::Refused(2);
+        return Err(Refusal::NoRoom);
     }
-    let t = read_form(table, form);
-    let k = t.refusal;
-    if k != 0 {
-        return Answered::Refused(k);
-    }
-    let f = t.form;
-    let n = table.len();
-    let letters = table_of(table);
+    let form = read_form(table, form)?;
     let first = State {
-        letters: n,
-        table: letters,
+        letters: table.len(),
+        table: table_of(table),
         count: 0,
-        form: f,
+        form,
     };
-    Answered::Written(write_state(out, first))
+    Ok(write_state(out, first))
 }
 
 // Add a step: the state (11), 2, then the step.
-pub fn add(s: &[u8], step: &[u8], out: &mut [u8]) -> Answered
+pub fn add(s: &[u8], step: &[u8], out: &mut [u8]) -> Result<usize, Refusal>
     ensures { (answered_of result, out.new) ≡ add_call s.now step.now out.old }
 {
-    let Some(state) = read_state(s) else {
-        return Answered::Refused(11);
-    };
+    let state = read_state(s)?;
     if out.len() < STATE_BYTES {
-        return Answered::Refused(2);
+        return Err(Refusal::NoRoom);
     }
     let a = add_step(state, step);
-    let answer = a.answer;
-    match answer {
-        Answer::Refused(n) => Answered::Refused(n),
-        Answer::Taken => {
-            let next = a.state;
-            Answered::Written(write_state(out, next))
-        }
-    }
+    a.answer?;
+    Ok(write_state(out, a.state))
 }
 
 // Look at the form reached: the state (11), then 2.
-pub fn look(s: &[u8], out: &mut [u8]) -> Answered
+pub fn look(s: &[u8], out: &mut [u8]) -> Result<usize, Refusal>
     ensures { (answered_of result, out.new) ≡ look_call s.now out.old }
 {
-    let Some(state) = read_state(s) else {
-        return Answered::Refused(11);
-    };
+    let state = read_state(s)?;
     if out.len() < FORM_BYTES {
-        return Answered::Refused(2);
+        return Err(Refusal::NoRoom);
     }
-    let f = state.form;
-    Answered::Written(write_form(out, f))
+    Ok(write_form(out, state.form))
 }
 
 // Decide the form reached against another: the state (11), then as the decision of its form's record does.
 pub fn decide_open(s: &[u8], form: &[u8], buffer: &mut [u8], work: &mut [u8]) -> Decision
     ensures { DecidedOpen s.now form.now buffer.old work.old (decision_of result) buffer.new work.new }
 {
-    let Some(_) = read_state(s) else {
-        return Decision::Refused(11);
-    };
+    if let Err(e) = read_state(s) {
+        return Decision::Refused(e);
+    }
     let n = s[0] as usize;
     let end = n + 1;
     let start = n + 2;
@@ -108,23 +74,14 @@ pub fn decide_open(s: &[u8], form: &[u8], buffer: &mut [u8], work: &mut [u8]) ->
 }
 
 // Close with a last form: the state (11), the form (11, 5, 6), 13 for another form than the one reached.
-pub fn close(s: &[u8], form: &[u8]) -> Closed
+pub fn close(s: &[u8], form: &[u8]) -> Result<(), Refusal>
     ensures { closed_of result ≡ close_call s.now form.now }
 {
-    let Some(state) = read_state(s) else {
-        return Closed::Refused(11);
-    };
+    let state = read_state(s)?;
     let n = state.letters;
-    let table = state.table;
-    let t = read_form(&table[..n], form);
-    let k = t.refusal;
-    if k != 0 {
-        return Closed::Refused(k);
+    let last = read_form(&state.table[..n], form)?;
+    if !is_reached(last, state.form) {
+        return Err(Refusal::OtherForm);
     }
-    let last = t.form;
-    let reached = state.form;
-    if !is_reached(last, reached) {
-        return Closed::Refused(13);
-    }
-    Closed::Accepted
+    Ok(())
 }

@@ -6,6 +6,7 @@ ghost use Rattle.open_log.specs.States.{state_of, StateValid, StateReadAs, State
 use forms::{read_form, write_form};
 use letters::check_table;
 use logs::writing::write_letters;
+use refusal::Refusal;
 use terms::types::Form;
 
 // Bytes that the state of any open log fits into.
@@ -31,36 +32,35 @@ pub fn table_of(t: &[u8]) -> [u8; 24]
 }
 
 // The state whose bytes these are: a bad table, a count above 64, a form out of shape or with letters that the table has not, bytes missing or left over are all 11.
-pub fn read_state(s: &[u8]) -> Option<State>
+pub fn read_state(s: &[u8]) -> Result<State, Refusal>
     ensures { StateReadAs (read_state s.now) result }
 {
     let len = s.len();
     if len < 1 {
-        return None;
+        return Err(Refusal::WrongShape);
     }
     let n = s[0] as usize;
     if len < n + 2 {
-        return None;
+        return Err(Refusal::WrongShape);
     }
     let end = n + 1;
     let table = &s[1..end];
-    if check_table(table) != 0 {
-        return None;
+    if check_table(table).is_err() {
+        return Err(Refusal::WrongShape);
     }
     let count = s[end];
     if count > 64 {
-        return None;
+        return Err(Refusal::WrongShape);
     }
     let start = n + 2;
-    let t = read_form(table, &s[start..]);
-    if t.refusal != 0 {
-        return None;
-    }
-    Some(State {
+    let Ok(form) = read_form(table, &s[start..]) else {
+        return Err(Refusal::WrongShape);
+    };
+    Ok(State {
         letters: n,
         table: table_of(table),
         count,
-        form: t.form,
+        form,
     })
 }
 

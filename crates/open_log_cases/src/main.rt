@@ -13,7 +13,8 @@ use case_lines::{
     print_refusal, print_standing, two_bytes_at,
 };
 use decision::Decision;
-use open_log::{Answered, Closed, add, close, decide_open, look, open};
+use open_log::{add, close, decide_open, look, open};
+use refusal::Refusal;
 
 // Where the next call begins, and how many bytes the state at hand has.
 #[derive(Clone, Copy)]
@@ -49,21 +50,21 @@ fn print_written(out: &[u8], n: usize, whole: bool) {
 }
 
 // The line of a refused call, all of whose memory stands.
-fn print_refused(out: &[u8], n: u8) {
-    print_refusal(n);
+fn print_refused(out: &[u8], why: Refusal) {
+    print_refusal(why);
     print_standing(out);
     print_character(b'\n');
 }
 
 // The line of a call that gives a state, and the size of the state at hand: the one given, or the one before where the call is refused.
-fn take(r: Answered, out: &[u8], whole: bool, held: &mut [u8], size: usize) -> usize {
+fn take(r: Result<usize, Refusal>, out: &[u8], whole: bool, held: &mut [u8], size: usize) -> usize {
     match r {
-        Answered::Written(n) => {
+        Ok(n) => {
             print_written(out, n, whole);
             keep(held, front(out, n))
         }
-        Answered::Refused(n) => {
-            print_refused(out, n);
+        Err(why) => {
+            print_refused(out, why);
             size
         }
     }
@@ -89,10 +90,9 @@ fn run_add(step: &[u8], p: usize, whole: bool, held: &mut [u8], size: usize) -> 
 fn run_look(state: &[u8], p: usize) {
     let mut memory = [FILLING; 1024];
     let out = lend(&mut memory, p);
-    let r = look(state, out);
-    match r {
-        Answered::Written(n) => print_written(out, n, true),
-        Answered::Refused(n) => print_refused(out, n),
+    match look(state, out) {
+        Ok(n) => print_written(out, n, true),
+        Err(why) => print_refused(out, why),
     }
 }
 
@@ -107,8 +107,8 @@ fn print_decision(d: Decision, state: &[u8], buffer: &[u8], work: &[u8]) {
             io::write_all(1, b"differs");
             print_assignment(table_in(state), buffer);
         }
-        Decision::Refused(n) => {
-            print_refusal(n);
+        Decision::Refused(why) => {
+            print_refusal(why);
             print_standing(buffer);
             print_standing(work);
         }
@@ -128,12 +128,11 @@ fn run_decide(state: &[u8], form: &[u8], p: usize, q: usize) {
 
 // The call that closes a log.
 fn run_close(state: &[u8], form: &[u8]) {
-    let r = close(state, form);
-    match r {
-        Closed::Accepted => {
+    match close(state, form) {
+        Ok(()) => {
             io::write_all(1, b"accepted");
         }
-        Closed::Refused(n) => print_refusal(n),
+        Err(why) => print_refusal(why),
     }
     print_character(b'\n');
 }

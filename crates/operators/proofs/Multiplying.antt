@@ -25,8 +25,11 @@ use Rattle.theory.proofs.Reduction.Products.{product_fits}
 use Rattle.terms.specs.declared.types.Term.{Term}
 use Rattle.terms.specs.Abstraction.{term_of, Counted}
 use Rattle.terms.proofs.Arrays.{mapped-behind}
-use Rattle.letters.specs.Tested.{test_of}
-use Rattle.letters.proofs.LetterTests.{test-passed, test_refused}
+use Rattle.refusal.specs.Tests.{test_of}
+use Rattle.std.specs.Prelude.{Ok, Err}
+use Rattle.std.specs.Prelude as Std
+use Rattle.refusal.specs.declared.Refusal.{Refusal}
+use Rattle.refusal.specs.declared.Refusal.TheVariants.{WrongKind}
 use Rattle.rows.specs.declared.Worked.{Worked}
 use Rattle.rows.specs.Rows.{term_by, terms_by, run_of, Run, Light, form_by, RowsGive}
 use Rattle.rows.proofs.Runs.{run_length, run_holds}
@@ -267,23 +270,22 @@ kind-small Wedge kind a b k f g = omega (arith, k.2)
 
 -- ════ the product
 
-module _ (op : Operation) (kind n : ℕ) (rows : List (List ℕ)) (coefs : List ℤ) (m : ℕ) (right : List (List ℕ)) (rights : List ℤ) (t : ℕ)
-    (e : test_of t ≡ test_pairs op (run_of n rows coefs) (run_of m right rights)) where
+module _ (op : Operation) (kind n : ℕ) (rows : List (List ℕ)) (coefs : List ℤ) (m : ℕ) (right : List (List ℕ)) (rights : List ℤ) where
   -- a pair is refused
-  pub pairs_refused : (w : Worked) (rows' : List (List ℕ)) (coefs' : List ℤ) → (t ≡ 0 → ⊥) → w.refusal ≡ t
-      → (a b : ℕ) → RowsGive (product kind (parts_of op) (form_by a n rows coefs) (form_by b m right rights)) w rows' coefs'
-  pairs_refused w rows' coefs' h p a b =
-      rows_refused (product kind (parts_of op) (form_by a n rows coefs) (form_by b m right rights)) w t rows' coefs' p h
+  pub pairs_refused : (t : Refusal) → test_of (Err t) ≡ test_pairs op (run_of n rows coefs) (run_of m right rights) → (rows' : List (List ℕ)) (coefs' : List ℤ)
+      → (a b : ℕ) → RowsGive (product kind (parts_of op) (form_by a n rows coefs) (form_by b m right rights)) (Err t) rows' coefs'
+  pairs_refused t e rows' coefs' a b =
+      rows_refused (product kind (parts_of op) (form_by a n rows coefs) (form_by b m right rights)) t rows' coefs'
       (product_tested op kind (form_by a n rows coefs) (form_by b m right rights)
-      ∙ ap (λ (x : Test). x >> within kind (gather (product_terms (parts_of op) (run_of n rows coefs) (run_of m right rights)))) (sym e ∙ test_refused t h))
+      ∙ ap (λ (x : Test). x >> within kind (gather (product_terms (parts_of op) (run_of n rows coefs) (run_of m right rights)))) (sym e))
 
-  module _ (z : t ≡ 0) where
+  module _ (u : Unit {0}) (e : test_of (Ok u) ≡ test_pairs op (run_of n rows coefs) (run_of m right rights)) where
     -- the terms that stay
     abbrev stayed : List S.Term
     stayed = product_terms (parts_of op) (run_of n rows coefs) (run_of m right rights)
 
     all_passed : test_pairs op (run_of n rows coefs) (run_of m right rights) ≡ given tt
-    all_passed = sym e ∙ test-passed t z
+    all_passed = sym e
 
     few_pairs : T (leb (length (run_of n rows coefs) * length (run_of m right rights)) 48)
     unfolding test_pairs
@@ -336,7 +338,7 @@ module _ (op : Operation) (kind n : ℕ) (rows : List (List ℕ)) (coefs : List 
         }
 
         -- and gives the product
-        pub pairs-give : (w : Worked) (rows' : List (List ℕ)) (coefs' : List ℤ) → RowsGive (within kind (run_of r more beside)) w rows' coefs'
+        pub pairs-give : (w : Std.Result Worked Refusal) (rows' : List (List ℕ)) (coefs' : List ℤ) → RowsGive (within kind (run_of r more beside)) w rows' coefs'
             → (a b : ℕ) → RowsGive (product kind (parts_of op) (form_by a n rows coefs) (form_by b m right rights)) w rows' coefs'
         pairs-give w rows' coefs' g a d =
             rows_as (within kind (run_of r more beside)) (product kind (parts_of op) (form_by a n rows coefs) (form_by d m right rights)) w rows' coefs'
@@ -345,7 +347,7 @@ module _ (op : Operation) (kind n : ℕ) (rows : List (List ℕ)) (coefs : List 
 
 -- ════ the kinds
 
-module _ (f g : S.Form) (w : Worked) (rows : List (List ℕ)) (coefs : List ℤ) where
+module _ (f g : S.Form) (w : Std.Result Worked Refusal) (rows : List (List ℕ)) (coefs : List ℤ) where
   -- a scalar times anything
   pub times_left_lem : f.kind ≡ 0 → RowsGive (product g.kind (parts_of Times) f g) w rows coefs → RowsGive (times_forms f g) w rows coefs
   unfolding times_forms parts_of
@@ -356,11 +358,6 @@ module _ (f g : S.Form) (w : Worked) (rows : List (List ℕ)) (coefs : List ℤ)
   unfolding times_forms parts_of
   times_right_lem h e = rows_as _ _ w rows coefs (rw (ne_eqb f.kind 0 h, eq-eqb g.kind 0 e))
 
-  -- neither is a scalar
-  pub times-six : (f.kind ≡ 0 → ⊥) → (g.kind ≡ 0 → ⊥) → w.refusal ≡ 6 → RowsGive (times_forms f g) w rows coefs
-  unfolding times_forms
-  times-six h k e = rows_refused (times_forms f g) w 6 rows coefs e (λ z. omega arith) (rw (ne_eqb f.kind 0 h, ne_eqb g.kind 0 k))
-
   -- two vectors
   pub dot-vectors : f.kind ≡ 1 → g.kind ≡ 1 → RowsGive (product scalar (parts_of Dot) f g) w rows coefs → RowsGive (dot_forms f g) w rows coefs
   unfolding dot_forms parts_of
@@ -370,27 +367,34 @@ module _ (f g : S.Form) (w : Worked) (rows : List (List ℕ)) (coefs : List ℤ)
   unfolding wedge_forms parts_of
   wedge-vectors e h = rows_as _ _ w rows coefs (rw (eq-eqb f.kind 1 e, eq-eqb g.kind 1 h))
 
+-- kinds that do not fit
+module _ (f g : S.Form) (rows : List (List ℕ)) (coefs : List ℤ) where
+  -- neither is a scalar
+  pub times-six : (f.kind ≡ 0 → ⊥) → (g.kind ≡ 0 → ⊥) → RowsGive (times_forms f g) (Err WrongKind) rows coefs
+  unfolding times_forms
+  times-six h k = rows_refused (times_forms f g) WrongKind rows coefs (rw (ne_eqb f.kind 0 h, ne_eqb g.kind 0 k))
+
   -- one of them is none
   no-vectors : (f.kind ≡ 1 → ⊥) ⊎ (g.kind ≡ 1 → ⊥) → (eqb f.kind 1 && eqb g.kind 1) ≡ false
   no-vectors (inl h) = rw (ne_eqb f.kind 1 h)
   no-vectors (inr h) = rw (ne_eqb g.kind 1 h) (and-false (eqb f.kind 1))
 
-  pub dot-six : (f.kind ≡ 1 → ⊥) ⊎ (g.kind ≡ 1 → ⊥) → w.refusal ≡ 6 → RowsGive (dot_forms f g) w rows coefs
+  pub dot-six : (f.kind ≡ 1 → ⊥) ⊎ (g.kind ≡ 1 → ⊥) → RowsGive (dot_forms f g) (Err WrongKind) rows coefs
   unfolding dot_forms
-  dot-six h e = rows_refused (dot_forms f g) w 6 rows coefs e (λ z. omega arith) (rw (no-vectors h))
+  dot-six h = rows_refused (dot_forms f g) WrongKind rows coefs (rw (no-vectors h))
 
-  pub wedge-six : (f.kind ≡ 1 → ⊥) ⊎ (g.kind ≡ 1 → ⊥) → w.refusal ≡ 6 → RowsGive (wedge_forms f g) w rows coefs
+  pub wedge-six : (f.kind ≡ 1 → ⊥) ⊎ (g.kind ≡ 1 → ⊥) → RowsGive (wedge_forms f g) (Err WrongKind) rows coefs
   unfolding wedge_forms
-  wedge-six h e = rows_refused (wedge_forms f g) w 6 rows coefs e (λ z. omega arith) (rw (no-vectors h))
+  wedge-six h = rows_refused (wedge_forms f g) WrongKind rows coefs (rw (no-vectors h))
 
 -- ════ the triple
 
 module _ (f g h : S.Form) where
   -- the third is no vector
-  pub triple-six : (w : Worked) (rows : List (List ℕ)) (coefs : List ℤ) → (h.kind ≡ 1 → ⊥) → w.refusal ≡ 6 → RowsGive (triple_forms f g h) w rows coefs
+  pub triple-six : (rows : List (List ℕ)) (coefs : List ℤ) → (h.kind ≡ 1 → ⊥) → RowsGive (triple_forms f g h) (Err WrongKind) rows coefs
   unfolding triple_forms
-  triple-six w rows coefs n e =
-      rows_refused (triple_forms f g h) w 6 rows coefs e (λ z. omega arith) (rw (ne_eqb h.kind 1 n, and-false (eqb f.kind 1 && eqb g.kind 1)))
+  triple-six rows coefs n =
+      rows_refused (triple_forms f g h) WrongKind rows coefs (rw (ne_eqb h.kind 1 n, and-false (eqb f.kind 1 && eqb g.kind 1)))
 
   -- with a third vector it is a wedge and a dot
   triple_is : h.kind ≡ 1 → triple_forms f g h ≡ (wedge_forms f g >>= λ fg. dot_forms fg h)
@@ -401,16 +405,16 @@ module _ (f g h : S.Form) where
       again true x k = refl
       again false x k = refl
 
-  module _ (w : Worked) (rows : List (List ℕ)) (coefs : List ℤ) (e : h.kind ≡ 1) (x : RowsGive (wedge_forms f g) w rows coefs) where
+  module _ (rows : List (List ℕ)) (coefs : List ℤ) (e : h.kind ≡ 1) where
     -- the wedge is refused
-    pub triple_refused : (rows' : List (List ℕ)) (coefs' : List ℤ) → (w.refusal ≡ 0 → ⊥) → RowsGive (triple_forms f g h) w rows' coefs'
-    triple_refused rows' coefs' n =
-        rows_refused (triple_forms f g h) w w.refusal rows' coefs' refl n (triple_is e ∙ ap (λ (r : Result S.Form). r >>= λ fg. dot_forms fg h) (x.refuses n))
+    pub triple_refused : (w : Refusal) → RowsGive (wedge_forms f g) (Err w) rows coefs → (rows' : List (List ℕ)) (coefs' : List ℤ) → RowsGive (triple_forms f g h) (Err w) rows' coefs'
+    triple_refused w x rows' coefs' =
+        rows_refused (triple_forms f g h) w rows' coefs' (triple_is e ∙ ap (λ (r : Result S.Form). r >>= λ fg. dot_forms fg h) (sym x.is))
 
     -- the dot follows
-    pub triple-dot : (r : Worked) (rows' : List (List ℕ)) (coefs' : List ℤ) → w.refusal ≡ 0
+    pub triple-dot : (w : Worked) → RowsGive (wedge_forms f g) (Ok w) rows coefs → (r : Std.Result Worked Refusal) (rows' : List (List ℕ)) (coefs' : List ℤ)
         → RowsGive (dot_forms (form_by w.kind w.count rows coefs) h) r rows' coefs'
         → RowsGive (triple_forms f g h) r rows' coefs'
-    triple-dot r rows' coefs' z =
+    triple-dot w x r rows' coefs' =
         rows_as (dot_forms (form_by w.kind w.count rows coefs) h) (triple_forms f g h) r rows' coefs'
-        (sym (triple_is e ∙ ap (λ (r : Result S.Form). r >>= λ fg. dot_forms fg h) (x.gives z)))
+        (sym (triple_is e ∙ ap (λ (r : Result S.Form). r >>= λ fg. dot_forms fg h) (sym x.is)))

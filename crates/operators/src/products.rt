@@ -13,8 +13,9 @@ ghost use Rattle.operators.specs.Products.{Scalars, Pair, PairMade, PairFits, Pa
 use gathering::bringing::bring_term;
 use pair_limits::test_pairs;
 use pairing::parts::{Few, Operation, parts};
+use refusal::Refusal;
 use rows::{Worked, term_of};
-use sums::results::{close, refuse};
+use sums::results::close;
 use terms::types::{Part, Term};
 use tidying::join;
 
@@ -78,11 +79,9 @@ fn bring_few(rows: &mut [[u32; 8]], coefs: &mut [i64], n: usize, few: Few) -> us
 {
     let m = few.count;
     let mut count = n;
-    let mut i: usize = 0;
-    while i < m {
+    for i in 0..m {
         let t = if i == 0 { few.first } else { few.second };
         count = bring_term(rows, coefs, count, t);
-        i += 1;
     }
     count
 }
@@ -104,13 +103,11 @@ fn bring_row(
         rows.new coefs.new }
 {
     let mut count = n;
-    let mut j: usize = 0;
-    while j < m {
+    for j in 0..m {
         let r = right[j];
         let u = term_of(r, rights[j]);
         let few = pair_terms(op, t, u);
         count = bring_few(rows, coefs, count, few);
-        j += 1;
     }
     count
 }
@@ -134,17 +131,15 @@ fn bring_pairs(
         more.new beside.new }
 {
     let mut count: usize = 0;
-    let mut i: usize = 0;
-    while i < n {
+    for i in 0..n {
         let r = rows[i];
         let t = term_of(r, coefs[i]);
         count = bring_row(op, t, m, right, rights, more, beside, count);
-        i += 1;
     }
     count
 }
 
-// The product of two forms whose kinds fit: 7 of the pairs, 8 and 9 of the terms that stay, then 9 and 10 of what is gathered.
+// The product of two forms whose kinds fit: the pairs and what stays of them tested, then the limits of what is gathered.
 fn multiply(
     op: Operation,
     kind: u8,
@@ -154,15 +149,12 @@ fn multiply(
     m: usize,
     right: &[[u32; 8]],
     rights: &[i64],
-) -> Worked
+) -> Result<Worked, Refusal>
     requires { Operands op kind n rows.old coefs.old m right.now rights.now × (48 ≤ length rows.old) × (48 ≤ length coefs.old) }
     ensures { (a b : ℕ) → RowsGive (product kind (parts_of op) (form_by a n rows.old coefs.old)
         (form_by b m right.now rights.now)) result rows.new coefs.new }
 {
-    let t = test_pairs(op, n, rows, coefs, m, right, rights);
-    if t != 0 {
-        return refuse(t);
-    }
+    test_pairs(op, n, rows, coefs, m, right, rights)?;
     let z = [0u32; 8];
     let mut more = [z; 96];
     let mut beside = [0i64; 96];
@@ -180,7 +172,7 @@ pub fn times(
     m: usize,
     right: &[[u32; 8]],
     rights: &[i64],
-) -> Worked
+) -> Result<Worked, Refusal>
     requires { FormRun kind n rows.old coefs.old × FormRun other m right.now rights.now × (48 ≤ length rows.old) × (48 ≤ length coefs.old) }
     ensures { RowsGive (times_forms (form_by kind n rows.old coefs.old) (form_by other m right.now rights.now))
         result rows.new coefs.new }
@@ -191,7 +183,7 @@ pub fn times(
     if other == 0 {
         return multiply(Operation::Times, kind, n, rows, coefs, m, right, rights);
     }
-    refuse(6)
+    Err(Refusal::WrongKind)
 }
 
 // The dot of two vectors.
@@ -204,16 +196,16 @@ pub fn dot(
     m: usize,
     right: &[[u32; 8]],
     rights: &[i64],
-) -> Worked
+) -> Result<Worked, Refusal>
     requires { FormRun kind n rows.old coefs.old × FormRun other m right.now rights.now × (48 ≤ length rows.old) × (48 ≤ length coefs.old) }
     ensures { RowsGive (dot_forms (form_by kind n rows.old coefs.old) (form_by other m right.now rights.now)) result
         rows.new coefs.new }
 {
     if kind != 1 {
-        return refuse(6);
+        return Err(Refusal::WrongKind);
     }
     if other != 1 {
-        return refuse(6);
+        return Err(Refusal::WrongKind);
     }
     multiply(Operation::Dot, 0, n, rows, coefs, m, right, rights)
 }
@@ -228,16 +220,16 @@ pub fn wedge(
     m: usize,
     right: &[[u32; 8]],
     rights: &[i64],
-) -> Worked
+) -> Result<Worked, Refusal>
     requires { FormRun kind n rows.old coefs.old × FormRun other m right.now rights.now × (48 ≤ length rows.old) × (48 ≤ length coefs.old) }
     ensures { RowsGive (wedge_forms (form_by kind n rows.old coefs.old) (form_by other m right.now rights.now))
         result rows.new coefs.new }
 {
     if kind != 1 {
-        return refuse(6);
+        return Err(Refusal::WrongKind);
     }
     if other != 1 {
-        return refuse(6);
+        return Err(Refusal::WrongKind);
     }
     multiply(Operation::Wedge, 1, n, rows, coefs, m, right, rights)
 }
@@ -256,18 +248,15 @@ pub fn triple(
     k: usize,
     third: &[[u32; 8]],
     thirds: &[i64],
-) -> Worked
+) -> Result<Worked, Refusal>
     requires { FormRun kind n rows.old coefs.old × FormRun other m right.now rights.now × (48 ≤ length rows.old) × (48 ≤ length coefs.old)
         × FormRun last k third.now thirds.now }
     ensures { RowsGive (triple_forms (form_by kind n rows.old coefs.old) (form_by other m right.now rights.now)
         (form_by last k third.now thirds.now)) result rows.new coefs.new }
 {
     if last != 1 {
-        return refuse(6);
+        return Err(Refusal::WrongKind);
     }
-    let w = wedge(kind, n, rows, coefs, other, m, right, rights);
-    if w.refusal != 0 {
-        return w;
-    }
+    let w = wedge(kind, n, rows, coefs, other, m, right, rights)?;
     dot(w.kind, w.count, rows, coefs, last, k, third, thirds)
 }

@@ -31,7 +31,9 @@ use Rattle.terms.specs.declared.types.Term.{Term}
 use Rattle.terms.specs.Abstraction.{term_of, Counted}
 use Rattle.rows.specs.Rows.{term_by, run_of, Run, form_by}
 use Rattle.rows.proofs.Runs.{run_holds}
-use Rattle.letters.specs.Tested.{test_of}
+use Rattle.std.specs.Prelude.{Ok, Err}
+use Rattle.refusal.specs.declared.Refusal.TheVariants.{ManyPairs, ManyLetters, LargeCoefficient}
+use Rattle.refusal.specs.Tests.{test_of}
 use Rattle.pairing.specs.declared.parts.Operation.{Operation}
 use Rattle.pairing.specs.declared.parts.Operation.TheVariants.{Times, Dot, Wedge}
 use Rattle.pairing.specs.Parts.{parts_of, Together, is_some}
@@ -247,16 +249,16 @@ module _ (op : Operation) (us : List S.Term) where
 
 module _ (op : Operation) (ts us : List S.Term) where
   -- 7: too many pairs
-  pub seven : 48 < length ts * length us → test_of 7 ≡ test_pairs op ts us
-  unfolding test_of test_pairs
+  pub seven : 48 < length ts * length us → test_of (Err ManyPairs) ≡ test_pairs op ts us
+  unfolding test_pairs
   seven n = rw (lt-leb _ 48 n)
 
   module _ (n : length ts * length us ≤ 48) where
     -- the most letters and the largest coefficients are within: nothing is refused
     pub quickly : (h : All Limited ts) (k : All Limited us) (a b : Most) → MostOf ts a → MostOf us b → (l c : Bool)
         → l ≡ (leb (a.vectors + b.vectors) 6 && leb (a.scalars + b.scalars) 2) → c ≡ leb (a.size * b.size) 2147483647
-        → l ≡ true → c ≡ true → test_of 0 ≡ test_pairs op ts us
-    unfolding test_of test_pairs product_terms
+        → l ≡ true → c ≡ true → test_of (Ok tt) ≡ test_pairs op ts us
+    unfolding test_pairs product_terms
     quickly h k a b ma mb l c e g p q =
         rw (
           le-leb _ 48 n,
@@ -268,16 +270,16 @@ module _ (op : Operation) (ts us : List S.Term) where
 
     module _ (r : Fit) (f : FitOf (product_terms (parts_of op) ts us) r) where
       -- 8: a term that stays with too many letters
-      pub eight : r.letters ≡ false → test_of 8 ≡ test_pairs op ts us
-      unfolding test_of test_pairs
+      pub eight : r.letters ≡ false → test_of (Err ManyLetters) ≡ test_pairs op ts us
+      unfolding test_pairs
       eight p = rw (le-leb _ 48 n, sym f.letters ∙ p)
 
       -- 9: its coefficient beyond
-      pub nine : r.letters ≡ true → r.coefs ≡ false → test_of 9 ≡ test_pairs op ts us
-      unfolding test_of test_pairs
+      pub nine : r.letters ≡ true → r.coefs ≡ false → test_of (Err LargeCoefficient) ≡ test_pairs op ts us
+      unfolding test_pairs
       nine p q = rw (le-leb _ 48 n, sym f.letters ∙ p, sym f.coefs ∙ q)
 
       -- nothing is refused
-      pub all_fit : r.letters ≡ true → r.coefs ≡ true → test_of 0 ≡ test_pairs op ts us
-      unfolding test_of test_pairs
+      pub all_fit : r.letters ≡ true → r.coefs ≡ true → test_of (Ok tt) ≡ test_pairs op ts us
+      unfolding test_pairs
       all_fit p q = rw (le-leb _ 48 n, sym f.letters ∙ p, sym f.coefs ∙ q)

@@ -1,4 +1,4 @@
-// The tests of a product: 7 of all pairs, 8 and 9 of the terms that stay. Where the most letters and the largest coefficient of each side are within the
+// The tests of a product: how many pairs, then the letters and the coefficients of the terms that stay. Where the most letters and the largest coefficient of each side are within the
 // limits, no term is beyond; only elsewhere are the pairs gone through.
 #![tactic(auto)]
 
@@ -7,13 +7,14 @@ ghost use Rattle.specification.specs.Reduction.{pair_staying, product_terms};
 ghost use Rattle.theory.specs.Elements.{All};
 ghost use Rattle.terms.specs.Abstraction.{term_of, Counted};
 ghost use Rattle.rows.specs.Rows.{run_of, Run, Light};
-ghost use Rattle.letters.specs.Tested.{test_of};
+ghost use Rattle.refusal.specs.Tests.{test_of};
 ghost use Rattle.pairing.specs.Parts.{parts_of};
 ghost use Rattle.pair_limits.specs.Limits.{larger, MostWith, MostOf, MostSmall, FitOf, Paired, row_terms, SomeOperands, test_pairs};
 
 use integers::size;
 use pairing::parts::Operation;
 use pairing::staying::stays;
+use refusal::Refusal;
 use rows::term_of;
 use terms::shape::{letters_used, part_letters};
 use terms::types::Term;
@@ -66,9 +67,7 @@ fn most_of(rows: &[[u32; 8]], coefs: &[i64], n: usize) -> Most
         scalars: 0,
         size: 0,
     };
-    let mut i = n;
-    while i > 0 {
-        i -= 1;
+    for i in (0..n).rev() {
         let r = rows[i];
         let t = term_of(r, coefs[i]);
         m = with_term(m, t);
@@ -148,9 +147,7 @@ fn fit_of_row(op: Operation, t: Term, m: usize, right: &[[u32; 8]], rights: &[i6
         letters: true,
         coefs: true,
     };
-    let mut j = m;
-    while j > 0 {
-        j -= 1;
+    for j in (0..m).rev() {
         let r = right[j];
         let u = term_of(r, rights[j]);
         fit = both(fit_of_pair(op, t, u), fit);
@@ -177,9 +174,7 @@ fn fit_of_pairs(
         letters: true,
         coefs: true,
     };
-    let mut i = n;
-    while i > 0 {
-        i -= 1;
+    for i in (0..n).rev() {
         let r = rows[i];
         let t = term_of(r, coefs[i]);
         fit = both(fit_of_row(op, t, m, right, rights), fit);
@@ -187,7 +182,7 @@ fn fit_of_pairs(
     fit
 }
 
-// 7 of all pairs, then 8 and 9 of the terms that stay; 0 where nothing is refused. The pairs are gone through only where the most letters or the largest
+// Not more than 48 pairs, and what stays of them within the limits of letters and then of coefficients. The pairs are gone through only where the most letters or the largest
 // coefficients of the two sides are beyond.
 pub fn test_pairs(
     op: Operation,
@@ -197,26 +192,26 @@ pub fn test_pairs(
     m: usize,
     right: &[[u32; 8]],
     rights: &[i64],
-) -> u8
+) -> Result<(), Refusal>
     requires { SomeOperands op n rows.now coefs.now m right.now rights.now }
     ensures { test_of result ≡ test_pairs op (run_of n rows.now coefs.now) (run_of m right.now rights.now) }
 {
     if n * m > 48 {
-        return 7;
+        return Err(Refusal::ManyPairs);
     }
     let a = most_of(rows, coefs, n);
     let b = most_of(right, rights, m);
     let letters = letters_fit(a, b);
     let coefs_within = coefs_fit(a, b);
     if letters && coefs_within {
-        return 0;
+        return Ok(());
     }
     let fit = fit_of_pairs(op, n, rows, coefs, m, right, rights);
     if !fit.letters {
-        return 8;
+        return Err(Refusal::ManyLetters);
     }
     if !fit.coefs {
-        return 9;
+        return Err(Refusal::LargeCoefficient);
     }
-    0
+    Ok(())
 }

@@ -2,7 +2,8 @@
 use mathlib.Core.Path.{◌≡◌, refl, sym, ap, subst, ◌∙◌}
 use mathlib.Core.Bool.{Bool, true, false, ◌&&◌}
 use mathlib.Core.List.{List, [], ◌++◌, map}
-use Rattle.std.specs.Prelude.{Some, None}
+use Rattle.std.specs.Prelude.{Some, None, Ok, Err, is_ok}
+use Rattle.std.specs.Prelude as Std
 use Prim.Native.Nat.{ℕ, ◌+◌, ◌-◌, ◌^◌, ◌<◌, ◌≤◌}
 use native.Mathlib.Nat as N
 use native.Mathlib.Omega.{arith}
@@ -31,8 +32,8 @@ use Rattle.terms.specs.declared.types.Part.{Part}
 use Rattle.terms.specs.declared.types.Term.{Term}
 use Rattle.terms.specs.Numbers.{letters_of}
 use Rattle.terms.specs.Abstraction.{part_of, term_of, Counted}
-use Rattle.letters.specs.Tested.{test_of}
-use Rattle.letters.proofs.LetterTests.{test-passed, test_refused}
+use Rattle.refusal.specs.declared.Refusal.{Refusal}
+use Rattle.refusal.specs.Tests.{test_of}
 use Rattle.rules.specs.Steps.{step_tests}
 use Rattle.rules.proofs.Taking.{few-letters}
 use Rattle.picks.specs.Choosing.{MaskTaken, Pooled, Adds, letters_left, MultiplierOf, Shut, Fails, PassesBy, OpenedBy}
@@ -152,18 +153,15 @@ module _ (kind rule : ℕ) (m : Term) (one : m.coef ≡ pos 1) where
       passed true h = refl
       passed false h = absurd h
 
-  pub tests_by : (b : Bool) (n : ℕ) (letters : List ℕ) → b ≡ term_in_shape (with_coef (pos 1) (term_of m)) → b ≡ true
-      → test_of n ≡ step_tests kind (record { rule = rule; letters = letters; m = term_of m }) → PassesBy (eqb n 0) kind rule m
+  pub tests_by : (b : Bool) (r : Std.Result (Unit {0}) Refusal) (letters : List ℕ) → b ≡ term_in_shape (with_coef (pos 1) (term_of m)) → b ≡ true
+      → test_of r ≡ step_tests kind (record { rule = rule; letters = letters; m = term_of m }) → PassesBy (is_ok r) kind rule m
   unfolding PassesBy Fails step_tests step_kinds_fit term_kind vector_letters
-  tests_by b n letters e z h = go (eqb n 0) refl
-    where
-      go : (a : Bool) → eqb n 0 ≡ a → PassesBy a kind rule m
-      go true q = record { in_shape = in_shape-by b e z; fits = λ ls. sym h ∙ test-passed n (eqb-true n 0 q) }
-      go false q = λ table ls f c g k s.
-          let a = step-admitted table f (record { rule = rule; letters = ls; m = with_coef c (term_of m) }) g s in
-          let r : step_tests kind (record { rule = rule; letters = ls; m = with_coef c (term_of m) }) ≡ given tt = taken_passes f
-          (record { rule = rule; letters = ls; m = with_coef c (term_of m) }) g k a.takes in
-          refused≢given (sym (sym h ∙ test_refused n (eqb-false n 0 q)) ∙ r)
+  tests_by b (Ok u) letters e z h = record { in_shape = in_shape-by b e z; fits = λ ls. sym h }
+  tests_by b (Err w) letters e z h = λ table ls f c g k s.
+      let a = step-admitted table f (record { rule = rule; letters = ls; m = with_coef c (term_of m) }) g s in
+      let r : step_tests kind (record { rule = rule; letters = ls; m = with_coef c (term_of m) }) ≡ given tt = taken_passes f
+      (record { rule = rule; letters = ls; m = with_coef c (term_of m) }) g k a.takes in
+      refused≢given (h ∙ r)
 
 -- ════ what a candidate has
 

@@ -193,7 +193,7 @@ fn can_pass(kind: u8, rule: u8, m: Term) -> bool
     }
     let letters = [0u8; 6];
     let s = Step { rule, letters, m };
-    test_step(kind, s) == 0
+    test_step(kind, s).is_ok()
 }
 
 // What a mask over a term's factors gives M and leaves to a rule, if such a step can pass.

@@ -13,22 +13,23 @@ use Rattle.specification.specs.Letters.{good_table, test_table}
 use Rattle.specification.specs.Records.{write_into}
 use Rattle.specification.specs.Reduction.{reduced}
 use Rattle.specification.specs.Printing.{alphabet, print_tested, print_result, print_call, TextWritten, print_answer, line_bytes}
-use Rattle.theory.specs.Tests.{given_same, refused≢given}
+use Rattle.theory.specs.Tests.{tested, given_same, refused≢given}
 use Rattle.theory.specs.Shape.Letters.{table_good_lem, good_short}
 use Rattle.theory.proofs.Reduction.Work.{reduction_keeps_value}
 use Rattle.terms.specs.Abstraction.{form_of}
-use Rattle.terms.specs.declared.types.Outcome.{Outcome}
-use Rattle.letters.specs.Tested.{test_of}
+use Rattle.terms.specs.declared.types.Form.{Form}
 use Rattle.terms.specs.Valid.{Gives}
-use Rattle.terms.proofs.Outcomes.{worked_given, worked_refused}
-use Rattle.letters.proofs.LetterTests.{test-passed, test_refused}
+use Rattle.terms.proofs.Outcomes.{refuses, works_as, worked_given}
 use Rattle.symbols.specs.Printable.{Printable}
 use Rattle.symbols.specs.Text.{print_line}
 use Rattle.printing.proofs.Named.{printable}
 use Rattle.records.proofs.Inside.{written_inside}
-use Rattle.std.specs.Prelude.{Ok}
+use Rattle.std.specs.Prelude.{Ok, Err}
 use Rattle.std.specs.Prelude as Std
 use Rattle.refusal.specs.declared.Refusal.{Refusal}
+use Rattle.refusal.specs.declared.Refusal.TheVariants.{BadTable}
+use Rattle.refusal.specs.Numbers.{number_of}
+use Rattle.refusal.specs.Tests.{test_of}
 use Rattle.printer_call.specs.Answers.{length_of}
 use Rattle.printer_call.specs.Lines.{table_reduced, print_reduced}
 
@@ -38,51 +39,37 @@ written_as_lem before after n x y e w = subst (TextWritten before after n) e w
 
 -- ════ a table and an expression
 
--- the form of an expression can be printed
-pub form-printable : (table expr : List ℕ) (c : ℕ) (r : Outcome) → test_of c ≡ test_table table → c ≡ 0 → Gives (reduced table expr) r → r.refusal ≡ 0
-    → Printable alphabet r.form
-form-printable table expr c r h z worked e =
-    let t : T (good_table table) = table_good_lem table (sym h ∙ test-passed c z) in
-    printable table alphabet (good_short table t) r.form (worked.valid e)
-    (reduction_keeps_value table expr (form_of r.form) t (worked_given (reduced table expr) r worked e)).letters_tested
-
-module _ (table expr : List ℕ) (c : ℕ) (h : test_of c ≡ test_table table) where
+module _ (table expr : List ℕ) where
   -- the table is refused
-  pub bad-table : (c ≡ 0 → ⊥) → table_reduced table expr ≡ refused c
+  pub table_refused : (e : Refusal) → test_of (Err e) ≡ test_table table → Gives (table_reduced table expr) (Err e)
   unfolding table_reduced
-  bad-table n = ap (λ (t : Test). t >> reduced table expr) (sym h ∙ test_refused c n)
+  table_refused e h = refuses (table_reduced table expr) e (ap (λ (t : Test). t >> reduced table expr) (sym h))
 
-  module _ (z : c ≡ 0) (r : Outcome) (worked : Gives (reduced table expr) r) where
-    past-table : table_reduced table expr ≡ reduced table expr
+  -- the expression decides
+  pub expression-decides : (u : Unit {0}) (r : Std.Result Form Refusal) → test_of (Ok u) ≡ test_table table → Gives (reduced table expr) r → Gives (table_reduced table expr) r
+  unfolding table_reduced
+  expression-decides u r h worked = works_as (reduced table expr) (table_reduced table expr) r (ap (λ (t : Test). t >> reduced table expr) h) worked
+
+  module _ (f : Form) (worked : Gives (table_reduced table expr) (Ok f)) where
+    -- the form can be printed
+    pub form-printable : Printable alphabet f
     unfolding table_reduced
-    past-table = ap (λ (t : Test). t >> reduced table expr) (sym h ∙ test-passed c z)
+    form-printable =
+        let e = tested (test_table table) (reduced table expr) (form_of f) (worked_given (table_reduced table expr) f worked) in
+        let t : T (good_table table) = table_good_lem table e.0 in
+        printable table alphabet (good_short table t) f worked.valid (reduction_keeps_value table expr (form_of f) t e.1).letters_tested
 
-    -- the expression is refused
-    pub bad-expression : (r.refusal ≡ 0 → ⊥) → table_reduced table expr ≡ refused r.refusal
-    bad-expression n = past-table ∙ worked_refused (reduced table expr) r worked n
+    -- its line
+    pub form-printed : (before after : List ℕ) (m : ℕ) → TextWritten before after m (print_line alphabet (form_of f))
+        → TextWritten before after m (print_reduced table expr)
+    unfolding print_reduced print_result
+    form-printed before after m w = written_as_lem before after m _ _ (ap print_result worked.is) w
 
-    -- it has a form
-    pub form-reduced : r.refusal ≡ 0 → table_reduced table expr ≡ given (form_of r.form)
-    form-reduced e = past-table ∙ worked_given (reduced table expr) r worked e
-
-  module _ (before after : List ℕ) (m : ℕ) where
-    -- the line of a refused table
-    pub table_refused : (c ≡ 0 → ⊥) → TextWritten before after m (print_result (refused c)) → TextWritten before after m (print_reduced table expr)
-    unfolding print_reduced
-    table_refused n w = written_as_lem before after m _ _ (ap print_result (sym (bad-table n))) w
-
-    module _ (z : c ≡ 0) (r : Outcome) (worked : Gives (reduced table expr) r) where
-      -- of a refused expression
-      pub expression_refused : (r.refusal ≡ 0 → ⊥) → TextWritten before after m (print_result (refused r.refusal))
-          → TextWritten before after m (print_reduced table expr)
-      unfolding print_reduced
-      expression_refused n w = written_as_lem before after m _ _ (ap print_result (sym (bad-expression z r worked n))) w
-
-      -- of a form
-      pub form-printed : r.refusal ≡ 0 → TextWritten before after m (print_line alphabet (form_of r.form))
-          → TextWritten before after m (print_reduced table expr)
-      unfolding print_reduced print_result
-      form-printed e w = written_as_lem before after m _ _ (ap print_result (sym (form-reduced z r worked e))) w
+  -- the line of a refusal
+  pub refusal-printed : (e : Refusal) → Gives (table_reduced table expr) (Err e) → (before after : List ℕ) (m n : ℕ) → n ≡ number_of e
+      → TextWritten before after m (print_result (refused n)) → TextWritten before after m (print_reduced table expr)
+  unfolding print_reduced
+  refusal-printed e worked before after m n z w = written_as_lem before after m _ _ (ap (λ (k : ℕ). print_result (refused k)) z ∙ ap print_result worked.is) w
 
 -- ════ all that was read
 
@@ -116,15 +103,15 @@ module _ (s : List ℕ) where
 
   module _ (before after : List ℕ) (m : ℕ) where
     -- the line where the length byte is missing
-    pub nothing_there : length s ≡ 0 → TextWritten before after m (print_result (refused 1)) → TextWritten before after m (print_call s)
+    pub nothing_there : length s ≡ 0 → (n : ℕ) → n ≡ number_of BadTable → TextWritten before after m (print_result (refused n)) → TextWritten before after m (print_call s)
     unfolding print_call
-    nothing_there e w = written_as_lem before after m _ _ (ap print_result (sym (none_tested e))) w
+    nothing_there e n z w = written_as_lem before after m _ _ (ap (λ (k : ℕ). print_result (refused k)) z ∙ ap print_result (sym (none_tested e))) w
 
     -- where the table is cut
-    pub table-cut : (length s ≡ 0 → ⊥) → length s < get_or s 0 0 + 1 → TextWritten before after m (print_result (refused 1))
+    pub table-cut : (length s ≡ 0 → ⊥) → length s < get_or s 0 0 + 1 → (k : ℕ) → k ≡ number_of BadTable → TextWritten before after m (print_result (refused k))
         → TextWritten before after m (print_call s)
     unfolding print_call
-    table-cut n l w = written_as_lem before after m _ _ (ap print_result (sym (cut_tested n l))) w
+    table-cut n l k z w = written_as_lem before after m _ _ (ap (λ (j : ℕ). print_result (refused j)) z ∙ ap print_result (sym (cut_tested n l))) w
 
     -- of a table and an expression
     pub parts-printed : get_or s 0 0 + 1 ≤ length s

@@ -3,19 +3,22 @@
 
 ghost use Rattle.std.specs.Prelude.{◌≡◌, ◌≤◌, length};
 ghost use Rattle.specification.specs.Printing.{print_call, TextWritten, print_answer, line_bytes};
+ghost use Rattle.terms.specs.Valid.{Gives};
 ghost use Rattle.printer_call.specs.Answers.{length_of};
-ghost use Rattle.printer_call.specs.Lines.{print_reduced};
+ghost use Rattle.printer_call.specs.Lines.{table_reduced, print_reduced};
 
 use letters::check_table;
 use printing::{ALPHABET, LINE_BYTES, print_line, print_refusal};
 use reduction::form_of;
 use refusal::Refusal;
+use terms::types::Form;
 
-// What the call that prints with declared names says: printed, with the length of the text, or refused with its number.
-#[derive(Clone, Copy)]
-pub enum Printing {
-    Printed(usize),
-    Refused(u8),
+// The form of a table and an expression.
+pub fn table_form(table: &[u8], expression: &[u8]) -> Result<Form, Refusal>
+    ensures { Gives (table_reduced table.now expression.now) result }
+{
+    check_table(table)?;
+    form_of(table, expression)
 }
 
 // The line of a table and an expression.
@@ -23,17 +26,10 @@ fn print_form(table: &[u8], expression: &[u8], out: &mut [u8]) -> usize
     requires { line_bytes ≤ length out.old }
     ensures { TextWritten out.old out.new result (print_reduced table.now expression.now) }
 {
-    let c = check_table(table);
-    if c != 0 {
-        return print_refusal(out, c);
+    match table_form(table, expression) {
+        Ok(f) => print_line(&ALPHABET, out, f),
+        Err(why) => print_refusal(out, why.number()),
     }
-    let w = form_of(table, expression);
-    let n = w.refusal;
-    if n != 0 {
-        return print_refusal(out, n);
-    }
-    let f = w.form;
-    print_line(&ALPHABET, out, f)
 }
 
 // The line of all that stands in the input, in memory that is long enough.
@@ -43,11 +39,11 @@ fn print_input(s: &[u8], out: &mut [u8]) -> usize
 {
     let n = s.len();
     if n == 0 {
-        return print_refusal(out, 1);
+        return print_refusal(out, Refusal::BadTable.number());
     }
     let k = s[0] as usize + 1;
     if n < k {
-        return print_refusal(out, 1);
+        return print_refusal(out, Refusal::BadTable.number());
     }
     print_form(&s[1..k], &s[k..n], out)
 }

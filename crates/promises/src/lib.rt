@@ -10,15 +10,17 @@ ghost use Rattle.insertion.specs.Answers.{inserted_of};
 ghost use Rattle.checker.specs.Answers.{checked_of};
 ghost use Rattle.decision.specs.Answers.{decision_of};
 
-use checker::{Checked, check};
+use checker::{Accepted, check};
 use decision::{Decision, decide};
 use forms::{FORM_BYTES, read_form, write_form};
-use insertion::{Inserted, insert};
+use insertion::insert;
 use letters::check_table;
-use reduction::{Reduced, reduce};
+use logs::steps::RefusedAt;
+use reduction::reduce;
+use refusal::Refusal;
 
 // P2: the bytes that reduction wrote are the record of a form with the expression's value under every assignment.
-pub fn reduce_kept(table: &[u8], expression: &[u8], out: &mut [u8]) -> Reduced
+pub fn reduce_kept(table: &[u8], expression: &[u8], out: &mut [u8]) -> Result<usize, Refusal>
     ensures { (n : ℕ) → reduced_of result ≡ given n → KeepsValue table.now expression.now (take n out.new) }
 {
     reduce(table, expression, out)
@@ -31,34 +33,26 @@ pub fn insert_replaces(
     letter: u8,
     inserted: &[u8],
     out: &mut [u8],
-) -> Inserted
+) -> Result<usize, Refusal>
     ensures { (n : ℕ) → inserted_of result ≡ given n → Inserts table.now form.now letter inserted.now (take n out.new) }
 {
     insert(table, form, letter, inserted, out)
 }
 
 // P3: a form that is read is written as the bytes that were read.
-pub fn rewrite(table: &[u8], form: &[u8], out: &mut [u8]) -> Reduced
+pub fn rewrite(table: &[u8], form: &[u8], out: &mut [u8]) -> Result<usize, Refusal>
     ensures { (reduced_of result, out.new) ≡ rewrite_call table.now form.now out.old }
 {
-    let bad = check_table(table);
-    if bad != 0 {
-        return Reduced::Refused(bad);
-    }
+    check_table(table)?;
     if out.len() < FORM_BYTES {
-        return Reduced::Refused(2);
+        return Err(Refusal::NoRoom);
     }
-    let a = read_form(table, form);
-    let p = a.refusal;
-    if p != 0 {
-        return Reduced::Refused(p);
-    }
-    let f = a.form;
-    Reduced::Written(write_form(out, f))
+    let f = read_form(table, form)?;
+    Ok(write_form(out, f))
 }
 
 // P7: the ends of a log that the checker accepts have equal values; within the limits it accepts exactly where the form reached is the last.
-pub fn check_promised(table: &[u8], log: &[u8]) -> Checked
+pub fn check_promised(table: &[u8], log: &[u8]) -> Result<Accepted, RefusedAt>
     ensures { LogPromise log.now (checked_of result) }
 {
     check(table, log)

@@ -8,6 +8,7 @@ ghost use Rattle.terms.specs.Valid.{FormValid};
 use case_lines::{byte_at, print_bytes, print_character};
 use forms::{FORM_BYTES, read_form, write_form};
 use letters::check_table;
+use refusal::Refusal;
 use terms::types::Form;
 
 // A record written back.
@@ -20,15 +21,24 @@ fn print_form(f: Form)
     print_bytes(&out[..n]);
 }
 
+// The number of a refusal.
+fn print_number(why: Refusal) {
+    io::print_decimal(1, why.number() as u64);
+}
+
 // The line of a case.
 fn print_case(table: &[u8], bytes: &[u8]) {
-    io::print_decimal(1, check_table(table) as u64);
+    match check_table(table) {
+        Ok(()) => print_character(b'0'),
+        Err(why) => print_number(why),
+    }
     print_character(b' ');
-    let r = read_form(table, bytes);
-    io::print_decimal(1, r.refusal as u64);
-    if r.refusal == 0 {
-        let f = r.form;
-        print_form(f);
+    match read_form(table, bytes) {
+        Ok(f) => {
+            print_character(b'0');
+            print_form(f);
+        }
+        Err(why) => print_number(why),
     }
     print_character(b'\n');
 }

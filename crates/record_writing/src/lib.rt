@@ -45,12 +45,10 @@ fn count_of_size(t: Term, size: usize) -> u8
 {
     let n = t.factor_count as usize;
     let mut count: u8 = 0;
-    let mut i: usize = 0;
-    while i < n {
+    for i in 0..n {
         if letter_count(t.factors[i]) == size {
             count += 1;
         }
-        i += 1;
     }
     count
 }
@@ -62,13 +60,11 @@ fn write_joined(out: &mut [u8], at: usize, t: Term, size: usize) -> usize
 {
     let n = t.factor_count as usize;
     let mut next = at;
-    let mut i: usize = 0;
-    while i < n {
+    for i in 0..n {
         let k = t.factors[i];
         if letter_count(k) == size {
             next = write_letters(out, next, k);
         }
-        i += 1;
     }
     next
 }

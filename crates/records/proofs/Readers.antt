@@ -23,8 +23,9 @@ use Rattle.terms.specs.Abstraction.{part_of, term_of, Counted}
 use Rattle.terms.specs.Build.{behind, Appended}
 use Rattle.terms.proofs.Appending.{appended_one}
 use Rattle.records.specs.declared.read.Fields.{Fields}
-use Rattle.records.specs.declared.read.TermReading.{TermReading}
-use Rattle.records.specs.Reading.{read_of, listed, fields_of, FieldsRefused, coef_step, CoefRead, factors_step, with_part, part_step, shape_step, rest_of, read_fields, Stepped, TermRead}
+use Rattle.std.specs.Prelude.{Ok, Err}
+use Rattle.refusal.specs.declared.Refusal.TheVariants.{WrongShape}
+use Rattle.records.specs.Reading.{read_of, listed, at_fields, fields_of, coef_step, CoefRead, factors_step, with_part, part_step, shape_step, rest_of, read_fields, Stepped, TermRead}
 
 -- ════ room
 
@@ -40,22 +41,17 @@ room_some len at n h = go (leb at (len - n)) refl
 
 -- ════ a step
 
-module _ (step : S.Term × ℕ → Result (S.Term × ℕ)) (more : ℕ) (r : TermReading) (counted : Counted r.term) where
-  -- a refusal stays
-  pub stays : r.ok ≡ false → Stepped step more r r
-  unfolding read_of
-  stays e = record { is = rw e; counted = counted; few = omega arith }
-
+module _ (step : S.Term × ℕ → Result (S.Term × ℕ)) (more : ℕ) (r : Fields) (f g : List ℕ) where
   -- the step refuses
-  pub refuses : r.ok ≡ true → step (term_of r.term, r.next) ≡ refused 11 → (q : TermReading) → (read_of q ≡ refused 11) × (q.term ≡ r.term) → Stepped step more r q
-  unfolding read_of
-  refuses e f q h = record { is = h.0 ∙ sym (rw (e, f)); counted = rw h.1 counted; few = rw h.1 (omega arith) }
+  pub refuses : step (term_of (at_fields r f), r.next) ≡ refused 11 → Stepped step more r f (Err WrongShape) g
+  unfolding fields_of
+  refuses e = record { is = sym e; counted = tt; few = tt }
 
   -- the step gives
-  pub goes : r.ok ≡ true → (q : TermReading) → q.ok ≡ true → step (term_of r.term, r.next) ≡ given (term_of q.term, q.next)
-      → Counted q.term → q.term.factor_count ≤ r.term.factor_count + more → Stepped step more r q
-  unfolding read_of
-  goes e q d f k l = record { is = rw (e, d, f); counted = k; few = l }
+  pub goes : (q : Fields) → step (term_of (at_fields r f), r.next) ≡ given (term_of (at_fields q g), q.next)
+      → Counted (at_fields q g) → q.count ≤ r.count + more → Stepped step more r f (Ok q) g
+  unfolding fields_of
+  goes q e k l = record { is = sym e; counted = k; few = l }
 
 -- ════ the coefficient
 
@@ -79,16 +75,16 @@ module _ (s : List ℕ) (t : S.Term) (at : ℕ) (there : Bool) (e : there ≡ tr
   unfolding coef_step read_coef
   coef_given f g = rw (e, f, g)
 
-module _ (there : Bool) (s : List ℕ) (at : ℕ) (q : Fields) (none : q.count ≡ 0) where
-  -- a coefficient read is that of a term without factors
-  pub coef-goes : q.ok ≡ true → coef_step there s (plus [] [], at) ≡ given (with_coef q.coef (plus [] []), q.next) → CoefRead there s at q
-  unfolding read_of fields_of term_of part_of
-  coef-goes o e = record { is = λ f. rw (o, none) (sym e); none = none }
+-- a coefficient read is that of a term without factors
+pub coef-goes : (there : Bool) (s : List ℕ) (at : ℕ) (q : Fields) → q.count ≡ 0
+    → coef_step there s (plus [] [], at) ≡ given (with_coef q.coef (plus [] []), q.next) → CoefRead there s at (Ok q)
+unfolding fields_of at_fields term_of part_of
+coef-goes there s at q none e = record { is = λ f. rw none (sym e); none = none }
 
 -- one refused
-pub coef-refuses : (there : Bool) (s : List ℕ) (at : ℕ) (r q : Fields) → r.count ≡ 0 → coef_step there s (plus [] [], at) ≡ refused 11 → FieldsRefused r q → CoefRead there s at q
+pub coef-refuses : (there : Bool) (s : List ℕ) (at : ℕ) → coef_step there s (plus [] [], at) ≡ refused 11 → CoefRead there s at (Err WrongShape)
 unfolding fields_of
-coef-refuses there s at r q z e h = record { is = λ f. h.is f ∙ sym e; none = ap (λ (t : Term). t.factor_count) (h.stands []) ∙ z }
+coef-refuses there s at e = record { is = λ f. sym e; none = tt }
 
 -- ════ letters at a position
 
@@ -143,18 +139,17 @@ listed-turn n i size next k s at f₀ f e b g l h =
     let q : n + (i + 1) ≡ n + i + 1 = omega arith in
     rw q (appended_more (listed n f₀) (listed (n + i) f) (listed (n + i + 1) (set f (n + i) k)) i size next k s at e b h (listed_more (n + i) k f h.counted g b.small l))
 
--- factors with a coefficient are counted as they are alone
-pub fields-counted : (k : ℤ) (n : ℕ) (f : List ℕ) → Counted (listed n f) → Counted (record { coef = k; factors = f; factor_count = n; part = Nothing })
-unfolding listed
-fields-counted k n f h = recounted _ _ refl refl h
-
 pub none_counted : (n : ℕ) (f : List ℕ) → n ≡ 0 → Counted (listed n f)
 unfolding listed
 none_counted n f e = rw e (record { few = omega arith; small = tt })
 
-pub again-counted : (r : Fields) (f : List ℕ) → Counted (fields_of r f).term → Counted (listed r.count f)
-unfolding listed fields_of
+pub again-counted : (r : Fields) (f : List ℕ) → Counted (at_fields r f) → Counted (listed r.count f)
+unfolding listed at_fields
 again-counted r f h = recounted _ _ refl refl h
+
+pub fields-counted : (r : Fields) (f : List ℕ) → Counted (listed r.count f) → Counted (at_fields r f)
+unfolding listed at_fields
+fields-counted r f h = recounted _ _ refl refl h
 
 -- some behind others
 pub fields-appended : (k : ℤ) (n m : ℕ) (f g : List ℕ) (fs : List (List ℕ)) → Appended fs m (listed n f) (listed (n + m) g)
@@ -234,36 +229,31 @@ shape_given t at e = rw e
 -- ════ the rest of a term
 
 module _ (s f : List ℕ) (r : Fields) (n : ℕ) where
-  -- a refusal stays
-  pub rest-unread : (q : TermReading) → r.ok ≡ false → read_of q ≡ refused 11 → Counted q.term → TermRead (rest_of n s (fields_of r f)) q
-  unfolding rest_of read_of fields_of
-  rest-unread q e h c = record { is = h ∙ sym (rw e); counted = c }
+  -- a vector part cut off
+  pub rest_short : leb (r.next + n) (length s) ≡ false → TermRead (rest_of n s r f) (Err WrongShape)
+  unfolding rest_of read_of
+  rest_short e = record { is = sym (rw (part_short s (term_of (at_fields r f)) r.next n e)); counted = tt }
 
-  module _ (o : r.ok ≡ true) where
-    -- a vector part cut off
-    pub rest_short : (q : TermReading) → leb (r.next + n) (length s) ≡ false → read_of q ≡ refused 11 → Counted q.term → TermRead (rest_of n s (fields_of r f)) q
-    unfolding rest_of read_of fields_of
-    rest_short q e h c = record { is = h ∙ sym (rw (o, part_short s (term_of (fields_of r f).term) r.next n e)); counted = c }
+  module _ (p : Part) (k : ℤ) (l : leb (r.next + n) (length s) ≡ true) (ep : part_of p ≡ take n (drop r.next s)) (ek : k ≡ r.coef) where
+    -- the whole term
+    abbrev whole : Term
+    whole = record { coef = k; factors = f; factor_count = r.count; part = p }
 
-    module _ (p : Part) (k : ℤ) (l : leb (r.next + n) (length s) ≡ true) (ep : part_of p ≡ take n (drop r.next s)) (ek : k ≡ r.coef) where
-      -- the whole term
-      abbrev whole : Term
-      whole = record { coef = k; factors = f; factor_count = r.count; part = p }
+    rest-is : rest_of n s r f ≡ shape_step (term_of whole, r.next + n)
+    unfolding rest_of at_fields term_of with_part
+    rest-is =
+        rw (part_given s (term_of (at_fields r f)) r.next n l)
+        (λ i. shape_step (record { coef = sym ek i; factors = map letters_of (take r.count f); part = sym ep i }, r.next + n))
 
-      rest-is : rest_of n s (fields_of r f) ≡ shape_step (term_of whole, r.next + n)
-      unfolding rest_of read_of fields_of term_of with_part
-      rest-is =
-          rw (o, part_given s (term_of (fields_of r f).term) r.next n l)
-          (λ i. shape_step (record { coef = sym ek i; factors = map letters_of (take r.count f); part = sym ep i }, r.next + n))
+    -- not in shape
+    pub rest-bad : term_in_shape (term_of whole) ≡ false → TermRead (rest_of n s r f) (Err WrongShape)
+    unfolding read_of
+    rest-bad e = record { is = sym (rest-is ∙ shape_refused (term_of whole) (r.next + n) e); counted = tt }
 
-      -- not in shape
-      pub rest-bad : (q : TermReading) → term_in_shape (term_of whole) ≡ false → read_of q ≡ refused 11 → Counted q.term → TermRead (rest_of n s (fields_of r f)) q
-      rest-bad q e h c = record { is = h ∙ sym (rest-is ∙ shape_refused (term_of whole) (r.next + n) e); counted = c }
-
-      -- read whole
-      pub rest_given : term_in_shape (term_of whole) ≡ true → Counted (listed r.count f) → TermRead (rest_of n s (fields_of r f)) (record { ok = true; next = r.next + n; term = whole })
-      unfolding read_of listed
-      rest_given e c = record { is = sym (rest-is ∙ shape_given (term_of whole) (r.next + n) e); counted = recounted _ _ refl refl c }
+    -- read whole
+    pub rest_given : term_in_shape (term_of whole) ≡ true → Counted (listed r.count f) → TermRead (rest_of n s r f) (Ok (whole, r.next + n))
+    unfolding read_of listed
+    rest_given e c = record { is = sym (rest-is ∙ shape_given (term_of whole) (r.next + n) e); counted = recounted _ _ refl refl c }
 
 -- ════ bits
 
@@ -363,14 +353,36 @@ turn-fits at i count size len next h k e = omega (arith, e, suc-mul i size, mul-
 pub spelled : (s : List ℕ) (at size n : ℕ) (l : List ℕ) (k : ℕ) → size ≡ n → take n (drop at s) ≡ l → FactorNumber l k → FactorNumber (take size (drop at s)) k
 spelled s at size n l k e q h = rw (e, q) h
 
--- the steps made one after the other
-pub fields_read : (m : ℕ) (s : List ℕ) (at : ℕ) (coef scalars dots triples all : TermReading) (b₀ b₁ b₂ b₃ : Bool) (n : ℕ)
-    → b₀ ≡ eqb (m / 1 % 2) 1 → b₁ ≡ eqb (m / 2 % 2) 1 → b₂ ≡ eqb (m / 4 % 2) 1 → b₃ ≡ eqb (m / 8 % 2) 1 → n ≡ part_letters m
-    → read_of coef ≡ coef_step b₀ s (plus [] [], at)
-    → read_of scalars ≡ (read_of coef >>= factors_step b₁ 2 1 s)
-    → read_of dots ≡ (read_of scalars >>= factors_step b₂ 3 2 s)
-    → read_of triples ≡ (read_of dots >>= factors_step b₃ 2 3 s)
-    → read_of all ≡ rest_of n s triples
-    → read_of all ≡ read_fields m s at
-unfolding read_fields rest_of stands
-fields_read m s at coef scalars dots triples all b₀ b₁ b₂ b₃ n d₀ d₁ d₂ d₃ dn e₁ e₂ e₃ e₄ e₅ = rw (e₅, e₄, e₃, e₂, e₁, d₀, d₁, d₂, d₃, dn)
+-- the steps made one after the other: what is still to be done behind each
+module _ (m : ℕ) (s : List ℕ) (at : ℕ) where
+  abbrev pub behind_triples : Result (S.Term × ℕ) → Result (S.Term × ℕ)
+  behind_triples z = z >>= part_step (part_letters m) s >>= shape_step
+
+  abbrev pub behind_dots : Result (S.Term × ℕ) → Result (S.Term × ℕ)
+  behind_dots z = behind_triples (z >>= factors_step (stands 3 m) 2 3 s)
+
+  abbrev pub behind_scalars : Result (S.Term × ℕ) → Result (S.Term × ℕ)
+  behind_scalars z = behind_dots (z >>= factors_step (stands 2 m) 3 2 s)
+
+  abbrev pub behind_coef : Result (S.Term × ℕ) → Result (S.Term × ℕ)
+  behind_coef z = behind_scalars (z >>= factors_step (stands 1 m) 2 1 s)
+
+  pub coef-made : (q : Result (S.Term × ℕ)) (b : Bool) → b ≡ eqb (m / 1 % 2) 1 → q ≡ coef_step b s (plus [] [], at) → behind_coef q ≡ read_fields m s at
+  unfolding read_fields stands
+  coef-made q b d e = rw (e, d)
+
+  pub scalars-made : (x : S.Term × ℕ) (q : Result (S.Term × ℕ)) (b : Bool) → b ≡ eqb (m / 2 % 2) 1 → q ≡ factors_step b 2 1 s x → behind_scalars q ≡ behind_coef (given x)
+  unfolding stands
+  scalars-made x q b d e = rw (e, d)
+
+  pub dots-made : (x : S.Term × ℕ) (q : Result (S.Term × ℕ)) (b : Bool) → b ≡ eqb (m / 4 % 2) 1 → q ≡ factors_step b 3 2 s x → behind_dots q ≡ behind_scalars (given x)
+  unfolding stands
+  dots-made x q b d e = rw (e, d)
+
+  pub triples-made : (x : S.Term × ℕ) (q : Result (S.Term × ℕ)) (b : Bool) → b ≡ eqb (m / 8 % 2) 1 → q ≡ factors_step b 2 3 s x → behind_triples q ≡ behind_dots (given x)
+  unfolding stands
+  triples-made x q b d e = rw (e, d)
+
+  pub rest_made : (r : Fields) (f : List ℕ) (n : ℕ) → n ≡ part_letters m → rest_of n s r f ≡ behind_triples (given (term_of (at_fields r f), r.next))
+  unfolding rest_of
+  rest_made r f n d = rw d

@@ -1,5 +1,6 @@
--- What the readers' structs say, and a term record as steps from one to the next. Assumes nothing.
-use Rattle.std.specs.Prelude.{Bool, ◌≡◌, List, [], map, ℕ, ◌+◌, ◌≤◌, pos}
+-- What the readers answer, and a term record as steps from one to the next. Assumes nothing.
+use Rattle.std.specs.Prelude.{Bool, ◌≡◌, List, [], map, ℕ, ◌+◌, ◌≤◌, pos, IfOk}
+use Rattle.std.specs.Prelude as Std
 use Rattle.specification.specs.Results.{Result, refused, given, ◌>>=◌, ◌>>◌, when◌then◌else◌}
 use Rattle.specification.specs.Terms.{with_coef, plus}
 use Rattle.specification.specs.Terms as S
@@ -9,24 +10,24 @@ use Rattle.terms.specs.declared.types.Term.{Term}
 use Rattle.terms.specs.Abstraction.{term_of, Counted}
 use Rattle.terms.specs.Build.{behind}
 use Rattle.records.specs.declared.read.Fields.{Fields}
-use Rattle.records.specs.declared.read.TermReading.{TermReading}
+use Rattle.refusal.specs.declared.Refusal.{Refusal}
+use Rattle.refusal.specs.Tests.{answer_of}
 
--- what was read of a term, and the position behind it; the only refusal here is 11
-unfoldable pub read_of : TermReading → Result (S.Term × ℕ)
-read_of r = when r.ok then given (term_of r.term, r.next) else refused 11
+-- what was read of a term, and the position behind it
+unfoldable pub read_of : Std.Result (Term × ℕ) Refusal → Result (S.Term × ℕ)
+read_of q = answer_of (λ r. (term_of r.0, r.1)) q
 
 -- factors alone, the first n of a list
 unfoldable pub listed : ℕ → List ℕ → Term
 listed n f = record { coef = pos 0; factors = f; factor_count = n; part = Nothing }
 
--- the fields of a term under way with its factors, as a term without a vector part
-unfoldable pub fields_of : Fields → List ℕ → TermReading
-fields_of r f = record { ok = r.ok; next = r.next; term = record { coef = r.coef; factors = f; factor_count = r.count; part = Nothing } }
+-- the fields read so far with their factors, as a term without a vector part
+unfoldable pub at_fields : Fields → List ℕ → Term
+at_fields r f = record { coef = r.coef; factors = f; factor_count = r.count; part = Nothing }
 
--- fields refused: what was read stands, and counts for nothing
-pub record FieldsRefused (r q : Fields) : Type 0 where
-  pub is : (f : List ℕ) → read_of (fields_of q f) ≡ refused 11
-  pub stands : (f : List ℕ) → (fields_of q f).term ≡ (fields_of r f).term
+-- the same as the specification has it, and the position behind them
+unfoldable pub fields_of : Std.Result Fields Refusal → List ℕ → Result (S.Term × ℕ)
+fields_of q f = answer_of (λ r. (term_of (at_fields r f), r.next)) q
 
 -- the coefficient read
 unfoldable pub coef_step : (is_there : Bool) (s : List ℕ) → S.Term × ℕ → Result (S.Term × ℕ)
@@ -55,8 +56,8 @@ unfoldable pub shape_step : S.Term × ℕ → Result (S.Term × ℕ)
 shape_step r = test_shape r.0 r.1
 
 -- the vector part read behind the factors, and the shape tested
-unfoldable pub rest_of : (letters : ℕ) (s : List ℕ) → TermReading → Result (S.Term × ℕ)
-rest_of letters s r = read_of r >>= part_step letters s >>= shape_step
+unfoldable pub rest_of : (letters : ℕ) (s : List ℕ) → Fields → List ℕ → Result (S.Term × ℕ)
+rest_of letters s r f = part_step letters s (term_of (at_fields r f), r.next) >>= shape_step
 
 -- the fields behind a bit map, read one after the other
 unfoldable pub read_fields : (bits : ℕ) (s : List ℕ) (at : ℕ) → Result (S.Term × ℕ)
@@ -69,17 +70,17 @@ read_fields bits s at =
     >>= shape_step
 
 -- the coefficient read, and no factors yet
-pub record CoefRead (is_there : Bool) (s : List ℕ) (at : ℕ) (q : Fields) : Type 0 where
-  pub is : (f : List ℕ) → read_of (fields_of q f) ≡ coef_step is_there s (plus [] [], at)
-  pub none : q.count ≡ 0
+pub record CoefRead (is_there : Bool) (s : List ℕ) (at : ℕ) (q : Std.Result Fields Refusal) : Type 0 where
+  pub is : (f : List ℕ) → fields_of q f ≡ coef_step is_there s (plus [] [], at)
+  pub none : IfOk q (λ r. r.count ≡ 0)
 
--- a step made: a refusal stays, and so many factors more at most
-pub record Stepped (step : S.Term × ℕ → Result (S.Term × ℕ)) (more : ℕ) (r q : TermReading) : Type 0 where
-  pub is : read_of q ≡ (read_of r >>= step)
-  pub counted : Counted q.term
-  pub few : q.term.factor_count ≤ r.term.factor_count + more
+-- a step made from fields and their factors: so many factors more at most
+pub record Stepped (step : S.Term × ℕ → Result (S.Term × ℕ)) (more : ℕ) (r : Fields) (f : List ℕ) (q : Std.Result Fields Refusal) (g : List ℕ) : Type 0 where
+  pub is : fields_of q g ≡ step (term_of (at_fields r f), r.next)
+  pub counted : IfOk q (λ t. Counted (at_fields t g))
+  pub few : IfOk q (λ t. t.count ≤ r.count + more)
 
 -- a term read
-pub record TermRead (read : Result (S.Term × ℕ)) (q : TermReading) : Type 0 where
+pub record TermRead (read : Result (S.Term × ℕ)) (q : Std.Result (Term × ℕ) Refusal) : Type 0 where
   pub is : read_of q ≡ read
-  pub counted : Counted q.term
+  pub counted : IfOk q (λ r. Counted r.0)

@@ -5,26 +5,18 @@ ghost use Rattle.specification.specs.Terms.{plus};
 ghost use Rattle.specification.specs.Records.{factors_at, good_bits, part_letters, read_term_at};
 ghost use Rattle.terms.specs.Numbers.{FactorNumber};
 ghost use Rattle.terms.specs.Abstraction.{part_of, Counted};
-ghost use Rattle.records.specs.Reading.{read_of, fields_of, listed, FieldsRefused, factors_step, rest_of, CoefRead, Stepped, TermRead, read_fields};
+ghost use Rattle.records.specs.Reading.{listed, factors_step, rest_of, read_fields, CoefRead, Stepped, TermRead};
 ghost use Rattle.terms.specs.Build.{Appended};
 
 use integers::{four_bytes_at, is_one};
+use refusal::Refusal;
 use terms::factors::{dot_number, scalar_number, triple_number};
 use terms::shape::in_shape;
 use terms::types::{Part, Term};
 
-// A term under way: whether nothing was refused, the position behind what was read, and what was read.
-#[derive(Clone, Copy)]
-pub struct TermReading {
-    pub ok: bool,
-    pub next: usize,
-    pub term: Term,
-}
-
-// The fields of a term under way, its factors beside them: whether nothing was refused, the position behind what was read, the coefficient and the count of factors.
+// The fields of a term read so far, its factors beside them: the position behind what was read, the coefficient and the count of factors.
 #[derive(Clone, Copy)]
 pub struct Fields {
-    pub ok: bool,
     pub next: usize,
     pub coef: i64,
     pub count: u8,
@@ -40,69 +32,29 @@ pub fn room(s: &[u8], at: usize, n: usize) -> bool
     at <= s.len() - n
 }
 
-// A term before anything is read: the coefficient 1 and nothing more.
-fn begin(at: usize) -> TermReading
-    ensures { (read_of result ≡ given (plus [] [], at)) × Counted result.term × (result.term.factor_count ≡ 0) }
-{
-    let p = Part::Nothing;
-    let f = [0u32; 7];
-    let t = Term {
-        coef: 1,
-        factors: f,
-        factor_count: 0,
-        part: p,
-    };
-    TermReading {
-        ok: true,
-        next: at,
-        term: t,
-    }
-}
-
-// A refusal: what was read stands, and counts for nothing.
-pub fn refuse(r: TermReading) -> TermReading
-    ensures { (read_of result ≡ refused 11) × (result.term ≡ r.term) }
-{
-    let mut q = r;
-    q.ok = false;
-    q
-}
-
-// Fields refused: what was read stands, and counts for nothing.
-fn refuse_fields(r: Fields) -> Fields
-    ensures { FieldsRefused r result }
-{
-    let mut q = r;
-    q.ok = false;
-    q
-}
-
 // The coefficient, if its bit stands, before any factor.
-fn read_coef(s: &[u8], at: usize, there: bool) -> Fields
+fn read_coef(s: &[u8], at: usize, there: bool) -> Result<Fields, Refusal>
     ensures { CoefRead there s.now at result }
 {
-    let r = Fields {
-        ok: true,
-        next: at,
-        coef: 1,
-        count: 0,
-    };
     if !there {
-        return r;
+        return Ok(Fields {
+            next: at,
+            coef: 1,
+            count: 0,
+        });
     }
     if !room(s, at, 4) {
-        return refuse_fields(r);
+        return Err(Refusal::WrongShape);
     }
-    let k = four_bytes_at(s, at);
-    if is_one(k) {
-        return refuse_fields(r);
+    let coef = four_bytes_at(s, at);
+    if is_one(coef) {
+        return Err(Refusal::WrongShape);
     }
-    Fields {
-        ok: true,
+    Ok(Fields {
         next: at + 4,
-        coef: k,
+        coef,
         count: 0,
-    }
+    })
 }
 
 // The factor of so many letters at a position.
@@ -128,11 +80,9 @@ fn append_factors(s: &[u8], at: usize, count: usize, size: usize, f: &mut [u32; 
     ensures { Appended (factors_at count size s.now at) count (listed n f.old) (listed (n + count) f.new) × (length f.new ≡ 7) }
 {
     let mut next = at;
-    let mut i: usize = 0;
-    while i < count {
+    for i in 0..count {
         f[n + i] = factor_at(s, next, size);
         next += size;
-        i += 1;
     }
 }
 
@@ -162,28 +112,25 @@ fn read_factors(
     there: bool,
     most: usize,
     size: usize,
-) -> Fields
+) -> Result<Fields, Refusal>
     requires { Counted (listed r.count f.old) × (r.count + most ≤ 7) × (1 ≤ size) × (size ≤ 3) × (length f.old ≡ 7) }
-    ensures { Stepped (factors_step there most size s.now) most (fields_of r f.old) (fields_of result f.new) × (length f.new ≡ 7) }
+    ensures { Stepped (factors_step there most size s.now) most r f.old result f.new × (length f.new ≡ 7) }
 {
-    if !r.ok {
-        return r;
-    }
     if !there {
-        return r;
+        return Ok(r);
     }
     let at = r.next;
     if !factors_stand(s, at, most, size) {
-        return refuse_fields(r);
+        return Err(Refusal::WrongShape);
     }
     let more = s[at];
     let n = more as usize;
-    let count = r.count;
-    append_factors(s, at + 1, n, size, f, count as usize);
-    let mut q = r;
-    q.next = at + 1 + n * size;
-    q.count = count + more;
-    q
+    append_factors(s, at + 1, n, size, f, r.count as usize);
+    Ok(Fields {
+        next: at + 1 + n * size,
+        coef: r.coef,
+        count: r.count + more,
+    })
 }
 
 // The vector part of so many letters at a position.
@@ -203,36 +150,25 @@ fn part_at(s: &[u8], at: usize, n: usize) -> Part
 }
 
 // The vector part of so many letters behind the factors, and the shape of the whole term.
-fn read_rest(s: &[u8], f: &[u32; 7], r: Fields, n: usize) -> TermReading
+fn read_rest(s: &[u8], f: &[u32; 7], r: Fields, n: usize) -> Result<(Term, usize), Refusal>
     requires { Counted (listed r.count f.now) × (n ≤ 2) × (length f.now ≡ 7) }
-    ensures { TermRead (rest_of n s.now (fields_of r f.now)) result }
+    ensures { TermRead (rest_of n s.now r f.now) result }
 {
     let at = r.next;
-    if !r.ok {
-        return refuse(begin(at));
-    }
     if !room(s, at, n) {
-        return refuse(begin(at));
+        return Err(Refusal::WrongShape);
     }
-    let k = r.coef;
-    let count = r.count;
-    let p = part_at(s, at, n);
-    if !in_shape(k, f, count, p) {
-        return refuse(begin(at));
+    let part = part_at(s, at, n);
+    if !in_shape(r.coef, f, r.count, part) {
+        return Err(Refusal::WrongShape);
     }
-    let g = *f;
     let t = Term {
-        coef: k,
-        factors: g,
-        factor_count: count,
-        part: p,
+        coef: r.coef,
+        factors: *f,
+        factor_count: r.count,
+        part,
     };
-    let next = at + n;
-    TermReading {
-        ok: true,
-        next: next,
-        term: t,
-    }
+    Ok((t, at + n))
 }
 
 // Whether the bit of a value stands in a bit map.
@@ -270,27 +206,27 @@ fn bits_fit(m: u8) -> bool
 }
 
 // The fields behind a bit map.
-fn read_fields(s: &[u8], at: usize, m: u8) -> TermReading
+fn read_fields(s: &[u8], at: usize, m: u8) -> Result<(Term, usize), Refusal>
     ensures { TermRead (read_fields m s.now at) result }
 {
     let mut f = [0u32; 7];
-    let r1 = read_coef(s, at, bit_stands(m, 1));
-    let r2 = read_factors(s, &mut f, r1, bit_stands(m, 2), 2, 1);
-    let r3 = read_factors(s, &mut f, r2, bit_stands(m, 4), 3, 2);
-    let r4 = read_factors(s, &mut f, r3, bit_stands(m, 8), 2, 3);
-    read_rest(s, &f, r4, part_size(m))
+    let coef = read_coef(s, at, bit_stands(m, 1))?;
+    let scalars = read_factors(s, &mut f, coef, bit_stands(m, 2), 2, 1)?;
+    let dots = read_factors(s, &mut f, scalars, bit_stands(m, 4), 3, 2)?;
+    let triples = read_factors(s, &mut f, dots, bit_stands(m, 8), 2, 3)?;
+    read_rest(s, &f, triples, part_size(m))
 }
 
-// The term record at a position.
-pub fn read_term(s: &[u8], at: usize) -> TermReading
+// The term record at a position, and the position behind it.
+pub fn read_term(s: &[u8], at: usize) -> Result<(Term, usize), Refusal>
     ensures { TermRead (read_term_at s.now at) result }
 {
     if at >= s.len() {
-        return refuse(begin(at));
+        return Err(Refusal::WrongShape);
     }
     let m = s[at];
     if !bits_fit(m) {
-        return refuse(begin(at));
+        return Err(Refusal::WrongShape);
     }
     read_fields(s, at + 1, m)
 }

@@ -14,7 +14,6 @@ use Rattle.refusal.specs.Numbers.{number_of}
 use Rattle.lines.specs.declared.places.UnreadLine.{UnreadLine}
 use Rattle.declarations.specs.Names.{HeaderRead}
 use Rattle.declarations.specs.declared.Header.{Header}
-use Rattle.reduce_word.specs.declared.Lines.{Lines}
 use Rattle.reduce_word.specs.Told.{LinesTold}
 
 -- the forms of the lines behind the names
@@ -40,20 +39,21 @@ module _ (s : List ℕ) (h : Header) (names table : List ℕ) (r : HeaderRead s 
   unfolding reduce_input
   lines_are = ap (λ (x : Lined (L.Named × L.Place)). x >>> reduced s) r.is
 
-  module _ (l : Lines) (out : List ℕ)
-      (t : LinesTold s (reduce_lines (length s) (take h.count names) (take h.count table) (place_of s h.place) []) l out) where
-    -- a line is refused
-    module _ (m : l.refusal ≡ 0 → ⊥) where
-      pub line-column : l.column ≤ length (line_of (place_of s l.place))
-      line-column =
-          told-within (reduce_input s) l.refusal l.place.number l.column (line_of (place_of s l.place)) (reduce-within s) (lines_are ∙ t.refuses m)
+  -- a line is refused
+  module _ (e : UnreadLine) (before : List ℕ)
+      (t : LinesTold s (reduce_lines (length s) (take h.count names) (take h.count table) (place_of s h.place) []) (Err e) before) where
+    pub line-column : e.column ≤ length (line_of (place_of s e.place))
+    line-column =
+        told-within (reduce_input s) (number_of e.why) e.place.number e.column (line_of (place_of s e.place)) (reduce-within s) (lines_are ∙ t.is)
 
-      pub line-answer : (out' : List ℕ) (end : ℕ) → Told out' end (refusal_text l.refusal l.place.number l.column (line_of (place_of s l.place)))
-          → Told out' end (answer_text (reduce_input s))
-      line-answer out' end w =
-          answer_refused s l.refusal l.place.number l.column (line_of (place_of s l.place)) out' end (lines_are ∙ t.refuses m) w
+    pub line-answer : (n : ℕ) → n ≡ number_of e.why → (out : List ℕ) (end : ℕ) → Told out end (refusal_text n e.place.number e.column (line_of (place_of s e.place)))
+        → Told out end (answer_text (reduce_input s))
+    line-answer n q out end w =
+        answer_refused s n e.place.number e.column (line_of (place_of s e.place)) out end
+        (lines_are ∙ t.is ∙ ap (λ (m : ℕ). refused_in m e.place.number e.column (line_of (place_of s e.place))) (sym q)) w
 
-    -- all are told
-    pub forms-answer : l.refusal ≡ 0 → Told out l.end (answer_text (reduce_input s))
-    unfolding answer_text
-    forms-answer z = subst (λ (x : Lined (List ℕ)). Told out l.end (answer_text x)) (sym (lines_are ∙ t.gives z)) (t.told z)
+  -- all are told
+  pub forms-answer : (end : ℕ) (out : List ℕ) → LinesTold s (reduce_lines (length s) (take h.count names) (take h.count table) (place_of s h.place) []) (Ok end) out
+      → Told out end (answer_text (reduce_input s))
+  unfolding answer_text
+  forms-answer end out t = subst (λ (x : Lined (List ℕ)). Told out end (answer_text x)) (sym (lines_are ∙ t.is)) t.told

@@ -1,26 +1,28 @@
 -- The forms of lines, told one behind the other. Assumes nothing.
 use mathlib.Core.Path.{◌≡◌, refl, sym, ◌∙◌, ap, subst}
-use mathlib.Core.Bool.{Bool}
 use mathlib.Core.List.{List, [], ◌∷◌, ◌++◌, append_assoc}
 use Prim.Native.Nat.{ℕ, zero, suc, ◌-◌, ◌≤◌, ◌<◌}
 use native.Mathlib.Omega.{arith}
 use native.Mathlib.Numerals.{sub-one}
-use borrow.Author.Tests.{eq-eqb, ne_eqb}
+use borrow.Author.Tests.{ne_eqb}
 use lib.ListN.{length, take, drop, length-append, length-drop, drop_of_length-le}
 use lib.Seq.{take-append_seam}
-use Rattle.specification.specs.Results.{when◌then◌else◌}
 use Rattle.specification.specs.Terms as S
 use Rattle.specification.specs.Records.{write_into}
 use Rattle.specification.specs.Printing.{print_form, TextWritten}
-use Rattle.specification.specs.Text.{Placed, refused_at, placed, text_form}
+use Rattle.specification.specs.Text.{Placed, text_form}
 use Rattle.specification.specs.Lines as L
 use Rattle.specification.specs.Lines.{line_of, next_line, to_line, at_end, Lined, refused_in, lined, in_line, ◌>>>◌}
 use Rattle.specification.specs.Commands.{reduce_lines}
 use Rattle.terms.specs.Abstraction.{form_of}
 use Rattle.lines.specs.declared.places.Place.{Place}
 use Rattle.lines.specs.Places.{place_of, Inside, Reached}
-use Rattle.formula_call.specs.declared.TextForm.{TextForm}
-use Rattle.formula_call.specs.Texts.{text_form_of, TextGives}
+use Rattle.std.specs.Prelude.{Ok, Err}
+use Rattle.std.specs.Prelude as Std
+use Rattle.terms.specs.declared.types.Form.{Form}
+use Rattle.texts.specs.declared.Unread.{Unread}
+use Rattle.texts.specs.Readings.{placed_of}
+use Rattle.formula_call.specs.Texts.{TextGives}
 use Rattle.telling.specs.Told.{Told, Tells}
 use Rattle.telling.proofs.Pieces.{told-nothing}
 use Rattle.reduce_word.specs.Told.{LinesTold}
@@ -72,48 +74,43 @@ one_line (suc left) names table p before h n =
 
 module _ (s : List ℕ) (x : Lined (List ℕ)) (names table out : List ℕ) (left : ℕ) (q : Place) (end : ℕ) (h : LinesFrom s x names table out left q end) where
   -- told to the end
-  all_told : x ≡ lined h.text → LinesTold s x (record { refusal = 0; column = 0; place = q; end = end }) out
-  all_told e = record { refuses = λ n. absurd (n refl); text = h.text; gives = λ _. e; told = λ _. h.told; inside = h.inside }
+  all_told : x ≡ lined h.text → LinesTold s x (Ok end) out
+  all_told e = record { text = h.text; is = e; told = h.told; inside = tt }
 
   -- nothing is left
-  pub lines_end : length s ≤ q.at → LinesTold s x (record { refusal = 0; column = 0; place = q; end = end }) out
+  pub lines_end : length s ≤ q.at → LinesTold s x (Ok end) out
   lines_end l = all_told (h.same ∙ nothing_left_lem left names table q.number (drop q.at s) h.text (drop_of_length-le s l))
 
   -- no more are told
-  pub lines-done : left ≤ 0 → LinesTold s x (record { refusal = 0; column = 0; place = q; end = end }) out
+  pub lines-done : left ≤ 0 → LinesTold s x (Ok end) out
   unfolding reduce_lines
   lines-done z = let e : left ≡ 0 = omega arith in all_told (h.same ∙ ap (λ (k : ℕ). reduce_lines k names table (place_of s q) h.text) e)
 
-  module _ (k : 0 < left) (l : q.at < length s) (r : TextForm) (g : TextGives (text_form names table (line_of (place_of s q))) r) where
+  module _ (k : 0 < left) (l : q.at < length s) where
     abbrev after : S.Form → Lined (List ℕ)
     after f = reduce_lines (left - 1) names table (to_line (next_line (place_of s q))) (h.text ++ print_form names f.terms ++ 10 ∷ [])
 
-    turn : x ≡ (in_line (place_of s q) (text_form_of r) >>> after)
-    turn =
+    turn : (r : Std.Result Form Unread) → TextGives (text_form names table (line_of (place_of s q))) r → x ≡ (in_line (place_of s q) (placed_of form_of r) >>> after)
+    turn r g =
         h.same
         ∙ one_line left names table (place_of s q) h.text k (λ z. omega (arith, length-drop q.at s, ap length z))
         ∙ ap (λ (y : Placed S.Form). in_line (place_of s q) y >>> after) (sym g.is)
 
     -- the line is refused
-    pub lines_refused : (out' : List ℕ) → (r.refusal ≡ 0 → ⊥) → LinesTold s x (record { refusal = r.refusal; column = r.column; place = q; end = 0 }) out'
-    unfolding text_form_of in_line
-    lines_refused out' n = record {
-      refuses = λ _. turn ∙ rw (ne_eqb r.refusal 0 n);
-      text = [];
-      gives = λ e. absurd (n e);
-      told = λ e. absurd (n e);
-      inside = h.inside;
-    }
+    pub lines_refused : (out' : List ℕ) (e : Unread) → TextGives (text_form names table (line_of (place_of s q))) (Err e)
+        → LinesTold s x (Err (record { why = e.why; column = e.column; place = q })) out'
+    unfolding in_line
+    lines_refused out' e g = record { text = []; is = turn (Err e) g; told = tt; inside = h.inside }
 
     -- its form is told
-    pub lines_more : (out' : List ℕ) (end' : ℕ) (p : Place) (less : ℕ) → left ≡ suc less → r.refusal ≡ 0 → Tells out out' end end' (print_form names (form_of r.form).terms ++ 10 ∷ [])
+    pub lines_more : (f : Form) → TextGives (text_form names table (line_of (place_of s q))) (Ok f) → (out' : List ℕ) (end' : ℕ) (p : Place) (less : ℕ) → left ≡ suc less
+        → Tells out out' end end' (print_form names (form_of f).terms ++ 10 ∷ [])
         → Reached s (to_line (next_line (place_of s q))) p → LinesFrom s x names table out' less p end'
-    unfolding text_form_of in_line
-    lines_more out' end' p less m e t reached = record {
-      text = h.text ++ (print_form names (form_of r.form).terms ++ 10 ∷ []);
-      same = turn
-          ∙ ap (λ (b : Bool). in_line (place_of s q) (when b then placed (form_of r.form) else refused_at r.refusal r.column) >>> after) (eq-eqb r.refusal 0 e)
-          ∙ (λ i. reduce_lines (lower m i) names table (sym reached.is i) (append_assoc h.text (print_form names (form_of r.form).terms) (10 ∷ []) i));
+    unfolding in_line
+    lines_more f g out' end' p less m t reached = record {
+      text = h.text ++ (print_form names (form_of f).terms ++ 10 ∷ []);
+      same = turn (Ok f) g
+          ∙ (λ i. reduce_lines (lower m i) names table (sym reached.is i) (append_assoc h.text (print_form names (form_of f).terms) (10 ∷ []) i));
       told = t.is h.text h.told;
       inside = reached.inside;
     }

@@ -1,14 +1,15 @@
 -- Lines told into lent bytes. Assumes nothing.
-use Rattle.std.specs.Prelude.{◌≡◌, List, ℕ}
-use Rattle.specification.specs.Lines.{Lined, refused_in, lined, line_of}
-use Rattle.lines.specs.Places.{place_of, Inside}
+use Rattle.std.specs.Prelude.{◌≡◌, IfOk, IfErr, List, ℕ}
+use Rattle.std.specs.Prelude as Std
+use Rattle.specification.specs.Lines.{Lined}
+use Rattle.lines.specs.declared.places.UnreadLine.{UnreadLine}
+use Rattle.lines.specs.Places.{Inside}
+use Rattle.lines.specs.Readings.{lined_of}
 use Rattle.telling.specs.Told.{Told}
-use Rattle.reduce_word.specs.declared.Lines.{Lines}
 
 -- the first refusal with its column and its line's place, or the text told
-pub record LinesTold (s : List ℕ) (x : Lined (List ℕ)) (r : Lines) (out : List ℕ) : Type 0 where
-  pub refuses : (r.refusal ≡ 0 → ⊥) → x ≡ refused_in r.refusal r.place.number r.column (line_of (place_of s r.place))
+pub record LinesTold (s : List ℕ) (x : Lined (List ℕ)) (r : Std.Result ℕ UnreadLine) (out : List ℕ) : Type 0 where
   pub text : List ℕ
-  pub gives : r.refusal ≡ 0 → x ≡ lined text
-  pub told : r.refusal ≡ 0 → Told out r.end text
-  pub inside : Inside s r.place
+  pub is : x ≡ lined_of s (λ _. text) r
+  pub told : IfOk r (λ end. Told out end text)
+  pub inside : IfErr r (λ e. Inside s e.place)

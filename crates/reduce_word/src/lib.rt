@@ -13,7 +13,7 @@ ghost use Rattle.reduce_word.specs.Told.{LinesTold};
 
 use declarations::read_header;
 use formula_lines::form_at;
-use lines::places::{Place, line_behind};
+use lines::places::{Place, UnreadLine, line_behind};
 use printing::{LINE_BYTES, print_form};
 use refusals::tell_line;
 use telling::{put, put_byte};
@@ -30,17 +30,14 @@ fn tell_form(names: &[u8], out: &mut [u8], at: usize, f: Form) -> usize
     put_byte(out, next, b'\n')
 }
 
-// Lines told: a refusal with its column and the place of its line, or the position behind what was told.
-#[derive(Clone, Copy)]
-pub struct Lines {
-    pub refusal: u8,
-    pub column: usize,
-    pub place: Place,
-    pub end: usize,
-}
-
-// The forms of all lines from a place on.
-fn reduce_lines(names: &[u8], table: &[u8], s: &[u8], p: Place, out: &mut [u8]) -> Lines
+// The forms of all lines from a place on: the position behind what was told.
+fn reduce_lines(
+    names: &[u8],
+    table: &[u8],
+    s: &[u8],
+    p: Place,
+    out: &mut [u8],
+) -> Result<usize, UnreadLine>
     requires { GoodTable names.now table.now × Inside s.now p }
     ensures { LinesTold s.now (reduce_lines (length s.now) names.now table.now (place_of s.now p) []) result out.new }
 {
@@ -49,32 +46,23 @@ fn reduce_lines(names: &[u8], table: &[u8], s: &[u8], p: Place, out: &mut [u8]) 
     let mut end: usize = 0;
     for _ in 0..n {
         if q.at >= n {
-            return Lines {
-                refusal: 0,
-                column: 0,
-                place: q,
-                end,
-            };
+            return Ok(end);
         }
-        let r = form_at(names, table, s, q);
-        if r.refusal != 0 {
-            return Lines {
-                refusal: r.refusal,
-                column: r.column,
-                place: q,
-                end: 0,
-            };
+        match form_at(names, table, s, q) {
+            Ok(f) => {
+                end = tell_form(names, out, end, f);
+                q = line_behind(s, q);
+            }
+            Err(e) => {
+                return Err(UnreadLine {
+                    why: e.why,
+                    column: e.column,
+                    place: q,
+                });
+            }
         }
-        let f = r.form;
-        end = tell_form(names, out, end, f);
-        q = line_behind(s, q);
     }
-    Lines {
-        refusal: 0,
-        column: 0,
-        place: q,
-        end,
-    }
+    Ok(end)
 }
 
 // The answer to the word: all forms, or the first refusal alone. A position beyond the end of the bytes lent says that there is no room for it.
@@ -87,12 +75,9 @@ pub fn reduce_text(s: &[u8], out: &mut [u8]) -> usize
         Ok(h) => h,
         Err(e) => return tell_line(s, e.why.number(), e.place, e.column, out),
     };
-    let p = h.place;
     let n = h.count;
-    let r = reduce_lines(&names[..n], &table[..n], s, p, out);
-    if r.refusal != 0 {
-        let q = r.place;
-        return tell_line(s, r.refusal, q, r.column, out);
+    match reduce_lines(&names[..n], &table[..n], s, h.place, out) {
+        Ok(end) => end,
+        Err(e) => tell_line(s, e.why.number(), e.place, e.column, out),
     }
-    r.end
 }

@@ -11,7 +11,8 @@ use Rattle.specification.specs.Promises.{KeepsValue}
 use Rattle.theory.proofs.Records.Lengths.{form_short}
 use Rattle.theory.proofs.Reduction.Work.{ReducedTo, reduction_keeps_value}
 use Rattle.forms.proofs.FormCalls.{FormAnswered, form-answered, reads_back}
-use Rattle.reduction.specs.declared.Reduced.{Reduced}
+use Rattle.std.specs.Prelude as Std
+use Rattle.refusal.specs.declared.Refusal.{Refusal}
 use Rattle.reduction.specs.Answers.{reduced_of}
 
 -- a length was written: the form that is read back from so many bytes has, under every assignment, the value of the expression (`ReducedTo`)
@@ -22,7 +23,7 @@ pub record WrittenForm (table expr after : List ℕ) (n : ℕ) : Type 0 where
   pub reduced_to : ReducedTo table expr form
 
 -- P2 at the call: where `reduce` answers with a length, so many bytes are the record of a form with the expression's value under every assignment of integers
-pub reduce_keeps_value : (table expr out after : List ℕ) (r : Reduced) (n : ℕ) → ◌≡◌ {A = Result ℕ × List ℕ} (reduced_of r, after) (reduce_call table expr out) → reduced_of r ≡ given n
+pub reduce_keeps_value : (table expr out after : List ℕ) (r : Std.Result ℕ Refusal) (n : ℕ) → ◌≡◌ {A = Result ℕ × List ℕ} (reduced_of r, after) (reduce_call table expr out) → reduced_of r ≡ given n
     → WrittenForm table expr after n
 unfolding reduce_call
 reduce_keeps_value table expr out after r n h e =
@@ -36,7 +37,7 @@ reduce_keeps_value table expr out after r n h e =
     }
 
 -- what is promised of the bytes written
-pub keeps_value : (table expr out after : List ℕ) (r : Reduced) → ◌≡◌ {A = Result ℕ × List ℕ} (reduced_of r, after) (reduce_call table expr out)
+pub keeps_value : (table expr out after : List ℕ) (r : Std.Result ℕ Refusal) → ◌≡◌ {A = Result ℕ × List ℕ} (reduced_of r, after) (reduce_call table expr out)
     → (n : ℕ) → reduced_of r ≡ given n → KeepsValue table expr (take n after)
 keeps_value table expr out after r h n e =
     let w = reduce_keeps_value table expr out after r n h e in

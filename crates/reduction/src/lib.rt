@@ -9,52 +9,36 @@ ghost use Rattle.reduction.specs.Answers.{reduced_of};
 use expressions::trees::read_tree;
 use forms::{FORM_BYTES, write_form};
 use letters::check_table;
-use rows::outcome;
-use terms::build::refuse;
-use terms::types::Outcome;
+use refusal::Refusal;
+use rows;
+use terms::types::Form;
 
-// A call's answer: the length of the record written, or the number of the refusal.
-#[derive(Clone, Copy)]
-pub enum Reduced {
-    Written(usize),
-    Refused(u8),
-}
-
-// The form of an expression: over 512 bytes is 3, bytes left over are 4; reading precedes working.
-pub fn form_of(table: &[u8], s: &[u8]) -> Outcome
+// The form of an expression of at most 512 bytes, read whole: reading precedes working.
+pub fn form_of(table: &[u8], s: &[u8]) -> Result<Form, Refusal>
     ensures { Gives (reduced table.now s.now) result }
 {
     if s.len() > 512 {
-        return refuse(3);
+        return Err(Refusal::TooLong);
     }
     let z = [0u32; 8];
     let mut rows = [z; 48];
     let mut coefs = [0i64; 48];
-    let t = read_tree(table, s, 0, 16, &mut rows, &mut coefs);
-    if t.unread != 0 {
-        return refuse(t.unread);
-    }
+    let t = read_tree(table, s, 0, 16, &mut rows, &mut coefs)?;
     if t.next != s.len() {
-        return refuse(4);
+        return Err(Refusal::Torn);
     }
-    outcome(t.work, &rows, &coefs)
+    let w = t.work?;
+    Ok(rows::form_of(w.kind, &rows, &coefs, w.count))
 }
 
-// The call: 1, 2, then contents; the record of the form is written into the bytes lent.
-pub fn reduce(table: &[u8], s: &[u8], out: &mut [u8]) -> Reduced
+// The call: the table, the room, then contents; the record of the form is written into the bytes lent, and its length is the answer.
+pub fn reduce(table: &[u8], s: &[u8], out: &mut [u8]) -> Result<usize, Refusal>
     ensures { (reduced_of result, out.new) ≡ reduce_call table.now s.now out.old }
 {
-    let c = check_table(table);
-    if c != 0 {
-        return Reduced::Refused(c);
-    }
+    check_table(table)?;
     if out.len() < FORM_BYTES {
-        return Reduced::Refused(2);
+        return Err(Refusal::NoRoom);
     }
-    let w = form_of(table, s);
-    let n = w.refusal;
-    if n != 0 {
-        return Reduced::Refused(n);
-    }
-    Reduced::Written(write_form(out, w.form))
+    let f = form_of(table, s)?;
+    Ok(write_form(out, f))
 }

@@ -7,15 +7,14 @@ ghost use Rattle.std.specs.Prelude.{◌<◌, length};
 
 use case_lines::{assignment_length, byte_at, print_character, print_form, print_refusal};
 use forms::FORM_BYTES;
-use reduction::{Reduced, reduce};
+use reduction::reduce;
 
 // The line of a case.
 fn print_case(table: &[u8], expression: &[u8], assignment: &[u8]) {
     let mut out = [0u8; FORM_BYTES];
-    let r = reduce(table, expression, &mut out);
-    match r {
-        Reduced::Written(n) => print_form(table, &out[..n], assignment),
-        Reduced::Refused(n) => print_refusal(n),
+    match reduce(table, expression, &mut out) {
+        Ok(n) => print_form(table, &out[..n], assignment),
+        Err(why) => print_refusal(why),
     }
     print_character(b'\n');
 }

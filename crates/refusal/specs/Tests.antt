@@ -12,5 +12,4 @@ answer_of see (Err e) = refused (number_of e)
 
 -- a test: passed, or refused
 abbrev pub test_of : Std.Result (Unit {0}) Refusal → Test
-test_of (Ok u) = given tt
-test_of (Err e) = refused (number_of e)
+test_of r = answer_of (λ _. tt) r

@@ -14,7 +14,7 @@ use Rattle.specification.specs.Terms as S
 use Rattle.specification.specs.Terms.{plus, factor_in_shape}
 use Rattle.specification.specs.Reduction.{dot_forms, wedge_forms, triple_forms, letter_form, work_with}
 use Rattle.specification.specs.Insertion.{factor_tree, leaf_with}
-use Rattle.theory.specs.Tests.{refused≢given, given_same}
+use Rattle.theory.specs.Tests.{given_same}
 use Rattle.theory.specs.Shape.Forms.{FormInShape}
 use Rattle.theory.specs.Reduction.Standing.{factor_has, part_with, one_term, one_factor_in_shape, factor-stands}
 use Rattle.terms.specs.declared.factors.Factor.{Factor}
@@ -25,6 +25,9 @@ use Rattle.terms.specs.declared.types.Term.{Term}
 use Rattle.terms.specs.Numbers.{letters_of}
 use Rattle.terms.specs.Abstraction.{factor_of, part_of, term_of}
 use Rattle.terms.proofs.Letters.{dot_is, triple_is, nothing_is, letter_is, wedge_is}
+use Rattle.std.specs.Prelude.{Ok}
+use Rattle.std.specs.Prelude as Std
+use Rattle.refusal.specs.declared.Refusal.{Refusal}
 use Rattle.rows.specs.declared.Worked.{Worked}
 use Rattle.rows.specs.Rows.{form_by, Copied, FormRun, RowsGive}
 use Rattle.rows.proofs.RowForms.{rows_as, run-copied, form-copied}
@@ -33,22 +36,12 @@ use Rattle.leaves.proofs.Single.{none_gives}
 
 -- ════ what is given stands in the rows
 
-module _ (f : S.Form) (w : Worked) (rows : List (List ℕ)) (coefs : List ℤ) (g : RowsGive (given f) w rows coefs) where
-  -- it is not refused
-  pub given_stands : w.refusal ≡ 0
-  given_stands = go (eqb w.refusal 0) refl
-    where
-      go : (b : Bool) → eqb w.refusal 0 ≡ b → w.refusal ≡ 0
-      go true e = eqb-true w.refusal 0 e
-      go false e = absurd (refused≢given (sym (g.refuses (eqb-false w.refusal 0 e))))
-
-  -- the rows stand for it
+module _ (f : S.Form) (w : Worked) (rows : List (List ℕ)) (coefs : List ℤ) (g : RowsGive (given f) (Ok w) rows coefs) where
+  -- it is the form that stands in the rows
   pub given_is : form_by w.kind w.count rows coefs ≡ f
-  given_is = sym (given_same (g.gives given_stands))
+  given_is = given_same g.is
 
--- ════ a letter
-
-module _ (x letter : ℕ) (inserted : S.Form) (w : Worked) (rows : List (List ℕ)) (coefs : List ℤ) where
+module _ (x letter : ℕ) (inserted : S.Form) (w : Std.Result Worked Refusal) (rows : List (List ℕ)) (coefs : List ℤ) where
   -- another letter is itself
   pub leaf-other : (x ≡ letter → ⊥) → RowsGive (given (letter_form x 1)) w rows coefs → RowsGive (given (leaf_with letter inserted x 1)) w rows coefs
   unfolding leaf_with
@@ -62,26 +55,25 @@ module _ (x letter : ℕ) (inserted : S.Form) (w : Worked) (rows : List (List �
 -- a form that is copied
 pub copied_gives : (kind m : ℕ) (right : List (List ℕ)) (rights : List ℤ) (rows : List (List ℕ)) (coefs : List ℤ) → FormRun kind m right rights
     → m ≤ length rows → m ≤ length coefs → Copied m right rights rows coefs
-    → RowsGive (given (form_by kind m right rights)) (record { refusal = 0; kind = kind; count = m }) rows coefs
+    → RowsGive (given (form_by kind m right rights)) (Ok (record { kind = kind; count = m })) rows coefs
 copied_gives kind m right rights rows coefs v hr hc c = record {
-  refuses = λ h. absurd (h refl);
-  gives = λ _. ap (λ (ts : List S.Term). given (record { kind = kind; terms = ts })) (sym (run-copied m right rights rows coefs c));
-  form = λ _. form-copied m right rights rows coefs c kind hr hc v;
+  is = ap (λ (ts : List S.Term). given (record { kind = kind; terms = ts })) (run-copied m right rights rows coefs c);
+  form = form-copied m right rights rows coefs c kind hr hc v;
 }
 
 -- ════ operators on letters
 
 module _ (f g : S.Form) (a b : Worked) (rows more : List (List ℕ)) (coefs beside : List ℤ)
-    (p : RowsGive (given f) a rows coefs) (q : RowsGive (given g) b more beside) where
+    (p : RowsGive (given f) (Ok a) rows coefs) (q : RowsGive (given g) (Ok b) more beside) where
   -- an operator on two given forms
-  pub two_given : (op : S.Form → S.Form → Result S.Form) (w : Worked) (rows' : List (List ℕ)) (coefs' : List ℤ)
+  pub two_given : (op : S.Form → S.Form → Result S.Form) (w : Std.Result Worked Refusal) (rows' : List (List ℕ)) (coefs' : List ℤ)
       → RowsGive (op (form_by a.kind a.count rows coefs) (form_by b.kind b.count more beside)) w rows' coefs'
       → RowsGive (op f g) w rows' coefs'
   two_given op w rows' coefs' = rows_as _ _ w rows' coefs' (λ j. op (given_is f a rows coefs p j) (given_is g b more beside q j))
 
   -- and a third
-  pub three_given : (h : S.Form) (d : Worked) (third : List (List ℕ)) (thirds : List ℤ) → RowsGive (given h) d third thirds
-      → (op : S.Form → S.Form → S.Form → Result S.Form) (w : Worked) (rows' : List (List ℕ)) (coefs' : List ℤ)
+  pub three_given : (h : S.Form) (d : Worked) (third : List (List ℕ)) (thirds : List ℤ) → RowsGive (given h) (Ok d) third thirds
+      → (op : S.Form → S.Form → S.Form → Result S.Form) (w : Std.Result Worked Refusal) (rows' : List (List ℕ)) (coefs' : List ℤ)
       → RowsGive (op (form_by a.kind a.count rows coefs) (form_by b.kind b.count more beside) (form_by d.kind d.count third thirds)) w
       rows' coefs'
       → RowsGive (op f g h) w rows' coefs'
@@ -96,14 +88,14 @@ module _ (k : ℕ) (shape : T (factor_in_shape (letters_of k))) (t : Term) (m : 
   factor-alone = subst (λ (u : S.Term). FormInShape (one_term 0 u)) (sym m.is) (one_factor_in_shape (letters_of k) shape)
 
   -- without the letter it is itself
-  pub factor-without : (letter : ℕ) (inserted : S.Form) (w : Worked) (rows : List (List ℕ)) (coefs : List ℤ) → factor_has letter (letters_of k) ≡ false
+  pub factor-without : (letter : ℕ) (inserted : S.Form) (w : Std.Result Worked Refusal) (rows : List (List ℕ)) (coefs : List ℤ) → factor_has letter (letters_of k) ≡ false
       → RowsGive (given (record { kind = 0; terms = term_of t ∷ [] })) w rows coefs
       → RowsGive (work_with (leaf_with letter inserted) (factor_tree (letters_of k))) w rows coefs
   factor-without letter inserted w rows coefs e =
       rows_as _ _ w rows coefs
       (ap (λ (u : S.Term). given (one_term 0 u)) m.is ∙ sym (factor-stands letter inserted (letters_of k) shape e))
 
-module _ (k : ℕ) (f : Factor) (e : factor_of f ≡ letters_of k) (letter : ℕ) (inserted : S.Form) (w : Worked) (rows : List (List ℕ))
+module _ (k : ℕ) (f : Factor) (e : factor_of f ≡ letters_of k) (letter : ℕ) (inserted : S.Form) (w : Std.Result Worked Refusal) (rows : List (List ℕ))
     (coefs : List ℤ) where
   by-letters : (l : List ℕ) (r : Result S.Form) → letters_of k ≡ l → work_with (leaf_with letter inserted) (factor_tree l) ≡ r → RowsGive r w rows coefs
       → RowsGive (work_with (leaf_with letter inserted) (factor_tree (letters_of k))) w rows coefs
@@ -131,17 +123,17 @@ empty-shape = record { kind = omega arith; count = omega arith; terms = tt; part
 
 module _ (leaf : (n kind : ℕ) → S.Form) (p : Part) (rows : List (List ℕ)) (coefs : List ℤ) where
   -- none is the empty scalar form
-  pub part_none : p ≡ Nothing → RowsGive (part_with leaf (part_of p)) (record { refusal = 0; kind = 0; count = 0 }) rows coefs
+  pub part_none : p ≡ Nothing → RowsGive (part_with leaf (part_of p)) (Ok (record { kind = 0; count = 0 })) rows coefs
   unfolding part_with
   part_none h = rows_as _ _ _ rows coefs (sym (ap (part_with leaf) (nothing_is p h))) (none_gives 0 rows coefs empty-shape)
 
   -- a letter
-  pub part-letter : (x : ℕ) (w : Worked) → p ≡ Letter x → RowsGive (given (leaf x 1)) w rows coefs → RowsGive (part_with leaf (part_of p)) w rows coefs
+  pub part-letter : (x : ℕ) (w : Std.Result Worked Refusal) → p ≡ Letter x → RowsGive (given (leaf x 1)) w rows coefs → RowsGive (part_with leaf (part_of p)) w rows coefs
   unfolding part_with
   part-letter x w h = rows_as _ _ w rows coefs (sym (ap (part_with leaf) (letter_is p x h)))
 
   -- a wedge of letters
-  pub part-wedge : (x y : ℕ) (w : Worked) → p ≡ Wedge x y → RowsGive (wedge_forms (leaf x 1) (leaf y 1)) w rows coefs
+  pub part-wedge : (x y : ℕ) (w : Std.Result Worked Refusal) → p ≡ Wedge x y → RowsGive (wedge_forms (leaf x 1) (leaf y 1)) w rows coefs
       → RowsGive (part_with leaf (part_of p)) w rows coefs
   unfolding part_with
   part-wedge x y w h = rows_as _ _ w rows coefs (sym (ap (part_with leaf) (wedge_is p x y h)))

@@ -19,6 +19,8 @@ use Rattle.terms.specs.Numbers.{letters_of}
 use Rattle.terms.specs.Abstraction.{term_of}
 use Rattle.terms.specs.Valid.{TermValid}
 use Rattle.terms.proofs.Arrays.{all-at, rest_at, nothing_left_lem, map-drop}
+use Rattle.std.specs.Prelude.{Ok, Err}
+use Rattle.refusal.specs.declared.Refusal.{Refusal}
 use Rattle.rows.specs.declared.Worked.{Worked}
 use Rattle.rows.specs.Rows.{form_by, FormRun, RowsGive}
 use Rattle.rows.proofs.RowForms.{rows_as}
@@ -32,7 +34,6 @@ module _ {A : Type 0} (chain : S.Form → List A → Result S.Form) (op : S.Form
     (first : (x : S.Form) (a : A) (bs : List A) → chain x (a ∷ bs) ≡ (op x a >>= λ y. chain y bs)) where
   -- so many are left, and what stands in the rows is the form so far
   pub record Left (total : Result S.Form) (bs : List A) (w : Worked) (rows : List (List ℕ)) (coefs : List ℤ) : Type 0 where
-    pub passed : w.refusal ≡ 0
     pub form : FormRun w.kind w.count rows coefs
     pub is : total ≡ chain (form_by w.kind w.count rows coefs) bs
 
@@ -42,24 +43,24 @@ module _ {A : Type 0} (chain : S.Form → List A → Result S.Form) (op : S.Form
   left_as total cs bs w rows coefs e = subst (λ (l : List A). Left total l w rows coefs) e
 
   module _ (total : Result S.Form) (a : A) (bs : List A) (x : Worked) (rows : List (List ℕ)) (coefs : List ℤ) (l : Left total (a ∷ bs) x rows coefs)
-      (w : Worked) (rows' : List (List ℕ)) (coefs' : List ℤ) (g : RowsGive (op (form_by x.kind x.count rows coefs) a) w rows' coefs') where
+      (rows' : List (List ℕ)) (coefs' : List ℤ) where
     so_far : total ≡ (op (form_by x.kind x.count rows coefs) a >>= λ y. chain y bs)
     so_far = l.is ∙ first (form_by x.kind x.count rows coefs) a bs
 
     -- one is refused, and with it the whole
-    pub turn_refused : (w.refusal ≡ 0 → ⊥) → RowsGive total w rows' coefs'
-    turn_refused h = rows_as _ total w rows' coefs' (sym so_far) (refused_on (λ y. chain y bs) _ w rows' coefs' g rows' coefs' h)
+    pub turn_refused : (e : Refusal) → RowsGive (op (form_by x.kind x.count rows coefs) a) (Err e) rows' coefs' → RowsGive total (Err e) rows' coefs'
+    turn_refused e g = rows_as _ total (Err e) rows' coefs' (sym so_far) (refused_on (λ y. chain y bs) _ rows' coefs' e g rows' coefs')
 
     -- one is taken
-    pub turn_taken : w.refusal ≡ 0 → Left total bs w rows' coefs'
-    turn_taken z = record { passed = z; form = g.form z; is = so_far ∙ ap (λ (r : Result S.Form). r >>= λ y. chain y bs) (g.gives z) }
+    pub turn_taken : (w : Worked) → RowsGive (op (form_by x.kind x.count rows coefs) a) (Ok w) rows' coefs' → Left total bs w rows' coefs'
+    turn_taken w g = record { form = g.form; is = so_far ∙ ap (λ (r : Result S.Form). r >>= λ y. chain y bs) (sym g.is) }
 
   -- none is left
   pub turns-done : (total : Result S.Form) (bs : List A) (w : Worked) (rows : List (List ℕ)) (coefs : List ℤ) → bs ≡ [] → Left total bs w rows coefs
-      → RowsGive total w rows coefs
+      → RowsGive total (Ok w) rows coefs
   turns-done total bs w rows coefs e l =
-      rows_as _ total w rows coefs (sym (l.is ∙ ap (chain (form_by w.kind w.count rows coefs)) e ∙ none (form_by w.kind w.count rows coefs)))
-      (stands_so w rows coefs l.passed l.form)
+      rows_as _ total (Ok w) rows coefs (sym (l.is ∙ ap (chain (form_by w.kind w.count rows coefs)) e ∙ none (form_by w.kind w.count rows coefs)))
+      (stands_so w rows coefs l.form)
 
 -- two results, one behind the other
 behind-another : (r : Result S.Form) (j k : S.Form → Result S.Form) → (r >>= λ y. (j y >>= k)) ≡ ((r >>= j) >>= k)
@@ -87,25 +88,19 @@ module _ (leaf : (n kind : ℕ) → S.Form) where
 
 -- ════ the factors of a term, by how many are left
 
--- those left
-abbrev pub factors_left : (f : List ℕ) (n left : ℕ) → List (List ℕ)
-factors_left f n left = drop (n - left) (map letters_of (take n f))
+-- the factors of the first n from the i-th on
+abbrev pub factors_from : (f : List ℕ) (n i : ℕ) → List (List ℕ)
+factors_from f n i = drop i (map letters_of (take n f))
 
 -- one of them is the first
-pub factor_next : (f : List ℕ) (n left : ℕ) → n ≤ length f → left ≤ n → 0 < left → factors_left f n left ≡ letters_of (get_or f (n - left) 0) ∷ factors_left f n (left - 1)
-factor_next f n left h l p =
-    let e : n - left + 1 ≡ n - (left - 1) = omega arith in
-    sym (map-drop letters_of (n - left) (take n f)) ∙ ap (map letters_of) (rest_at f n (n - left) 0 h (omega arith))
-    ∙ ap (λ (l : List (List ℕ)). letters_of (get_or f (n - left) 0) ∷ l) (map-drop letters_of (n - left + 1) (take n f) ∙ ap (λ (k : ℕ). drop k (map letters_of (take n f))) e)
+pub factor_next : (f : List ℕ) (n i : ℕ) → n ≤ length f → i < n → factors_from f n i ≡ letters_of (get_or f i 0) ∷ factors_from f n (i + 1)
+factor_next f n i h p =
+    sym (map-drop letters_of i (take n f)) ∙ ap (map letters_of) (rest_at f n i 0 h p)
+    ∙ ap (λ (l : List (List ℕ)). letters_of (get_or f i 0) ∷ l) (map-drop letters_of (i + 1) (take n f))
 
 -- none is left
-pub factors_none : (f : List ℕ) (n left : ℕ) → n ≤ length f → left ≡ 0 → factors_left f n left ≡ []
-factors_none f n left h e =
-    sym (map-drop letters_of (n - left) (take n f)) ∙ ap (map letters_of) (nothing_left_lem f n (n - left) h (omega arith))
-
--- all behind the first k are left
-pub factors-behind : (f : List ℕ) (n k : ℕ) → k ≤ n → drop k (map letters_of (take n f)) ≡ factors_left f n (n - k)
-factors-behind f n k h = let e : k ≡ n - (n - k) = omega arith in ap (λ (j : ℕ). drop j (map letters_of (take n f))) e
+pub factors_none : (f : List ℕ) (n i : ℕ) → n ≤ length f → n ≤ i → factors_from f n i ≡ []
+factors_none f n i h e = sym (map-drop letters_of i (take n f)) ∙ ap (map letters_of) (nothing_left_lem f n i h e)
 
 -- each factor of a valid term is in shape
 pub factor_at_lem : (t : Term) (i : ℕ) → TermValid t → t.factor_count ≤ length t.factors → i < t.factor_count

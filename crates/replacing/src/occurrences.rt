@@ -38,12 +38,10 @@ pub fn leading(f: &[u32; 7], n: u8, letter: u8) -> usize
     ensures { result ≡ leading_of letter (map letters_of (take n f.now)) }
 {
     let m = n as usize;
-    let mut i: usize = 0;
-    while i < m {
+    for i in 0..m {
         if factor_has(f[i], letter) {
             return i;
         }
-        i += 1;
     }
     m
 }

@@ -1,6 +1,6 @@
 // Letters, factors and vector parts worked in lent rows, another form in m rows standing for one letter, and what stands in the rows multiplied by them.
 // A factor without the letter is taken as it is.
-ghost use Rattle.std.specs.Prelude.{◌≡◌, ◌≤◌, ◌<◌, T, length};
+ghost use Rattle.std.specs.Prelude.{Ok, ◌≡◌, ◌≤◌, ◌<◌, T, length};
 ghost use Rattle.specification.specs.Results.{Result, given};
 ghost use Rattle.specification.specs.Terms as S;
 ghost use Rattle.specification.specs.Terms.{factor_in_shape};
@@ -15,6 +15,7 @@ ghost use Rattle.replacing.specs.Replacing.{leaf_by, Replaces, times_result, tim
 use crate::occurrences::factor_has;
 use leaves::{alone, bare, only_factor};
 use operators::products::{dot, times, triple, wedge};
+use refusal::Refusal;
 use rows::{Worked, copy};
 use terms::factors::{Factor, letters_of};
 use terms::shape::part_letters;
@@ -33,18 +34,13 @@ fn leaf(
     coefs: &mut [i64],
 ) -> Worked
     requires { Replaces m right.now rights.now rows.old coefs.old }
-    ensures { RowsGive (given (leaf_by replaced m right.now rights.now x 1)) result rows.new coefs.new }
+    ensures { RowsGive (given (leaf_by replaced m right.now rights.now x 1)) (Ok result) rows.new coefs.new }
 {
     if x != replaced {
-        let p = Part::Letter(x);
-        return alone(1, bare(1, p), rows, coefs);
+        return alone(1, bare(1, Part::Letter(x)), rows, coefs);
     }
     copy(m, right, rights, rows, coefs);
-    Worked {
-        refusal: 0,
-        kind: 1,
-        count: m,
-    }
+    Worked { kind: 1, count: m }
 }
 
 // The dot of two letters.
@@ -57,7 +53,7 @@ fn work_dot(
     rights: &[i64],
     rows: &mut [[u32; 8]],
     coefs: &mut [i64],
-) -> Worked
+) -> Result<Worked, Refusal>
     requires { Replaces m right.now rights.now rows.old coefs.old }
     ensures { RowsGive (dot_forms (leaf_by replaced m right.now rights.now x 1)
         (leaf_by replaced m right.now rights.now y 1)) result rows.new coefs.new }
@@ -82,7 +78,7 @@ fn work_wedge(
     rights: &[i64],
     rows: &mut [[u32; 8]],
     coefs: &mut [i64],
-) -> Worked
+) -> Result<Worked, Refusal>
     requires { Replaces m right.now rights.now rows.old coefs.old }
     ensures { RowsGive (wedge_forms (leaf_by replaced m right.now rights.now x 1)
         (leaf_by replaced m right.now rights.now y 1)) result rows.new coefs.new }
@@ -108,7 +104,7 @@ fn work_triple(
     rights: &[i64],
     rows: &mut [[u32; 8]],
     coefs: &mut [i64],
-) -> Worked
+) -> Result<Worked, Refusal>
     requires { Replaces m right.now rights.now rows.old coefs.old }
     ensures { RowsGive (triple_forms (leaf_by replaced m right.now rights.now x 1)
         (leaf_by replaced m right.now rights.now y 1) (leaf_by replaced m right.now rights.now z 1)) result
@@ -137,17 +133,16 @@ fn work_factor(
     rights: &[i64],
     rows: &mut [[u32; 8]],
     coefs: &mut [i64],
-) -> Worked
+) -> Result<Worked, Refusal>
     requires { (k < 16843008) × T (factor_in_shape (letters_of k)) × Replaces m right.now rights.now rows.old coefs.old }
     ensures { RowsGive (work_with (leaf_by replaced m right.now rights.now) (factor_tree (letters_of k))) result
         rows.new coefs.new }
 {
     if !factor_has(k, replaced) {
-        return alone(0, only_factor(k), rows, coefs);
+        return Ok(alone(0, only_factor(k), rows, coefs));
     }
-    let f = letters_of(k);
-    match f {
-        Factor::Scalar(_) => alone(0, only_factor(k), rows, coefs),
+    match letters_of(k) {
+        Factor::Scalar(_) => Ok(alone(0, only_factor(k), rows, coefs)),
         Factor::Dot(x, y) => work_dot(x, y, replaced, m, right, rights, rows, coefs),
         Factor::Triple(x, y, z) => work_triple(x, y, z, replaced, m, right, rights, rows, coefs),
     }
@@ -162,42 +157,18 @@ fn work_part(
     rights: &[i64],
     rows: &mut [[u32; 8]],
     coefs: &mut [i64],
-) -> Worked
+) -> Result<Worked, Refusal>
     requires { Replaces m right.now rights.now rows.old coefs.old }
     ensures { RowsGive (part_with (leaf_by replaced m right.now rights.now) (part_of p)) result rows.new coefs.new }
 {
     match p {
-        Part::Nothing => Worked {
-            refusal: 0,
-            kind: 0,
-            count: 0,
-        },
-        Part::Letter(x) => leaf(x, replaced, m, right, rights, rows, coefs),
+        Part::Nothing => Ok(Worked { kind: 0, count: 0 }),
+        Part::Letter(x) => Ok(leaf(x, replaced, m, right, rights, rows, coefs)),
         Part::Wedge(x, y) => work_wedge(x, y, replaced, m, right, rights, rows, coefs),
     }
 }
 
 // ════ products
-
-// What stands in the rows times what was worked in others.
-fn times_worked(
-    x: Worked,
-    rows: &mut [[u32; 8]],
-    coefs: &mut [i64],
-    y: Worked,
-    more: &[[u32; 8]],
-    beside: &[i64],
-) -> Worked
-    requires { FormRun x.kind x.count rows.old coefs.old × (48 ≤ length rows.old) × (48 ≤ length coefs.old)
-        × (y.refusal ≡ 0 → FormRun y.kind y.count more.now beside.now) }
-    ensures { (r : Result S.Form) → RowsGive r y more.now beside.now
-        → RowsGive (times_result (form_by x.kind x.count rows.old coefs.old) r) result rows.new coefs.new }
-{
-    if y.refusal != 0 {
-        return y;
-    }
-    times(x.kind, x.count, rows, coefs, y.kind, y.count, more, beside)
-}
 
 // What stands in the rows times a factor.
 pub fn times_factor(
@@ -209,7 +180,7 @@ pub fn times_factor(
     rights: &[i64],
     rows: &mut [[u32; 8]],
     coefs: &mut [i64],
-) -> Worked
+) -> Result<Worked, Refusal>
     requires { (k < 16843008) × T (factor_in_shape (letters_of k)) × Replaces m right.now rights.now rows.old coefs.old
         × FormRun x.kind x.count rows.old coefs.old }
     ensures { RowsGive (times_factor (leaf_by replaced m right.now rights.now)
@@ -218,8 +189,10 @@ pub fn times_factor(
     let e = [0u32; 8];
     let mut more = [e; 48];
     let mut beside = [0i64; 48];
-    let y = work_factor(k, replaced, m, right, rights, &mut more, &mut beside);
-    times_worked(x, rows, coefs, y, &more, &beside)
+    let y = work_factor(k, replaced, m, right, rights, &mut more, &mut beside)?;
+    times(
+        x.kind, x.count, rows, coefs, y.kind, y.count, &more, &beside,
+    )
 }
 
 // What stands in the rows times a vector part, where there is one.
@@ -232,17 +205,19 @@ pub fn times_part(
     rights: &[i64],
     rows: &mut [[u32; 8]],
     coefs: &mut [i64],
-) -> Worked
-    requires { Replaces m right.now rights.now rows.old coefs.old × FormRun x.kind x.count rows.old coefs.old × (x.refusal ≡ 0) }
+) -> Result<Worked, Refusal>
+    requires { Replaces m right.now rights.now rows.old coefs.old × FormRun x.kind x.count rows.old coefs.old }
     ensures { RowsGive (times_part_with (leaf_by replaced m right.now rights.now)
         (form_by x.kind x.count rows.old coefs.old) (part_of p)) result rows.new coefs.new }
 {
     if part_letters(p) == 0 {
-        return x;
+        return Ok(x);
     }
     let e = [0u32; 8];
     let mut more = [e; 48];
     let mut beside = [0i64; 48];
-    let y = work_part(p, replaced, m, right, rights, &mut more, &mut beside);
-    times_worked(x, rows, coefs, y, &more, &beside)
+    let y = work_part(p, replaced, m, right, rights, &mut more, &mut beside)?;
+    times(
+        x.kind, x.count, rows, coefs, y.kind, y.count, &more, &beside,
+    )
 }

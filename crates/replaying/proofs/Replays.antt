@@ -17,35 +17,41 @@ use Rattle.specification.specs.Logs as L
 use Rattle.theory.specs.Tests.{and-false}
 use Rattle.terms.specs.declared.types.Term.{Term}
 use Rattle.terms.specs.declared.types.Form.{Form}
-use Rattle.terms.specs.declared.order.Order.{Order}
+use Rattle.std.specs.declared.cmp.Ordering.{Ordering}
+use Rattle.std.specs.Prelude.{Ok, Err}
+use Rattle.std.specs.Prelude as Std
+use Rattle.refusal.specs.declared.Refusal.{Refusal}
+use Rattle.refusal.specs.declared.Refusal.TheVariants.{OtherForm}
+use Rattle.refusal.specs.Numbers.{number_of}
+use Rattle.refusal.specs.Tests.{answer_of}
+use Rattle.logs.specs.declared.steps.RefusedAt.{RefusedAt}
+use Rattle.logs.specs.Steps as Steps
+use Rattle.logs.proofs.AtSteps.{ends_at, goes_on_at}
 use Rattle.terms.specs.Abstraction.{term_of, form_of, ordering_of}
 use Rattle.terms.proofs.Arrays.{no_term, rest_at, map-drop}
 use Rattle.rows.specs.Rows.{term_by, form_by}
 use Rattle.rules.specs.declared.steps.Step.{Step}
 use Rattle.logs.specs.Steps.{steps_of, found_of}
-use Rattle.logs.proofs.StepLetters.{found, steps_from, here, one_left, none_left}
+use Rattle.logs.proofs.StepLetters.{steps_from, here, one_left, none_left}
 use Rattle.logs.specs.declared.steps.Steps.{Steps}
-use Rattle.replaying.specs.declared.Reached.{Reached}
 use Rattle.replaying.specs.Replaying.{same_term, ReachedAs, ReplayedAs}
 
 -- ════ steps taken
 
 module _ (q : List Step) (n i : ℕ) (h : n ≤ length q) where
-  module _ (current : S.Form) (k : ℕ) (log : Log) where
-    -- the step at a place is refused
-    pub step-fails : (r : ℕ) (rest : L.Checked) → i < n → (r ≡ 0 → ⊥) → take_step current (here q n i h) ≡ refused r
-        → replay log k current (steps_from q n i) ≡ found_of r k rest
+  module _ (current : S.Form) (k : ℕ) (log : Log) (g : i < n) {A : Type 0} (see : A → S.Form) (r : Std.Result A Refusal)
+      (e : answer_of see r ≡ take_step current (here q n i h)) where
+    by_step : replay log k current (steps_from q n i) ≡ at_step k (answer_of see r) (λ f. replay log (k + 1) f (steps_from q n (i + 1)))
     unfolding replay
-    step-fails r rest g z e =
-        ap (replay log k current) (one_left q n i h g) ∙ ap (λ (x : Result S.Form). at_step k x (λ f. replay log (k + 1) f (steps_from q n (i + 1)))) e
-        ∙ found r k rest z
+    by_step = ap (replay log k current) (one_left q n i h g) ∙ ap (λ (x : Result S.Form). at_step k x (λ f. replay log (k + 1) f (steps_from q n (i + 1)))) (sym e)
+
+    -- the step at a place is refused
+    pub step-fails : (w : RefusedAt) → Err w ≡ Steps.at_step r k → replay log k current (steps_from q n i) ≡ refused_at (number_of w.why) w.step
+    step-fails w z = by_step ∙ ends_at see k _ r w z
 
     -- or it reaches a form
-    pub step-reaches : (f : S.Form) → i < n → take_step current (here q n i h) ≡ given f → replay log k current (steps_from q n i) ≡ replay log (k + 1) f
-        (steps_from q n (i + 1))
-    unfolding replay
-    step-reaches f g e =
-        ap (replay log k current) (one_left q n i h g) ∙ ap (λ (x : Result S.Form). at_step k x (λ f. replay log (k + 1) f (steps_from q n (i + 1)))) e
+    pub step-reaches : (a : A) → Ok a ≡ Steps.at_step r k → replay log k current (steps_from q n i) ≡ replay log (k + 1) (see a) (steps_from q n (i + 1))
+    step-reaches a z = by_step ∙ goes_on_at see k _ r a z
 
   -- all steps are taken
   pub all_taken : n ≤ i → (log : Log) (k : ℕ) (f : S.Form) → replay log k f (steps_from q n i) ≡ replay log k f []
@@ -54,7 +60,7 @@ module _ (q : List Step) (n i : ℕ) (h : n ≤ length q) where
 -- ════ one form
 
 -- a term is that of a row where coefficient and order say so
-pub row_same : (t : Term) (v u : List ℕ) (c : ℤ) (b : Bool) (o : Order) → b ≡ same_coef t.coef c → b ≡ true → term_by v t.coef ≡ term_of t
+pub row_same : (t : Term) (v u : List ℕ) (c : ℤ) (b : Bool) (o : Ordering) → b ≡ same_coef t.coef c → b ≡ true → term_by v t.coef ≡ term_of t
     → ordering_of o ≡ compare_terms (term_by v t.coef) (term_by u c) → compare_is_eq (ordering_of o) ≡ same_term (term_of t) (term_by u c)
 unfolding same_term term_of term_by
 row_same t v u c b o e z q p = λ i. (sym z ∙ e) i && compare_is_eq ((p ∙ ap (λ (x : S.Term). compare_terms x (term_by u c)) q) i)
@@ -124,27 +130,27 @@ module _ (ts us : List S.Term) (i : ℕ) where
 
 -- ════ the form reached
 
-module _ (f last : Form) (q : Steps) (n : ℕ) (rows : List (List ℕ)) (coefs : List ℤ) (r : Reached) (rows' : List (List ℕ)) (coefs' : List ℤ)
-    (e : form_by f.kind n rows coefs ≡ form_of f) (w : ReachedAs f.kind n rows coefs q r rows' coefs') where
-  begins : (log : Log) → replay log 1 (form_of f) (steps_of q) ≡ found_of r.number r.step (replay log (q.count + 1) (form_by f.kind
-      r.count rows' coefs') [])
-  begins log = ap (λ (g : S.Form). replay log 1 g (steps_of q)) (sym e) ∙ w.is log
-
+module _ (f last : Form) (q : Steps) (n : ℕ) (rows : List (List ℕ)) (coefs : List ℤ) (rows' : List (List ℕ)) (coefs' : List ℤ)
+    (e : form_by f.kind n rows coefs ≡ form_of f) where
   -- none: a step is refused
-  pub not-replayed : (r.number ≡ 0 → ⊥) → ReplayedAs f q last (record { number = r.number; step = r.step; same = false })
+  pub not-replayed : (w : RefusedAt) → ReachedAs f.kind n rows coefs q (Err w) rows' coefs' → ReplayedAs f q last (Err w)
   unfolding found_of
-  not-replayed h = record { is = λ log l. begins log ∙ rw (ne_eqb r.number 0 h) }
+  not-replayed w h = record { is = λ log l. ap (λ (g : S.Form). replay log 1 g (steps_of q)) (sym e) ∙ h.is log }
 
-  -- compared with the last
-  pub replayed : r.number ≡ 0 → (b : Bool) → b ≡ same_form (form_of last) (form_by f.kind r.count rows' coefs') → ReplayedAs f q last (record {
-    number =
-        0;
-    step = 0;
-    same = b;
-  })
-  unfolding found_of replay
-  replayed h b o = record {
-    is = λ log l. begins log ∙ rw (eq-eqb r.number 0 h)
-        (λ i. when (ap (λ (g : S.Form). same_form g (form_by f.kind r.count rows' coefs')) l ∙ sym o) i then accepted log.first_end log.last_start
-        (length log.steps) else refused_at 13 (q.count + 1));
-  }
+  module _ (m : ℕ) (w : ReachedAs f.kind n rows coefs q (Ok m) rows' coefs') (b : Bool) (o : b ≡ same_form (form_of last) (form_by f.kind m rows' coefs')) where
+    compared : (log : Log) → log.last ≡ form_of last
+        → replay log 1 (form_of f) (steps_of q) ≡ (when b then accepted log.first_end log.last_start (length log.steps) else refused_at 13 (q.count + 1))
+    unfolding found_of replay
+    compared log l = ap (λ (g : S.Form). replay log 1 g (steps_of q)) (sym e) ∙ w.is log
+        ∙ (λ i. when (ap (λ (g : S.Form). same_form g (form_by f.kind m rows' coefs')) l ∙ sym o) i then accepted log.first_end log.last_start
+        (length log.steps) else refused_at 13 (q.count + 1))
+
+    -- the last is reached
+    pub replayed : b ≡ true → ReplayedAs f q last (Ok tt)
+    unfolding found_of
+    replayed h = record { is = λ log l. compared log l ∙ rw h }
+
+    -- another is
+    pub other-reached : b ≡ false → ReplayedAs f q last (Err (record { why = OtherForm; step = q.count + 1 }))
+    unfolding found_of
+    other-reached h = record { is = λ log l. compared log l ∙ rw h }

@@ -11,59 +11,34 @@ ghost use Rattle.replaying.specs.Replaying.{same_term, ReachedAs, ReplayedAs};
 
 use integers::equal;
 use limits::largest;
-use logs::steps::Steps;
+use logs::steps::{RefusedAt, Steps, at_step};
+use refusal::Refusal;
 use rows::{hold, order_of, row_of};
 use rules::steps::{raised, take_step};
-use terms::order::is_equal;
 use terms::types::{Form, Term};
-
-// How many rows the form reached has, or a refusal and its step.
-#[derive(Clone, Copy)]
-pub struct Reached {
-    pub number: u8,
-    pub step: u8,
-    pub count: usize,
-}
-
-// Whether the form reached is the last, or a refusal and its step.
-#[derive(Clone, Copy)]
-pub struct Replayed {
-    pub number: u8,
-    pub step: u8,
-    pub same: bool,
-}
 
 // The steps taken in their order from the form of a kind in lent rows. They stand for the current form from step to step, and so does a bound on their
 // coefficients, so that each step costs its own terms alone.
-fn take_steps(kind: u8, held: usize, rows: &mut [[u32; 8]], coefs: &mut [i64], q: Steps) -> Reached
+fn take_steps(
+    kind: u8,
+    held: usize,
+    rows: &mut [[u32; 8]],
+    coefs: &mut [i64],
+    q: Steps,
+) -> Result<usize, RefusedAt>
     requires { FormRun kind held rows.old coefs.old × (55 ≤ length rows.old) × (55 ≤ length coefs.old) × StepsValid q }
     ensures { ReachedAs kind held rows.old coefs.old q result rows.new coefs.new }
 {
     let n = q.count;
     let mut count = held;
     let mut bound = largest(coefs, held);
-    let mut i: usize = 0;
-    while i < n {
+    for i in 0..n {
         let s = q.steps[i];
-        i += 1;
-        let k = i as u8;
-        let w = take_step(kind, count, rows, coefs, s, bound);
-        let e = w.refusal;
-        if e != 0 {
-            return Reached {
-                number: e,
-                step: k,
-                count: 0,
-            };
-        }
+        let w = at_step(take_step(kind, count, rows, coefs, s, bound), i as u8 + 1)?;
         count = w.count;
         bound = raised(bound, s.m.coef);
     }
-    Reached {
-        number: 0,
-        step: 0,
-        count: count,
-    }
+    Ok(count)
 }
 
 // Whether a term is that of a row and a coefficient.
@@ -75,7 +50,7 @@ fn same_row(t: Term, r: &[u32; 8], c: i64) -> bool
         return false;
     }
     let u = row_of(t);
-    is_equal(order_of(&u, r))
+    order_of(&u, r).is_eq()
 }
 
 // Whether a form is that of a kind in lent rows.
@@ -90,20 +65,18 @@ pub fn same_form(f: Form, kind: u8, rows: &[[u32; 8]], coefs: &[i64], count: usi
     if n != count {
         return false;
     }
-    let mut j: usize = 0;
-    while j < n {
+    for j in 0..n {
         let t = f.terms[j];
         let r = rows[j];
         if !same_row(t, &r, coefs[j]) {
             return false;
         }
-        j += 1;
     }
     true
 }
 
-// The steps taken in their order from the first form, and the form reached compared with the last.
-pub fn replay(f: Form, q: Steps, last: Form) -> Replayed
+// The steps taken in their order from the first form, to the last: refused with the last form's step where another is reached.
+pub fn replay(f: Form, q: Steps, last: Form) -> Result<(), RefusedAt>
     requires { FormValid f × FormValid last × StepsValid q }
     ensures { ReplayedAs f q last result }
 {
@@ -111,23 +84,12 @@ pub fn replay(f: Form, q: Steps, last: Form) -> Replayed
     let mut rows = [z; 56];
     let mut coefs = [0i64; 56];
     hold(f, &mut rows, &mut coefs);
-    let kind = f.kind;
-    let held = f.count;
-    let r = take_steps(kind, held, &mut rows, &mut coefs, q);
-    let e = r.number;
-    if e != 0 {
-        let k = r.step;
-        return Replayed {
-            number: e,
-            step: k,
-            same: false,
-        };
+    let count = take_steps(f.kind, f.count, &mut rows, &mut coefs, q)?;
+    if !same_form(last, f.kind, &rows, &coefs, count) {
+        return Err(RefusedAt {
+            why: Refusal::OtherForm,
+            step: q.count as u8 + 1,
+        });
     }
-    let count = r.count;
-    let same = same_form(last, kind, &rows, &coefs, count);
-    Replayed {
-        number: 0,
-        step: 0,
-        same: same,
-    }
+    Ok(())
 }

@@ -17,12 +17,15 @@ use Rattle.theory.specs.Shape.Forms.{FormInShape, form-gathered}
 use Rattle.theory.specs.Shape.Terms.{in_limit}
 use Rattle.terms.specs.declared.types.Term.{Term}
 use Rattle.terms.specs.declared.types.Form.{Form}
-use Rattle.terms.specs.declared.types.Outcome.{Outcome}
-use Rattle.terms.specs.Abstraction.{term_of, form_of, outcome_of, Counted}
-use Rattle.terms.proofs.Outcomes.{refuses}
+use Rattle.std.specs.Prelude.{Ok, Err}
+use Rattle.std.specs.Prelude as Std
+use Rattle.refusal.specs.declared.Refusal.{Refusal}
+use Rattle.refusal.specs.Numbers.{number_of}
+use Rattle.terms.specs.Valid.{Gives}
+use Rattle.terms.specs.Abstraction.{term_of, form_of, Counted}
 use Rattle.terms.specs.Valid.{FormValid}
 use Rattle.terms.proofs.Arrays.{no_term, all-at, stored-behind, mapped-behind}
-use Rattle.rows.specs.Rows.{term_by, RowValid, RowOf, terms_by, run_of, Run, Light, form_by, HeldIn, Copied, FormOfRun, FormRun, RowsGive, OutcomeOf}
+use Rattle.rows.specs.Rows.{term_by, RowValid, RowOf, terms_by, run_of, Run, Light, form_by, HeldIn, Copied, FormOfRun, FormRun, RowsGive}
 use Rattle.rows.specs.declared.Worked.{Worked}
 use Rattle.rows.proofs.Runs.{terms-append, run_length, run_at}
 
@@ -175,40 +178,32 @@ given_all kind n rows coefs i ts v h e w =
 -- ════ what working gave
 
 -- a refusal, whatever stands in the rows
-pub rows_refused : (x : Result S.Form) (w : Worked) (n : ℕ) (rows : List (List ℕ)) (coefs : List ℤ) → w.refusal ≡ n → (n ≡ 0 → ⊥) → x ≡ refused n
-    → RowsGive x w rows coefs
-rows_refused x w n rows coefs e h p = record {
-  refuses = λ _. p ∙ ap refused (sym e);
-  gives = λ z. absurd (h (sym e ∙ z));
-  form = λ z. absurd (h (sym e ∙ z));
-}
+pub rows_refused : (x : Result S.Form) (e : Refusal) (rows : List (List ℕ)) (coefs : List ℤ) → x ≡ refused (number_of e) → RowsGive x (Err e) rows coefs
+rows_refused x e rows coefs p = record { is = sym p; form = tt }
+
+-- a form in rows
+pub rows_given : (x : Result S.Form) (w : Worked) (rows : List (List ℕ)) (coefs : List ℤ) → x ≡ given (form_by w.kind w.count rows coefs)
+    → FormRun w.kind w.count rows coefs → RowsGive x (Ok w) rows coefs
+rows_given x w rows coefs p f = record { is = sym p; form = f }
 
 -- the same in other words
-pub rows_as : (x y : Result S.Form) (w : Worked) (rows : List (List ℕ)) (coefs : List ℤ) → x ≡ y → RowsGive x w rows coefs → RowsGive y w rows coefs
-rows_as x y w rows coefs e g = record { refuses = λ h. sym e ∙ g.refuses h; gives = λ h. sym e ∙ g.gives h; form = g.form }
+pub rows_as : (x y : Result S.Form) (r : Std.Result Worked Refusal) (rows : List (List ℕ)) (coefs : List ℤ) → x ≡ y → RowsGive x r rows coefs → RowsGive y r rows coefs
+rows_as x y r rows coefs e g = record { is = g.is ∙ e; form = g.form }
 
 -- ════ as a form by value
 
 -- refused
-pub outcome_refused : (w : Worked) (rows : List (List ℕ)) (coefs : List ℤ) (r : Outcome) → (w.refusal ≡ 0 → ⊥) → r.refusal ≡ w.refusal
-    → OutcomeOf w rows coefs r
-outcome_refused w rows coefs r h e = record { is = λ x g. refuses x r w.refusal e h (g.refuses h) }
+pub outcome_refused : (x : Result S.Form) (e : Refusal) (rows : List (List ℕ)) (coefs : List ℤ) → RowsGive x (Err e) rows coefs → Gives x (Err e)
+outcome_refused x e rows coefs g = record { is = g.is; valid = tt }
 
 -- a form in rows is valid as one by value
 pub form-valid : (kind n : ℕ) (rows : List (List ℕ)) (coefs : List ℤ) (f : Form) → FormRun kind n rows coefs → FormOfRun kind n rows coefs f → FormValid f
 form-valid kind n rows coefs f v w = record { few = w.few; counted = w.counted; in_shape = subst FormInShape (sym w.is) v.in_shape }
 
 -- or given
-pub outcome_given : (w : Worked) (rows : List (List ℕ)) (coefs : List ℤ) (f : Form) → w.refusal ≡ 0 → FormOfRun w.kind w.count rows coefs f
-    → OutcomeOf w rows coefs (record { refusal = 0; form = f })
-unfolding outcome_of
-outcome_given w rows coefs f e q = record {
-  is = λ x g. record {
-    is = ap given q.is ∙ sym (g.gives e);
-    valid = λ z. form-valid w.kind
-        w.count rows coefs f (g.form e) q;
-  };
-}
+pub outcome_given : (x : Result S.Form) (w : Worked) (rows : List (List ℕ)) (coefs : List ℤ) (f : Form) → RowsGive x (Ok w) rows coefs
+    → FormOfRun w.kind w.count rows coefs f → Gives x (Ok f)
+outcome_given x w rows coefs f g q = record { is = ap given q.is ∙ g.is; valid = form-valid w.kind w.count rows coefs f g.form q }
 
 -- ════ a form by value in rows
 

@@ -1,6 +1,7 @@
 -- Terms in lent memory: a row of eight numbers for each, and its coefficient beside it. Assumes nothing.
-use Rattle.std.specs.Prelude.{◌≡◌, List, [], ◌∷◌, map, ℕ, ◌/◌, ◌%◌, ◌<◌, ◌≤◌, ℤ, nat_abs, length, take, drop, get_or}
-use Rattle.specification.specs.Results.{Result, given, refused}
+use Rattle.std.specs.Prelude.{◌≡◌, List, [], ◌∷◌, map, ℕ, ◌/◌, ◌%◌, ◌<◌, ◌≤◌, ℤ, nat_abs, length, take, drop, get_or, IfOk}
+use Rattle.std.specs.Prelude as Std
+use Rattle.specification.specs.Results.{Result}
 use Rattle.specification.specs.Terms as S
 use Rattle.theory.specs.Elements.{All}
 use Rattle.theory.specs.Gathering.Coefficients.{Ascending}
@@ -8,9 +9,9 @@ use Rattle.theory.specs.Shape.Forms.{FormInShape}
 use Rattle.terms.specs.declared.types.Term.{Term}
 use Rattle.terms.specs.declared.types.Form.{Form}
 use Rattle.terms.specs.Numbers.{letters_of, part_letters_of}
-use Rattle.terms.specs.declared.types.Outcome.{Outcome}
+use Rattle.refusal.specs.declared.Refusal.{Refusal}
+use Rattle.refusal.specs.Tests.{answer_of}
 use Rattle.terms.specs.Abstraction.{term_of, form_of, Counted}
-use Rattle.terms.specs.Valid.{Gives}
 use Rattle.rows.specs.declared.Worked.{Worked}
 
 -- ════ a row
@@ -98,11 +99,6 @@ pub record FormOfRun (kind n : ℕ) (rows : List (List ℕ)) (coefs : List ℤ) 
   pub counted : All Counted (take f.count f.terms)
 
 -- what working gives in lent rows: its refusal, or a form in shape
-pub record RowsGive (x : Result S.Form) (w : Worked) (rows : List (List ℕ)) (coefs : List ℤ) : Type 0 where
-  pub refuses : (w.refusal ≡ 0 → ⊥) → x ≡ refused w.refusal
-  pub gives : w.refusal ≡ 0 → x ≡ given (form_by w.kind w.count rows coefs)
-  pub form : w.refusal ≡ 0 → FormRun w.kind w.count rows coefs
-
--- as a form by value
-pub record OutcomeOf (w : Worked) (rows : List (List ℕ)) (coefs : List ℤ) (r : Outcome) : Type 0 where
-  pub is : (x : Result S.Form) → RowsGive x w rows coefs → Gives x r
+pub record RowsGive (x : Result S.Form) (r : Std.Result Worked Refusal) (rows : List (List ℕ)) (coefs : List ℤ) : Type 0 where
+  pub is : answer_of (λ w. form_by w.kind w.count rows coefs) r ≡ x
+  pub form : IfOk r (λ w. FormRun w.kind w.count rows coefs)

@@ -5,17 +5,16 @@ ghost use Rattle.std.specs.Prelude.{◌≡◌, ◌≤◌, ℤ, length};
 ghost use Rattle.specification.specs.Terms.{compare_terms};
 ghost use Rattle.terms.specs.Abstraction.{term_of, ordering_of, Counted};
 ghost use Rattle.terms.specs.Valid.{FormValid};
-ghost use Rattle.rows.specs.Rows.{term_by, RowValid, RowOf, Run, FormRun, HeldIn, Copied, FormOfRun, OutcomeOf};
+ghost use Rattle.rows.specs.Rows.{term_by, RowValid, RowOf, Run, FormRun, HeldIn, Copied, FormOfRun};
 
-use terms::build::{no_term, refuse};
+use std::cmp::Ordering;
+use terms::build::no_term;
 use terms::factors::{part_number, part_of};
-use terms::order::Order;
-use terms::types::{Form, Outcome, Term};
+use terms::types::{Form, Term};
 
-// What working gave in lent rows: the number of a refusal, or where it is 0 the kind of the form and how many rows it has.
+// What working gave in lent rows: the kind of a form and how many rows it has.
 #[derive(Clone, Copy)]
 pub struct Worked {
-    pub refusal: u8,
     pub kind: u8,
     pub count: usize,
 }
@@ -48,22 +47,20 @@ pub fn row_of(t: Term) -> [u32; 8]
 }
 
 // The order of two rows: their heads and factors compared up to the first that differs.
-pub fn order_of(a: &[u32; 8], b: &[u32; 8]) -> Order
+pub fn order_of(a: &[u32; 8], b: &[u32; 8]) -> Ordering
     requires { (length a.now ≡ 8) × (length b.now ≡ 8) }
     ensures { (c d : ℤ) → ordering_of result ≡ compare_terms (term_by a.now c) (term_by b.now d) }
 {
     let m = (a[0] % 8) as usize + 1;
-    let mut k: usize = 0;
-    while k < m {
+    for k in 0..m {
         if a[k] < b[k] {
-            return Order::Less;
+            return Ordering::Less;
         }
         if b[k] < a[k] {
-            return Order::Greater;
+            return Ordering::Greater;
         }
-        k += 1;
     }
-    Order::Equal
+    Ordering::Equal
 }
 
 // The terms of a form in lent memory.
@@ -72,14 +69,12 @@ pub fn hold(f: Form, rows: &mut [[u32; 8]], coefs: &mut [i64])
     ensures { HeldIn f rows.new coefs.new }
 {
     let n = f.count;
-    let mut i: usize = 0;
-    while i < n {
+    for i in 0..n {
         let t = f.terms[i];
         let r = row_of(t);
         rows[i] = r;
         let d = t.coef;
         coefs[i] = d;
-        i += 1;
     }
 }
 
@@ -88,13 +83,11 @@ pub fn copy(n: usize, from: &[[u32; 8]], froms: &[i64], rows: &mut [[u32; 8]], c
     requires { (n ≤ length from.now) × (n ≤ length froms.now) × (n ≤ length rows.old) × (n ≤ length coefs.old) }
     ensures { Copied n from.now froms.now rows.new coefs.new }
 {
-    let mut i: usize = 0;
-    while i < n {
+    for i in 0..n {
         let r = from[i];
         rows[i] = r;
         let c = froms[i];
         coefs[i] = c;
-        i += 1;
     }
 }
 
@@ -105,32 +98,14 @@ pub fn form_of(kind: u8, rows: &[[u32; 8]], coefs: &[i64], n: usize) -> Form
 {
     let t = no_term();
     let mut ts = [t; 48];
-    let mut i: usize = 0;
-    while i < n {
+    for i in 0..n {
         let r = rows[i];
         let u = term_of(r, coefs[i]);
         ts[i] = u;
-        i += 1;
     }
     Form {
-        kind: kind,
+        kind,
         count: n,
         terms: ts,
-    }
-}
-
-// What working gave in lent rows, as a form by value.
-pub fn outcome(w: Worked, rows: &[[u32; 8]], coefs: &[i64]) -> Outcome
-    requires { w.refusal ≡ 0 → FormRun w.kind w.count rows.now coefs.now }
-    ensures { OutcomeOf w rows.now coefs.now result }
-{
-    let n = w.refusal;
-    if n != 0 {
-        return refuse(n);
-    }
-    let f = form_of(w.kind, rows, coefs, w.count);
-    Outcome {
-        refusal: 0,
-        form: f,
     }
 }

@@ -16,8 +16,12 @@ use Rattle.specification.specs.Records.{test_term}
 use Rattle.specification.specs.Rules.{is_rule, rule_letters, step_in_shape, test_step_letters, take_step, step_at}
 use Rattle.terms.specs.Abstraction.{term_of, Counted}
 use Rattle.terms.proofs.Arrays.{rest_at, nothing_left_lem}
-use Rattle.letters.specs.Tested.{test_of}
-use Rattle.letters.proofs.LetterTests.{stops, goes_on_lem, test-passed, test_refused}
+use Rattle.std.specs.Prelude.{Ok, Err}
+use Rattle.std.specs.Prelude as Std
+use Rattle.refusal.specs.declared.Refusal.{Refusal}
+use Rattle.refusal.specs.Numbers.{number_of}
+use Rattle.refusal.specs.Tests.{test_of}
+use Rattle.letters.proofs.LetterTests.{stops, goes_on}
 use Rattle.rules.specs.declared.steps.Step.{Step}
 use Rattle.rules.specs.Steps.{step_of, StepValid}
 use Rattle.rules.proofs.Taking.{few-letters}
@@ -26,17 +30,17 @@ use Rattle.rules.proofs.Taking.{few-letters}
 
 module _ (table ls : List ℕ) (n i : ℕ) (h : n ≤ length ls) where
   -- the letter at a place is refused
-  pub letters-stop : (r : ℕ) → i < n → test_of r ≡ test_letter table vector (get_or ls i 0) → (r ≡ 0 → ⊥) → test_of r ≡ test_letters table vector (drop i (take n ls))
+  pub letters-stop : (r : Refusal) → i < n → test_of (Err r) ≡ test_letter table vector (get_or ls i 0) → test_of (Err r) ≡ test_letters table vector (drop i (take n ls))
   unfolding test_letters
-  letters-stop r g e z = rw (rest_at ls n i 0 h g) (stops r (test_letter table vector (get_or ls i 0)) (test_letters table vector (drop (i + 1) (take n ls))) e z)
+  letters-stop r g e = rw (rest_at ls n i 0 h g) (stops r (test_letter table vector (get_or ls i 0)) (test_letters table vector (drop (i + 1) (take n ls))) e)
 
   -- or it passes
-  pub letters-pass : (r : ℕ) → i < n → test_of r ≡ test_letter table vector (get_or ls i 0) → r ≡ 0
+  pub letters-pass : {u : Unit {0}} → i < n → test_of (Ok u) ≡ test_letter table vector (get_or ls i 0)
       → test_letters table vector (drop i (take n ls)) ≡ test_letters table vector (drop (i + 1) (take n ls))
   unfolding test_letters
-  letters-pass r g e z =
-      ap (test_letters table vector) (rest_at ls n i 0 h g) ∙ goes_on_lem r (test_letter table vector (get_or ls i 0)) (test_letters table vector (drop (i + 1)
-      (take n ls))) e z
+  letters-pass g e =
+      ap (test_letters table vector) (rest_at ls n i 0 h g) ∙ goes_on (test_letter table vector (get_or ls i 0)) (test_letters table vector (drop (i + 1)
+      (take n ls))) e
 
   -- all passed
   pub letters-end : n ≤ i → test_letters table vector (drop i (take n ls)) ≡ given tt
@@ -45,19 +49,20 @@ module _ (table ls : List ℕ) (n i : ℕ) (h : n ≤ length ls) where
 
 -- ════ the step's letters
 
-module _ (table : List ℕ) (s : Step) (r n : ℕ) (e : n ≡ rule_letters s.rule) (t : test_of r ≡ test_letters table vector (take n s.letters)) where
-  pub rule_letters-stop : (r ≡ 0 → ⊥) → test_of r ≡ test_step_letters table (step_of s)
+module _ (table : List ℕ) (s : Step) (n : ℕ) (e : n ≡ rule_letters s.rule) where
+  pub rule_letters-stop : (r : Refusal) → test_of (Err r) ≡ test_letters table vector (take n s.letters) → test_of (Err r) ≡ test_step_letters table (step_of s)
   unfolding test_step_letters step_of
-  rule_letters-stop h =
+  rule_letters-stop r t =
       stops r (test_letters table vector (take (rule_letters s.rule) s.letters)) (test_term table (term_of s.m))
-      (t ∙ ap (λ (m : ℕ). test_letters table vector (take m s.letters)) e) h
+      (t ∙ ap (λ (m : ℕ). test_letters table vector (take m s.letters)) e)
 
-  pub rule_letters-pass : (q : ℕ) → r ≡ 0 → test_of q ≡ test_term table (term_of s.m) → test_of q ≡ test_step_letters table (step_of s)
+  pub rule_letters-pass : {u : Unit {0}} (q : Std.Result (Unit {0}) Refusal) → test_of (Ok u) ≡ test_letters table vector (take n s.letters)
+      → test_of q ≡ test_term table (term_of s.m) → test_of q ≡ test_step_letters table (step_of s)
   unfolding test_step_letters step_of
-  rule_letters-pass q h u =
+  rule_letters-pass q t u =
       u ∙ sym
-      (goes_on_lem r (test_letters table vector (take (rule_letters s.rule) s.letters)) (test_term table (term_of s.m))
-      (t ∙ ap (λ (m : ℕ). test_letters table vector (take m s.letters)) e) h)
+      (goes_on (test_letters table vector (take (rule_letters s.rule) s.letters)) (test_term table (term_of s.m))
+      (t ∙ ap (λ (m : ℕ). test_letters table vector (take m s.letters)) e))
 
 -- ════ the step
 
@@ -96,13 +101,12 @@ module _ (table : List ℕ) (f : S.Form) (s : Step) (six : length s.letters ≡ 
         pub step-valid : Counted s.m → StepValid s
         step-valid c = record { rule = subst T (sym hb ∙ eb) tt; m = record { counted = c; in_shape = subst T (sym hm ∙ em) tt } }
 
-        module _ (n : ℕ) (t : test_of n ≡ test_step_letters table (step_of s)) where
-          -- the letters are refused
-          pub letters_refused : (n ≡ 0 → ⊥) → step_at table f (step_of s) ≡ refused n
-          unfolding step_at
-          letters_refused h = rw (in_shape_is, ← t, test_refused n h)
+        -- the letters are refused
+        pub letters_refused : (e : Refusal) → test_of (Err e) ≡ test_step_letters table (step_of s) → step_at table f (step_of s) ≡ refused (number_of e)
+        unfolding step_at
+        letters_refused e t = rw (in_shape_is, ← t)
 
-          -- the step decides
-          pub step-decides : n ≡ 0 → take_step f (step_of s) ≡ step_at table f (step_of s)
-          unfolding step_at
-          step-decides h = rw (in_shape_is, ← t, test-passed n h)
+        -- the step decides
+        pub step-decides : {u : Unit {0}} → test_of (Ok u) ≡ test_step_letters table (step_of s) → take_step f (step_of s) ≡ step_at table f (step_of s)
+        unfolding step_at
+        step-decides t = rw (in_shape_is, ← t)

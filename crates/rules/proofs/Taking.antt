@@ -35,8 +35,13 @@ use Rattle.rows.specs.Rows.{term_by, RowOf, run_of, Run, Light, form_by, FormRun
 use Rattle.gathering.specs.Bringing.{BroughtIn}
 use Rattle.limits.specs.Limits.{RunTested, limited_of}
 use Rattle.rows.proofs.RowForms.{light_more}
-use Rattle.letters.specs.Tested.{test_of}
-use Rattle.letters.proofs.LetterTests.{test-passed, test_refused}
+use Rattle.std.specs.Prelude.{Ok, Err}
+use Rattle.std.specs.Prelude as Std
+use Rattle.refusal.specs.declared.Refusal.{Refusal}
+use Rattle.refusal.specs.declared.Refusal.TheVariants.{WrongKind, ManyLetters}
+use Rattle.refusal.specs.Numbers.{number_of}
+use Rattle.refusal.specs.Tests.{test_of}
+use Rattle.rows.proofs.RowForms.{rows_refused, rows_given}
 use Rattle.rules.specs.declared.steps.Step.{Step}
 use Rattle.rule_table.specs.Table.{rule_rows, part_at, row_term, row_terms, first_row, row_count, TimesRow}
 use Rattle.rules.specs.Steps.{step_of, StepValid, step_tests, StepFits, StepBrought}
@@ -200,18 +205,18 @@ module _ (s : Step) (v : StepValid s) (six : length s.letters ≡ 6) where
 
 module _ (kind : ℕ) (s : Step) (k : Bool) (ek : k ≡ step_kinds_fit (record { kind = kind; terms = [] }) (step_of s)) where
   -- the kinds do not agree
-  pub test-six : k ≡ false → test_of 6 ≡ step_tests kind (step_of s)
-  unfolding test_of step_tests
+  pub test-six : k ≡ false → test_of (Err WrongKind) ≡ step_tests kind (step_of s)
+  unfolding step_tests
   test-six h = rw (← ek, h)
 
   module _ (hk : k ≡ true) (l : Bool) (el : l ≡ leb (vector_letters (step_of s).m + rule_letters s.rule) 6) where
     -- too many letters
-    pub test-eight : l ≡ false → test_of 8 ≡ step_tests kind (step_of s)
-    unfolding test_of step_tests step_of
+    pub test-eight : l ≡ false → test_of (Err ManyLetters) ≡ step_tests kind (step_of s)
+    unfolding step_tests step_of
     test-eight h = rw (← ek, hk, ← el, h)
 
-    pub test_none : l ≡ true → test_of 0 ≡ step_tests kind (step_of s)
-    unfolding test_of step_tests step_of
+    pub test_none : l ≡ true → test_of (Ok tt) ≡ step_tests kind (step_of s)
+    unfolding step_tests step_of
     test_none h = rw (← ek, hk, ← el, h)
 
 -- ════ a step at a form
@@ -229,69 +234,60 @@ module _ (f : S.Form) (s : Step) where
       go true false = refl
       go false b = refl
 
-  module _ (n : ℕ) (t : test_of n ≡ step_tests f.kind (step_of s)) where
-    -- refused
-    pub step_refused_lem : (n ≡ 0 → ⊥) → take_step f (step_of s) ≡ refused n
-    step_refused_lem h = step_tested ∙ ap (λ (x : Test). x >> within f.kind (gather (f.terms ++ step_terms (step_of s)))) (sym t ∙ test_refused n h)
+  -- refused
+  pub step_refused_lem : (e : Refusal) → test_of (Err e) ≡ step_tests f.kind (step_of s) → take_step f (step_of s) ≡ refused (number_of e)
+  step_refused_lem e t = step_tested ∙ ap (λ (x : Test). x >> within f.kind (gather (f.terms ++ step_terms (step_of s)))) (sym t)
 
-    module _ (z : n ≡ 0) where
-      abbrev pub step-fitting : StepFits s
-      step-fitting = record { kind = f.kind; passes = sym t ∙ test-passed n z }
+  module _ (u : Unit {0}) (t : test_of (Ok u) ≡ step_tests f.kind (step_of s)) where
+    abbrev pub step-fitting : StepFits s
+    step-fitting = record { kind = f.kind; passes = sym t }
 
-      -- what is gathered
-      gathers : take_step f (step_of s) ≡ within f.kind (gather (f.terms ++ step_terms (step_of s)))
-      gathers = step_tested ∙ ap (λ (x : Test). x >> within f.kind (gather (f.terms ++ step_terms (step_of s)))) (sym t ∙ test-passed n z)
+    -- what is gathered
+    gathers : take_step f (step_of s) ≡ within f.kind (gather (f.terms ++ step_terms (step_of s)))
+    gathers = step_tested ∙ ap (λ (x : Test). x >> within f.kind (gather (f.terms ++ step_terms (step_of s)))) (sym t)
 
-      module _ (v : StepValid s) (six : length s.letters ≡ 6) (shape : FormInShape f) where
-        fits : AllFit f.kind (f.terms ++ step_terms (step_of s))
-        unfolding step_kinds_fit step_of
-        fits = step_fits f (step_of s) shape (step-shape s v six) (agreeing f (step_of s) (passed-kinds s v six step-fitting).0)
-            (few-vectors s v six step-fitting)
+    module _ (v : StepValid s) (six : length s.letters ≡ 6) (shape : FormInShape f) where
+      fits : AllFit f.kind (f.terms ++ step_terms (step_of s))
+      unfolding step_kinds_fit step_of
+      fits = step_fits f (step_of s) shape (step-shape s v six) (agreeing f (step_of s) (passed-kinds s v six step-fitting).0)
+          (few-vectors s v six step-fitting)
 
-        -- the terms that stand afterwards, their limits tested
-        module _ (us : List S.Term) (is : us ≡ gather_into f.terms (step_terms (step_of s))) (e : ℕ) (le : within f.kind us ≡ limited_of e f.kind us) where
-          tested : take_step f (step_of s) ≡ limited_of e f.kind us
-          tested = gathers ∙ ap (within f.kind) (sym (is ∙ gather-onto f.terms (step_terms (step_of s)) (form-gathered f shape))) ∙ le
+      -- the terms that stand afterwards, their limits tested
+      module _ (us : List S.Term) (is : us ≡ gather_into f.terms (step_terms (step_of s))) where
+        tested : (r : Std.Result (Unit {0}) Refusal) → within f.kind us ≡ limited_of r f.kind us → take_step f (step_of s) ≡ limited_of r f.kind us
+        tested r le = gathers ∙ ap (within f.kind) (sym (is ∙ gather-onto f.terms (step_terms (step_of s)) (form-gathered f shape))) ∙ le
 
-          -- beyond the limits
-          pub limits_refused : (e ≡ 0 → ⊥) → take_step f (step_of s) ≡ refused e
-          unfolding limited_of
-          limits_refused h = tested ∙ rw (ne_eqb e 0 h)
-
-          -- or the form reached
-          pub limits-reached : e ≡ 0 → take_step f (step_of s) ≡ given (record { kind = f.kind; terms = us })
-          unfolding limited_of
-          limits-reached h = tested ∙ rw (eq-eqb e 0 h)
-
-          -- in shape
-          pub limits-in_shape : e ≡ 0 → FormInShape (record { kind = f.kind; terms = us })
-          limits-in_shape h =
-              within-in_shape f.kind (f.terms ++ step_terms (step_of s)) (record { kind = f.kind; terms = us }) shape.kind fits
-              (within_given f.kind (gather (f.terms ++ step_terms (step_of s))) (record { kind = f.kind; terms = us }) (sym gathers ∙ limits-reached h))
+        -- in shape where they are within
+        pub limits-in_shape : (w : Unit {0}) → within f.kind us ≡ limited_of (Ok w) f.kind us → FormInShape (record { kind = f.kind; terms = us })
+        unfolding limited_of
+        limits-in_shape w le =
+            within-in_shape f.kind (f.terms ++ step_terms (step_of s)) (record { kind = f.kind; terms = us }) shape.kind fits
+            (within_given f.kind (gather (f.terms ++ step_terms (step_of s))) (record { kind = f.kind; terms = us }) (sym gathers ∙ tested (Ok w) le))
 
 -- ════ a step at a form in rows
 
-module _ (kind n : ℕ) (rows₀ : List (List ℕ)) (coefs₀ : List ℤ) (s : Step) (k : ℕ) (t : test_of k ≡ step_tests kind (step_of s)) where
+module _ (kind n : ℕ) (rows₀ : List (List ℕ)) (coefs₀ : List ℤ) (s : Step) where
   -- refused by the tests
-  pub step_stays : (rows' : List (List ℕ)) (coefs' : List ℤ) → (k ≡ 0 → ⊥)
-      → RowsGive (take_step (form_by kind n rows₀ coefs₀) (step_of s)) (record { refusal = k; kind = kind; count = n }) rows' coefs'
-  step_stays rows' coefs' h = record { refuses = λ _. step_refused_lem (form_by kind n rows₀ coefs₀) s k t h; gives = λ z. absurd (h z); form = λ z. absurd (h z) }
+  pub step_stays : (e : Refusal) → test_of (Err e) ≡ step_tests kind (step_of s) → (rows' : List (List ℕ)) (coefs' : List ℤ)
+      → RowsGive (take_step (form_by kind n rows₀ coefs₀) (step_of s)) (Err e) rows' coefs'
+  step_stays e t rows' coefs' = rows_refused _ e rows' coefs' (step_refused_lem (form_by kind n rows₀ coefs₀) s e t)
 
   -- its terms brought in, and the limits tested
-  pub step-moves : k ≡ 0 → FormRun kind n rows₀ coefs₀ → StepValid s → (m : ℕ) (rows' : List (List ℕ)) (coefs' : List ℤ)
-      → StepBrought n rows₀ coefs₀ s m rows' coefs'
-      → (e : ℕ) → RunTested m coefs' e → RowsGive (take_step (form_by kind n rows₀ coefs₀) (step_of s)) (record {
-        refusal = e;
-        kind = kind;
-        count =
-            m;
-      }) rows' coefs'
-  step-moves z w v m rows' coefs' b e le =
-      let f = form_by kind n rows₀ coefs₀ in
-      let us = run_of m rows' coefs' in
-      let l = le.is rows' b.run.room kind in
-      record {
-        refuses = limits_refused f s k t z v b.six w.in_shape us b.is e l;
-        gives = limits-reached f s k t z v b.six w.in_shape us b.is e l;
-        form = λ q. record { run = b.run; light = le.light q; few = le.few q; in_shape = limits-in_shape f s k t z v b.six w.in_shape us b.is e l q };
-      }
+  module _ (u : Unit {0}) (t : test_of (Ok u) ≡ step_tests kind (step_of s)) (w : FormRun kind n rows₀ coefs₀) (v : StepValid s)
+      (m : ℕ) (rows' : List (List ℕ)) (coefs' : List ℤ) (b : StepBrought n rows₀ coefs₀ s m rows' coefs') where
+    abbrev form : S.Form
+    form = form_by kind n rows₀ coefs₀
+
+    abbrev us : List S.Term
+    us = run_of m rows' coefs'
+
+    pub step-beyond : (e : Refusal) → RunTested m coefs' (Err e) → RowsGive (take_step form (step_of s)) (Err e) rows' coefs'
+    unfolding limited_of
+    step-beyond e le = rows_refused _ e rows' coefs' (tested form s u t v b.six w.in_shape us b.is (Err e) (le.is rows' b.run.room kind))
+
+    pub step-moves : (x : Unit {0}) → RunTested m coefs' (Ok x) → RowsGive (take_step form (step_of s)) (Ok (record { kind = kind; count = m })) rows' coefs'
+    unfolding limited_of
+    step-moves x le =
+        let l = le.is rows' b.run.room kind in
+        rows_given _ (record { kind = kind; count = m }) rows' coefs' (tested form s u t v b.six w.in_shape us b.is (Ok x) l)
+        (record { run = b.run; light = le.light; few = le.few; in_shape = limits-in_shape form s u t v b.six w.in_shape us b.is x l })

@@ -1,5 +1,5 @@
 // One step applied to a form: M times each term of a rule's left side less M times each term of its right side, gathered with the form.
-ghost use Rattle.std.specs.Prelude.{◌≡◌, [], ◌+◌, ◌*◌, ◌≤◌, leb, nat_abs, length};
+ghost use Rattle.std.specs.Prelude.{IfOk, ◌≡◌, [], ◌+◌, ◌*◌, ◌≤◌, leb, nat_abs, length};
 ghost use Rattle.specification.specs.Terms.{vector_letters};
 ghost use Rattle.specification.specs.Rules.{rule_letters, rule_kind, step_kinds_fit, take_step};
 ghost use Rattle.terms.specs.Abstraction.{part_of};
@@ -7,12 +7,13 @@ ghost use Rattle.rows.specs.Rows.{Run, Light, form_by, FormRun, RowsGive};
 ghost use Rattle.gathering.specs.Bringing.{coef_bound};
 ghost use Rattle.rule_table.specs.Table.{row_count};
 ghost use Rattle.theory.specs.Shape.Terms.{kind_of_part};
-ghost use Rattle.letters.specs.Tested.{test_of};
+ghost use Rattle.refusal.specs.Tests.{test_of};
 ghost use Rattle.rules.specs.Steps.{step_of, StepValid, step_tests, StepFits, StepBrought};
 
 use gathering::bringing::bring;
 use integers::size;
 use limits::test_limits;
+use refusal::Refusal;
 use rows::{Worked, row_of};
 use rule_table::{rule_rows, times_row};
 use terms::shape::{letters_used, part_letters};
@@ -95,18 +96,18 @@ fn letters_fit(s: Step) -> bool
     u.vectors + part_letters(p) + rule_letters(s.rule) <= 6
 }
 
-// 6 where a step's kinds do not agree with those of a form of a kind, 8 where M and the rule have too many letters, else 0.
-pub fn test_step(kind: u8, s: Step) -> u8
+// A step whose kinds agree with those of a form of a kind, M and the rule without too many letters.
+pub fn test_step(kind: u8, s: Step) -> Result<(), Refusal>
     requires { StepValid s }
     ensures { test_of result ≡ step_tests kind (step_of s) }
 {
     if !kinds_fit(kind, s) {
-        return 6;
+        return Err(Refusal::WrongKind);
     }
     if !letters_fit(s) {
-        return 8;
+        return Err(Refusal::ManyLetters);
     }
-    0
+    Ok(())
 }
 
 // The terms of a step brought in among n rows: M times each row of the rule; how many rows there are then.
@@ -121,12 +122,10 @@ fn bring_step(rows: &mut [[u32; 8]], coefs: &mut [i64], n: usize, s: Step) -> us
     let count = row_count(rule);
     let table = rule_rows(rule);
     let mut held = n;
-    let mut i: usize = 0;
-    while i < count {
+    for i in 0..count {
         let t = times_row(m, letters, table[i]);
         let r = row_of(t);
         held = bring(rows, coefs, held, r, t.coef);
-        i += 1;
     }
     held
 }
@@ -148,26 +147,15 @@ pub fn take_step(
     coefs: &mut [i64],
     s: Step,
     bound: u64,
-) -> Worked
+) -> Result<Worked, Refusal>
     requires { FormRun kind n rows.old coefs.old × StepValid s × (n + 7 ≤ length rows.old) × (n + 7 ≤ length coefs.old) × Light bound n coefs.old × (bound ≤ coef_bound) }
     ensures reached { RowsGive (take_step (form_by kind n rows.old coefs.old) (step_of s)) result rows.new coefs.new }
-    ensures kind { result.kind ≡ kind }
-    ensures light { Light (bound + 7 * nat_abs s.m.coef) result.count coefs.new }
+    ensures kind { IfOk result (λ w. w.kind ≡ kind) }
+    ensures light { IfOk result (λ w. Light (bound + 7 * nat_abs s.m.coef) w.count coefs.new) }
 {
-    let e = test_step(kind, s);
-    if e != 0 {
-        return Worked {
-            refusal: e,
-            kind: kind,
-            count: n,
-        };
-    }
+    test_step(kind, s)?;
     let m = bring_step(rows, coefs, n, s);
     let b = raised(bound, s.m.coef);
-    let e = test_limits(coefs, m, b);
-    Worked {
-        refusal: e,
-        kind: kind,
-        count: m,
-    }
+    test_limits(coefs, m, b)?;
+    Ok(Worked { kind, count: m })
 }

@@ -12,7 +12,8 @@ use lib.IntN.{ℤ, pos, neg_ℤ, ◌*ℤ◌}
 use lib.ListN.{length, length-map, get_or, take, drop, length-take}
 use lib.Seq.{get_or-drop}
 use lib.Pow.{pow_mono}
-use Rattle.std.specs.Prelude.{Option, Some, None}
+use Rattle.std.specs.Prelude.{Option, Some, None, Ok, Err}
+use Rattle.refusal.specs.declared.Refusal.{Refusal}
 use Rattle.specification.specs.Results.{given}
 use Rattle.specification.specs.Terms.{term_in_shape}
 use Rattle.specification.specs.Terms as S
@@ -163,31 +164,30 @@ module _ (kind n : ℕ) (rows : List (List ℕ)) (coefs : List ℤ) (v : FormRun
 
 -- ════ trials
 
-module _ (table : List ℕ) (f : S.Form) (s : Step) (r : Worked) (rows : List (List ℕ)) (coefs : List ℤ)
-    (w : RowsGive (step_at table f (step_of s)) r rows coefs) where
-  pub refused_useless : (r.refusal ≡ 0 → ⊥) → Useless table f (Some s)
+module _ (table : List ℕ) (f : S.Form) (s : Step) (rows : List (List ℕ)) (coefs : List ℤ) where
+  pub refused_useless : (e : Refusal) → RowsGive (step_at table f (step_of s)) (Err e) rows coefs → Useless table f (Some s)
   unfolding Useless
-  refused_useless h g q = absurd (refused≢given (sym (w.refuses h) ∙ q))
+  refused_useless e w g q = absurd (refused≢given (w.is ∙ q))
 
-  module _ (h : r.refusal ≡ 0) where
+  module _ (r : Worked) (w : RowsGive (step_at table f (step_of s)) (Ok r) rows coefs) where
     pub long_useless : length f.terms ≤ r.count → Useless table f (Some s)
     unfolding Useless
     long_useless k g q =
-        let same : form_by r.kind r.count rows coefs ≡ g = given_same (sym (w.gives h) ∙ q) in
-        let v = (w.form h).run in
+        let same : form_by r.kind r.count rows coefs ≡ g = given_same (w.is ∙ q) in
+        let v = w.form.run in
         subst (λ (g : S.Form). length f.terms ≤ length g.terms) same (omega (arith, run_length rows coefs r.count v.room v.beside))
 
     pub shorter : r.kind ≡ f.kind → r.count < length f.terms → Counted s.m → (i : ℕ) → i ≤ r.count
         → Shorter table f (record { behind = i; count = r.count; step = s }) rows coefs
     unfolding step_of
     shorter e k c i few =
-        let reached : step_at table f (step_of s) ≡ given (form_by f.kind r.count rows coefs) = w.gives h
+        let reached : step_at table f (step_of s) ≡ given (form_by f.kind r.count rows coefs) = sym w.is
         ∙ ap (λ (n : ℕ). given (form_by n r.count rows coefs)) e in
         let a = step-admitted table f (step_of s) (form_by f.kind r.count rows coefs) reached in
         record {
           admissible = reached;
           fewer = k;
-          form = subst (λ (n : ℕ). FormRun n r.count rows coefs) e (w.form h);
+          form = subst (λ (n : ℕ). FormRun n r.count rows coefs) e w.form;
           step = record { rule = a.shape.rule; m = record { counted = c; in_shape = a.shape.m } };
-          behind = omega (arith, few, (w.form h).few);
+          behind = omega (arith, few, w.form.few);
         }

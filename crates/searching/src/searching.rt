@@ -1,14 +1,16 @@
 // The search for a step to fewer terms: the standing terms, and for each its candidates, until one shortens.
-ghost use Rattle.std.specs.Prelude.{◌≡◌, ◌+◌, ◌≤◌, length};
+ghost use Rattle.std.specs.Prelude.{◌≡◌, ◌+◌, ◌≤◌, length, take, IfOk};
 ghost use Rattle.specification.specs.Rules.{step_at};
+ghost use Rattle.theory.specs.Elements.{All};
 ghost use Rattle.terms.specs.Abstraction.{Counted};
-ghost use Rattle.rows.specs.Rows.{run_of, form_by, FormRun, RowsGive};
+ghost use Rattle.rows.specs.Rows.{run_of, form_by, RowValid, FormRun, RowsGive};
 ghost use Rattle.rules.specs.Steps.{step_of};
 ghost use Rattle.marking.specs.Marks.{Covering};
 ghost use Rattle.searching.specs.Searching.{SearchedBy};
 
 use candidates::trying::next_candidate;
 use gathering::bringing::find_place;
+use refusal::Refusal;
 use rows::{Worked, copy, term_of};
 use rules::admissible::step_at;
 use rules::steps::Step;
@@ -31,13 +33,24 @@ fn try_step(
     s: Step,
     to: &mut [[u32; 8]],
     tos: &mut [i64],
-) -> Worked
+) -> Result<Worked, Refusal>
     requires { FormRun kind n rows.now coefs.now × Counted s.m × (n + 7 ≤ length to.old) × (n + 7 ≤ length tos.old) }
     ensures reached { RowsGive (step_at table.now (form_by kind n rows.now coefs.now) (step_of s)) result to.new tos.new }
-    ensures kind { result.kind ≡ kind }
+    ensures kind { IfOk result (λ w. w.kind ≡ kind) }
 {
     copy(n, rows, coefs, to, tos);
     step_at(table, kind, n, to, tos, s)
+}
+
+// Where a row belongs among n that ascend, whether a like one stands there or not.
+fn place_of(rows: &[[u32; 8]], n: usize, r: &[u32; 8]) -> usize
+    requires { (n ≤ length rows.now) × All RowValid (take n rows.now) × RowValid r.now }
+    ensures { result ≤ n }
+{
+    match find_place(rows, n, r) {
+        Ok(at) => at,
+        Err(at) => at,
+    }
 }
 
 // A step to fewer terms from the form of a kind in n rows, if there is one, by the terms from one on; what it reaches is in the other rows. The places of all terms stand in one row, 40960 for each.
@@ -68,13 +81,11 @@ pub fn search(
         };
         at = i * 40960 + next.next;
         let s = next.step;
-        let w = try_step(table, kind, n, rows, coefs, s, to, tos);
-        let count = w.count;
-        if w.refusal == 0 {
+        if let Ok(w) = try_step(table, kind, n, rows, coefs, s, to, tos) {
+            let count = w.count;
             if count < n {
-                let p = find_place(to, count, &row);
                 return Some(Found {
-                    behind: p.at,
+                    behind: place_of(to, count, &row),
                     count,
                     step: s,
                 });

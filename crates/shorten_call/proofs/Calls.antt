@@ -1,5 +1,5 @@
 -- What is printed for what was read, case by case. Assumes nothing.
-use mathlib.Core.Path.{◌≡◌, refl, sym, subst, ◌∙◌}
+use mathlib.Core.Path.{◌≡◌, refl, ap, sym, subst, ◌∙◌}
 use mathlib.Core.Bool.{Bool, true, false}
 use mathlib.Core.List.{List, ◌++◌}
 use Prim.Native.Nat.{ℕ, ◌+◌, ◌-◌, ◌≤◌, ◌<◌}
@@ -15,17 +15,15 @@ use Rattle.specification.specs.Reduction.{reduced}
 use Rattle.specification.specs.Shortening.{Shortens}
 use Rattle.specification.specs.Printing.{alphabet, input_table, print_tested, print_result, print_steps, print_log}
 use Rattle.specification.specs.Printing.{lines_bytes, TextWritten, PrintedBy, LinesPrintedBy, LinesPrinted}
+use Rattle.theory.specs.Tests.{tested}
 use Rattle.theory.specs.Shape.Letters.{table_good_lem, good_short}
 use Rattle.theory.proofs.Reduction.Work.{reduction_keeps_value}
 use Rattle.theory.proofs.Records.Logs.{log_of}
 use Rattle.theory.proofs.Replay.Accepted.{Derives}
 use Rattle.terms.specs.Abstraction.{form_of}
-use Rattle.terms.specs.declared.types.Outcome.{Outcome}
+use Rattle.terms.specs.declared.types.Form.{Form}
 use Rattle.terms.specs.Valid.{Gives}
-use Rattle.terms.proofs.Outcomes.{worked_given}
-use Rattle.letters.specs.Tested.{test_of}
 use Rattle.records.proofs.Inside.{written_inside}
-use Rattle.letters.proofs.LetterTests.{test-passed}
 use Rattle.logs.specs.Steps.{steps_of}
 use Rattle.shortening.specs.declared.rounds.Derivation.{Derivation}
 use Rattle.shortening.specs.Derived.{Derived}
@@ -33,70 +31,62 @@ use Rattle.shortening.proofs.Shortens.{steps-derive, steps-shorten}
 use Rattle.symbols.specs.Printable.{Printable}
 use Rattle.symbols.specs.Text.{print_line}
 use Rattle.printing.proofs.Named.{printable}
-use Rattle.std.specs.Prelude.{Ok}
+use Rattle.std.specs.Prelude.{Ok, Err}
 use Rattle.std.specs.Prelude as Std
 use Rattle.refusal.specs.declared.Refusal.{Refusal}
+use Rattle.refusal.specs.declared.Refusal.TheVariants.{BadTable}
+use Rattle.refusal.specs.Numbers.{number_of}
 use Rattle.printer_call.specs.Answers.{length_of}
 use Rattle.printer_call.specs.Lines.{table_reduced}
-use Rattle.printer_call.proofs.Answers.{bad-table, bad-expression, form-reduced, none_tested, cut_tested, parts_tested}
+use Rattle.printer_call.proofs.Answers.{none_tested, cut_tested, parts_tested}
 use Rattle.log_lines.specs.Printed.{StepsPrintable}
 use Rattle.log_lines.proofs.Named.{steps-printable}
 
 -- ════ a table and an expression
 
-module _ (table expr : List ℕ) (c : ℕ) (h : test_of c ≡ test_table table) where
-  module _ (z : c ≡ 0) (r : Outcome) (worked : Gives (reduced table expr) r) (e : r.refusal ≡ 0) (d : Derivation) (wd : Derived table r.form d) where
+module _ (table expr : List ℕ) where
+  -- the refusal is printed
+  pub refusal-printed : (e : Refusal) → Gives (table_reduced table expr) (Err e) → (before after : List ℕ) (m n : ℕ) → n ≡ number_of e
+      → TextWritten before after m (print_result (refused n)) → PrintedBy (table_reduced table expr) table before after m
+  unfolding PrintedBy
+  refusal-printed e worked before after m n q w =
+      subst (λ (r : Result S.Form). PrintedBy r table before after m) (ap refused q ∙ worked.is) w
+
+  module _ (f : Form) (worked : Gives (table_reduced table expr) (Ok f)) where
+    passed : (test_table table ≡ given tt) × (reduced table expr ≡ given (form_of f))
+    unfolding table_reduced
+    passed = tested (test_table table) (reduced table expr) (form_of f) (sym worked.is)
+
     good : T (good_table table)
-    good = table_good_lem table (sym h ∙ test-passed c z)
+    good = table_good_lem table passed.0
 
-    tested : test_terms table (form_of r.form).terms ≡ given tt
-    tested = (reduction_keeps_value table expr (form_of r.form) good (worked_given (reduced table expr) r worked e)).letters_tested
+    letters_tested : test_terms table (form_of f).terms ≡ given tt
+    letters_tested = (reduction_keeps_value table expr (form_of f) good passed.1).letters_tested
 
-    derives : Derives table (form_of r.form) (steps_of d.steps) (form_of d.last)
-    derives = steps-derive table good r.form (worked.valid e) tested d wd
+    module _ (d : Derivation) (wd : Derived table f d) where
+      derives : Derives table (form_of f) (steps_of d.steps) (form_of d.last)
+      derives = steps-derive table good f worked.valid letters_tested d wd
 
-    -- the log shortens the form
-    shortens : length r.form.terms ≡ 48 → length d.last.terms ≡ 48
-        → Shortens table (form_of r.form) (log_of (form_of r.form) (steps_of d.steps) (form_of d.last))
-    shortens = steps-shorten table good r.form (worked.valid e) tested d wd
-
-    -- form, steps and last form can be printed
-    pub log-printable : Printable alphabet r.form × StepsPrintable alphabet d.steps × Printable alphabet d.last
-    log-printable =
-        let many = good_short table good in (
-          printable table alphabet many r.form (worked.valid e) derives.first_tested,
-          steps-printable table alphabet many d.steps wd.valid.steps derives.steps_tested,
-          printable table alphabet many d.last wd.valid.last derives.last_tested,
-        )
-
-  module _ (before after : List ℕ) (m : ℕ) where
-    -- what holds by what reduction gives
-    by_result : (r : Result S.Form) → table_reduced table expr ≡ r → PrintedBy r table before after m → PrintedBy (table_reduced table expr) table before after m
-    by_result r e w = subst (λ (r : Result S.Form). PrintedBy r table before after m) (sym e) w
-
-    -- the table is refused
-    pub table_refused : (c ≡ 0 → ⊥) → TextWritten before after m (print_result (refused c)) → PrintedBy (table_reduced table expr) table before after m
-    unfolding PrintedBy
-    table_refused n w = by_result (refused c) (bad-table table expr c h n) w
-
-    module _ (z : c ≡ 0) (r : Outcome) (worked : Gives (reduced table expr) r) where
-      -- the expression is refused
-      pub expression_refused : (r.refusal ≡ 0 → ⊥) → TextWritten before after m (print_result (refused r.refusal))
-          → PrintedBy (table_reduced table expr) table before after m
-      unfolding PrintedBy
-      expression_refused n w = by_result (refused r.refusal) (bad-expression table expr c h z r worked n) w
+      -- form, steps and last form can be printed
+      pub log-printable : Printable alphabet f × StepsPrintable alphabet d.steps × Printable alphabet d.last
+      log-printable =
+          let many = good_short table good in (
+            printable table alphabet many f worked.valid derives.first_tested,
+            steps-printable table alphabet many d.steps wd.valid.steps derives.steps_tested,
+            printable table alphabet many d.last wd.valid.last derives.last_tested,
+          )
 
       -- the log is printed
-      pub log-printed : (e : r.refusal ≡ 0) (d : Derivation) → Derived table r.form d → length r.form.terms ≡ 48 → length d.last.terms ≡ 48
+      pub log-printed : (before after : List ℕ) (m : ℕ) → length f.terms ≡ 48 → length d.last.terms ≡ 48
           → TextWritten before after m
-          (print_line alphabet (form_of r.form) ++ print_steps alphabet (steps_of d.steps) ++ print_line alphabet (form_of d.last))
+          (print_line alphabet (form_of f) ++ print_steps alphabet (steps_of d.steps) ++ print_line alphabet (form_of d.last))
           → PrintedBy (table_reduced table expr) table before after m
       unfolding PrintedBy print_log print_result
-      log-printed e d wd places rooms w =
-          by_result (given (form_of r.form)) (form-reduced table expr c h z r worked e)
+      log-printed before after m places rooms w =
+          subst (λ (r : Result S.Form). PrintedBy r table before after m) worked.is
           (record {
-            log = log_of (form_of r.form) (steps_of d.steps) (form_of d.last);
-            shortens = shortens z r worked e d wd places rooms;
+            log = log_of (form_of f) (steps_of d.steps) (form_of d.last);
+            shortens = steps-shorten table good f worked.valid letters_tested d wd places rooms;
             text = w;
           })
 
@@ -107,15 +97,15 @@ module _ (s before after : List ℕ) (m : ℕ) where
   by_tests r e w = rw e w
 
   -- the length byte is missing
-  pub nothing_there : length s ≡ 0 → TextWritten before after m (print_result (refused 1)) → PrintedBy (print_tested s) (input_table s) before after m
+  pub nothing_there : length s ≡ 0 → (n : ℕ) → n ≡ number_of BadTable → TextWritten before after m (print_result (refused n)) → PrintedBy (print_tested s) (input_table s) before after m
   unfolding PrintedBy
-  nothing_there e w = by_tests (refused 1) (none_tested s e) w
+  nothing_there e n q w = by_tests (refused n) (none_tested s e ∙ ap refused (sym q)) w
 
   -- the table is cut
-  pub table-cut : (length s ≡ 0 → ⊥) → length s < get_or s 0 0 + 1 → TextWritten before after m (print_result (refused 1))
+  pub table-cut : (length s ≡ 0 → ⊥) → length s < get_or s 0 0 + 1 → (k : ℕ) → k ≡ number_of BadTable → TextWritten before after m (print_result (refused k))
       → PrintedBy (print_tested s) (input_table s) before after m
   unfolding PrintedBy
-  table-cut n l w = by_tests (refused 1) (cut_tested s n l) w
+  table-cut n l k q w = by_tests (refused k) (cut_tested s n l ∙ ap refused (sym q)) w
 
   -- the table and the expression as parts of it
   pub parts-printed : get_or s 0 0 + 1 ≤ length s

@@ -6,10 +6,9 @@ ghost use Rattle.printer_call.specs.Lines.{table_reduced};
 ghost use Rattle.specification.specs.Printing.{input_table, print_tested, lines_bytes, PrintedBy, LinesPrinted};
 ghost use Rattle.printer_call.specs.Answers.{length_of};
 
-use letters::check_table;
 use log_lines::lines::print_log;
+use printer_call::table_form;
 use printing::{ALPHABET, print_refusal};
-use reduction::form_of;
 use refusal::Refusal;
 use shortening::rounds::derive;
 
@@ -21,20 +20,13 @@ fn print_shortened(table: &[u8], expression: &[u8], out: &mut [u8]) -> usize
     requires { lines_bytes ≤ length out.old }
     ensures { PrintedBy (table_reduced table.now expression.now) table.now out.old out.new result }
 {
-    let c = check_table(table);
-    if c != 0 {
-        return print_refusal(out, c);
+    match table_form(table, expression) {
+        Ok(f) => {
+            let d = derive(table, f);
+            print_log(&ALPHABET, out, f, d.steps, d.last)
+        }
+        Err(why) => print_refusal(out, why.number()),
     }
-    let w = form_of(table, expression);
-    let n = w.refusal;
-    if n != 0 {
-        return print_refusal(out, n);
-    }
-    let f = w.form;
-    let d = derive(table, f);
-    let steps = d.steps;
-    let last = d.last;
-    print_log(&ALPHABET, out, f, steps, last)
 }
 
 // The lines of all that stands in the input, in memory that is long enough.
@@ -44,11 +36,11 @@ fn print_input(s: &[u8], out: &mut [u8]) -> usize
 {
     let n = s.len();
     if n == 0 {
-        return print_refusal(out, 1);
+        return print_refusal(out, Refusal::BadTable.number());
     }
     let k = s[0] as usize + 1;
     if n < k {
-        return print_refusal(out, 1);
+        return print_refusal(out, Refusal::BadTable.number());
     }
     print_shortened(&s[1..k], &s[k..n], out)
 }

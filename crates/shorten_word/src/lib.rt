@@ -8,6 +8,7 @@ use declarations::read_header;
 use formula_lines::form_at;
 use lines::places::line_behind;
 use log_telling::tell_log;
+use refusal::Refusal;
 use refusals::tell_line;
 use shortening::rounds::derive;
 
@@ -23,17 +24,14 @@ pub fn shorten_text(s: &[u8], out: &mut [u8]) -> usize
     };
     let p = h.place;
     let n = h.count;
-    let r = form_at(&names[..n], &table[..n], s, p);
-    if r.refusal != 0 {
-        return tell_line(s, r.refusal, p, r.column, out);
-    }
+    let f = match form_at(&names[..n], &table[..n], s, p) {
+        Ok(f) => f,
+        Err(e) => return tell_line(s, e.why.number(), p, e.column, out),
+    };
     let q = line_behind(s, p);
     if q.at < s.len() {
-        return tell_line(s, 4, q, 0, out);
+        return tell_line(s, Refusal::Torn.number(), q, 0, out);
     }
-    let f = r.form;
     let d = derive(&table[..n], f);
-    let steps = d.steps;
-    let last = d.last;
-    tell_log(out, 0, &names[..n], &table[..n], f, steps, last)
+    tell_log(out, 0, &names[..n], &table[..n], f, d.steps, d.last)
 }

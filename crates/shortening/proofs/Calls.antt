@@ -3,7 +3,7 @@ use mathlib.Core.Path.{◌≡◌, refl, sym, subst, ◌∙◌}
 use mathlib.Core.List.{List}
 use Prim.Native.Nat.{ℕ, ◌+◌, ◌<◌, ◌≤◌}
 use native.Mathlib.Omega.{arith}
-use borrow.Author.Tests.{le-leb, lt-leb, eq-eqb, ne_eqb}
+use borrow.Author.Tests.{le-leb, lt-leb}
 use lib.ListN.{length}
 use Rattle.specification.specs.Results.{Result, refused, given}
 use Rattle.specification.specs.Letters.{test_table}
@@ -16,12 +16,16 @@ use Rattle.theory.specs.Records.Positions.{Bytes}
 use Rattle.theory.proofs.Records.Lengths.{saving-log_short}
 use Rattle.theory.specs.Records.Taken.{taken_so}
 use Rattle.theory.proofs.Replay.Accepted.{Derives}
-use Rattle.terms.specs.Abstraction.{form_of, outcome_of}
+use Rattle.std.specs.Prelude.{Ok, Err}
+use Rattle.refusal.specs.declared.Refusal.{Refusal}
+use Rattle.refusal.specs.declared.Refusal.TheVariants.{NoRoom}
+use Rattle.refusal.specs.Numbers.{number_of}
+use Rattle.refusal.specs.Tests.{test_of}
+use Rattle.terms.specs.declared.types.Form.{Form}
+use Rattle.terms.specs.Abstraction.{form_of}
 use Rattle.terms.proofs.Forms.{form-long}
-use Rattle.terms.specs.declared.types.Outcome.{Outcome}
-use Rattle.letters.specs.Tested.{test_of}
 use Rattle.terms.specs.Valid.{Gives}
-use Rattle.letters.proofs.LetterTests.{test-passed, test_refused}
+use Rattle.terms.proofs.Outcomes.{worked_given, worked_refused}
 use Rattle.logs.specs.Steps.{steps_of}
 use Rattle.logs.specs.Writing.{LogWritten}
 use Rattle.logs.proofs.StepRecords as L
@@ -29,65 +33,64 @@ use Rattle.shortening.specs.declared.rounds.Derivation.{Derivation}
 use Rattle.shortening.specs.Derived.{Derived}
 use Rattle.shortening.proofs.Shortened.{shortened_to}
 
-module _ (table form out : List ℕ) (n : ℕ) (et : test_of n ≡ test_table table) where
+module _ (table form out : List ℕ) where
   -- what holds by the tests holds of the call
   by_tests : (r : Result S.Form) (answer : H.Shortening) (out' : List ℕ) → shorten_tested table form out ≡ r → ShortenedBy r table form out answer out' → Shortened table form out answer out'
   unfolding Shortened
   by_tests r answer out' e w = subst (λ (r : Result S.Form). ShortenedBy r table form out answer out') (sym e) w
 
+  refused_so : (e : Refusal) → shorten_tested table form out ≡ refused (number_of e) → Shortened table form out (unshortened (number_of e)) out
+  unfolding ShortenedBy
+  refused_so e h = by_tests (refused (number_of e)) (unshortened (number_of e)) out h (refl, refl)
+
   -- 1
-  pub table_refused : (n ≡ 0 → ⊥) → Shortened table form out (unshortened n) out
-  unfolding ShortenedBy shorten_tested
-  table_refused h = by_tests (refused n) (unshortened n) out (rw (← et, test_refused n h)) (refl, refl)
+  pub table_refused : (e : Refusal) → test_of (Err e) ≡ test_table table → Shortened table form out (unshortened (number_of e)) out
+  unfolding shorten_tested
+  table_refused e h = refused_so e (rw (← h))
 
-  module _ (z : n ≡ 0) where
-    good : test_table table ≡ given tt
-    good = sym et ∙ test-passed n z
-
+  module _ (u : Unit {0}) (et : test_of (Ok u) ≡ test_table table) where
     -- 2
     pub out_refused : length out < shortening_bytes → Shortened table form out (unshortened 2) out
-    unfolding ShortenedBy shorten_tested
-    out_refused h = by_tests (refused 2) (unshortened 2) out (rw (good, lt-leb shortening_bytes (length out) h)) (refl, refl)
+    unfolding shorten_tested
+    out_refused h = refused_so NoRoom (rw (← et, lt-leb shortening_bytes (length out) h))
 
-    module _ (enough : shortening_bytes ≤ length out) (a : Outcome) (wa : Gives (take_form table form) a) where
+    module _ (enough : shortening_bytes ≤ length out) where
       tests-are : shorten_tested table form out ≡ take_form table form
       unfolding shorten_tested
-      tests-are = rw (good, le-leb shortening_bytes (length out) enough)
+      tests-are = rw (← et, le-leb shortening_bytes (length out) enough)
 
       -- 11, 5, 6
-      pub form_refused : (a.refusal ≡ 0 → ⊥) → Shortened table form out (unshortened a.refusal) out
-      unfolding ShortenedBy outcome_of
-      form_refused h = by_tests (refused a.refusal) (unshortened a.refusal) out (tests-are ∙ sym wa.is ∙ rw (ne_eqb a.refusal 0 h)) (refl, refl)
+      pub form_refused : (e : Refusal) → Gives (take_form table form) (Err e) → Shortened table form out (unshortened (number_of e)) out
+      form_refused e wa = refused_so e (tests-are ∙ worked_refused (take_form table form) e wa)
 
-      module _ (zero : a.refusal ≡ 0) (places : length a.form.terms ≡ 48) (d : Derivation) (wd : Derived table a.form d) (rooms : length d.last.terms ≡ 48) where
-        taken : take_form table form ≡ given (form_of a.form)
-        unfolding outcome_of
-        taken = sym wa.is ∙ rw (eq-eqb a.refusal 0 zero)
+      module _ (f : Form) (wa : Gives (take_form table form) (Ok f)) (places : length f.terms ≡ 48) (d : Derivation) (wd : Derived table f d) (rooms : length d.last.terms ≡ 48) where
+        taken : take_form table form ≡ given (form_of f)
+        taken = worked_given (take_form table form) f wa
 
         steps-long : length (steps_of d.steps) ≡ d.steps.count
         steps-long = L.steps-long d.steps wd.valid.steps
 
         -- there is room
         log-asks : d.steps.count + d.last.count ≤ 48
-        log-asks = omega (arith, wd.saves, (wa.valid zero).few)
+        log-asks = omega (arith, wd.saves, wa.valid.few)
 
-        derived : Derives table (form_of a.form) (steps_of d.steps) (form_of d.last)
-        derived = wd.derives (table_good_lem table good) (taken_so table form (form_of a.form) taken).letters_tested
+        derived : Derives table (form_of f) (steps_of d.steps) (form_of d.last)
+        derived = wd.derives (table_good_lem table (sym et)) (taken_so table form (form_of f) taken).letters_tested
 
         last_long : length (form_of d.last).terms ≡ d.last.count
         last_long = form-long d.last wd.valid.last rooms
 
         -- the log is short
-        pub log-fits : (size : ℕ) (out' : List ℕ) → LogWritten out out' size (form_of a.form) (steps_of d.steps) (form_of d.last) → size ≤ shortening_bytes
-        log-fits size out' w = omega (arith, w.ends, saving-log_short (form_of a.form) (steps_of d.steps) (form_of d.last) derived.in_shape (omega (arith, log-asks, steps-long, last_long)))
+        pub log-fits : (size : ℕ) (out' : List ℕ) → LogWritten out out' size (form_of f) (steps_of d.steps) (form_of d.last) → size ≤ shortening_bytes
+        log-fits size out' w = omega (arith, w.ends, saving-log_short (form_of f) (steps_of d.steps) (form_of d.last) derived.in_shape (omega (arith, log-asks, steps-long, last_long)))
 
         -- the log
-        pub log_written : Bytes form → (size : ℕ) (out' : List ℕ) → LogWritten out out' size (form_of a.form) (steps_of d.steps) (form_of d.last)
+        pub log_written : Bytes form → (size : ℕ) (out' : List ℕ) → LogWritten out out' size (form_of f) (steps_of d.steps) (form_of d.last)
             → Shortened table form out (shortened size d.steps.count) out'
         unfolding ShortenedBy
         log_written bytes size out' w =
-            by_tests (given (form_of a.form)) (shortened size d.steps.count) out' (tests-are ∙ taken)
-            (subst (λ (k : ℕ). H.ShortenedTo table form (form_of a.form) out size k out') steps-long
-            (shortened_to table form out out' (form_of a.form) (steps_of d.steps) (form_of d.last) size bytes taken derived
+            by_tests (given (form_of f)) (shortened size d.steps.count) out' (tests-are ∙ taken)
+            (subst (λ (k : ℕ). H.ShortenedTo table form (form_of f) out size k out') steps-long
+            (shortened_to table form out out' (form_of f) (steps_of d.steps) (form_of d.last) size bytes taken derived
             w.ends w.bytes (omega (arith, log-fits size out' w, enough))
-            (omega (arith, steps-long, last_long, form-long a.form (wa.valid zero) places, wd.saves)) (wd.shortest (taken_so table form (form_of a.form) taken).letters_tested)))
+            (omega (arith, steps-long, last_long, form-long f wa.valid places, wd.saves)) (wd.shortest (taken_so table form (form_of f) taken).letters_tested)))

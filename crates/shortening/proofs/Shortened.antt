@@ -16,7 +16,7 @@ use Rattle.theory.specs.Records.Forms.{form-read_back}
 use Rattle.theory.proofs.Records.Logs.{last_start_of}
 use Rattle.theory.proofs.Replay.Accepted.{Derives}
 use Rattle.forms.proofs.RoundTrip.{taken_written}
-use Rattle.checker.specs.Answers.{checked_of}
+use Rattle.logs.specs.Steps.{found_of}
 use Rattle.checker.proofs.AcceptedLogs.{answers-derivation}
 
 module _ (first : Form) (steps : List Step) (last : Form) where
@@ -42,7 +42,7 @@ module _ (first : Form) (steps : List Step) (last : Form) where
 pub shortened_to : (table form out out' : List ℕ) (first : Form) (steps : List Step) (last : Form) (size : ℕ) → Bytes form → take_form table form ≡ given first
     → Derives table first steps last → size ≡ length (write_log first steps last) → out' ≡ write_into (write_log first steps last) out → size ≤ length out
     → length steps + length last.terms ≤ length first.terms → Shortest table last → ShortenedTo table form first out size (length steps) out'
-unfolding write_into checked_of
+unfolding write_into found_of
 shortened_to table form out out' first steps last size bs taken d size_is out-is fits saves shortest =
     let log = write_log first steps last in
     let rest = drop (length log) out in

@@ -11,37 +11,33 @@ use crate::rounds::derive;
 use forms::read_form;
 use letters::check_table;
 use logs::writing::write_log;
+use refusal::Refusal;
 
 // Bytes that the log of any shortening fits into.
 pub const SHORTENING_BYTES: usize = 2309;
 
-// What shortening says: written, with the log's length and its steps, or refused with its number.
+// A log that was written: its length and its steps.
 #[derive(Clone, Copy)]
-pub enum Shortening {
-    Written(usize, usize),
-    Refused(u8),
+pub struct Written {
+    pub size: usize,
+    pub steps: usize,
 }
 
 // The log of a form's shortening, at the start of the bytes lent.
 // Refused with 1 for the table, 2 for short memory, 11 for the form, then 5 or 6 for its letters.
-pub fn shorten(table: &[u8], form: &[u8], out: &mut [u8]) -> Shortening
+pub fn shorten(table: &[u8], form: &[u8], out: &mut [u8]) -> Result<Written, Refusal>
     ensures answer { Shortened table.now form.now out.old (shortening_of result) out.new }
     ensures short { log_length (shortening_of result) ≤ shortening_bytes }
 {
-    let bad = check_table(table);
-    if bad != 0 {
-        return Shortening::Refused(bad);
-    }
+    check_table(table)?;
     if out.len() < SHORTENING_BYTES {
-        return Shortening::Refused(2);
+        return Err(Refusal::NoRoom);
     }
-    let a = read_form(table, form);
-    let p = a.refusal;
-    if p != 0 {
-        return Shortening::Refused(p);
-    }
-    let d = derive(table, a.form);
-    let n = d.steps.count;
-    let size = write_log(out, a.form, d.steps, d.last);
-    Shortening::Written(size, n)
+    let f = read_form(table, form)?;
+    let d = derive(table, f);
+    let size = write_log(out, f, d.steps, d.last);
+    Ok(Written {
+        size,
+        steps: d.steps.count,
+    })
 }

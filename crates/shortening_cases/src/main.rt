@@ -9,23 +9,22 @@ ghost use Rattle.std.specs.Prelude.{◌<◌, ◌≤◌, length};
 use case_lines::{
     byte_at, fill, print_accepted, print_character, print_refusal, print_standing, two_bytes_at,
 };
-use checker::{Checked, check, first_form, last_form};
-use shortening::{Shortening, shorten};
+use checker::{check, first_form, last_form};
+use shortening::shorten;
 
 // A log that was written, with the steps reported.
 fn print_log(table: &[u8], form: &[u8], log: &[u8], steps: usize) {
-    let c = check(table, log);
-    match c {
-        Checked::Accepted(end, start, n) => print_accepted(
+    match check(table, log) {
+        Ok(a) => print_accepted(
             form,
-            first_form(log, end),
-            last_form(log, start),
-            n,
+            first_form(log, a.first_end),
+            last_form(log, a.last_start),
+            a.steps,
             steps,
         ),
-        Checked::Refused(n, _) => {
+        Err(e) => {
             io::write_all(1, b"not-accepted ");
-            print_refusal(n);
+            print_refusal(e.why);
         }
     }
 }
@@ -43,11 +42,10 @@ fn print_written(table: &[u8], form: &[u8], out: &[u8], size: usize, steps: usiz
 // The line of a case.
 fn print_case(table: &[u8], form: &[u8], out: &mut [u8]) {
     fill(out);
-    let r = shorten(table, form, out);
-    match r {
-        Shortening::Written(size, steps) => print_written(table, form, out, size, steps),
-        Shortening::Refused(n) => {
-            print_refusal(n);
+    match shorten(table, form, out) {
+        Ok(w) => print_written(table, form, out, w.size, w.steps),
+        Err(why) => {
+            print_refusal(why);
             print_standing(out);
         }
     }

@@ -16,31 +16,23 @@ use Rattle.terms.specs.declared.types.Term.{Term}
 use Rattle.terms.specs.declared.types.Form.{Form}
 use Rattle.terms.specs.Abstraction.{term_of, form_of}
 use Rattle.terms.specs.Valid.{FormValid}
-use Rattle.sides.specs.declared.Sides.{Sides}
+use Rattle.std.specs.Prelude.{Ok, Err}
+use Rattle.std.specs.Prelude as Std
+use Rattle.refusal.specs.declared.Refusal.TheVariants.{WrongKind}
+use Rattle.refusal.specs.Numbers.{number_of}
+use Rattle.texts.specs.declared.Unread.{Unread}
 use Rattle.sides.specs.Readings.{SidesRead, Paired}
 
 -- ════ what is told
 
 -- a refusal
-pub sides_refused : (table : List ℕ) (x : Placed (S.Form × S.Form)) (r : Sides) (n c : ℕ) → (n ≡ 0 → ⊥) → (r.refusal ≡ n) × (r.column ≡ c) → x ≡ refused_at n c
-    → SidesRead table x r
-sides_refused table x r n c z q e =
-    let y : r.refusal ≡ 0 → ⊥ = λ w. z (sym q.0 ∙ w) in
-    record {
-      refuses = λ _. e ∙ (λ i. refused_at (sym q.0 i) (sym q.1 i));
-      gives = λ w. absurd (y w);
-      valid_first = λ w. absurd (y w);
-      valid_second = λ w. absurd (y w);
-      kinds = λ w. absurd (y w);
-      tested_first = λ w. absurd (y w);
-      tested_second = λ w. absurd (y w);
-    }
+pub sides_refused : (table : List ℕ) (x : Placed (S.Form × S.Form)) (e : Unread) → x ≡ refused_at (number_of e.why) e.column → SidesRead table x (Err e)
+sides_refused table x e q = record { is = q; valid_first = tt; valid_second = tt; kinds = tt; tested_first = tt; tested_second = tt }
 
 -- the same in other words
-pub sides_as : (table : List ℕ) (x y : Placed (S.Form × S.Form)) (r : Sides) → x ≡ y → SidesRead table x r → SidesRead table y r
+pub sides_as : (table : List ℕ) (x y : Placed (S.Form × S.Form)) (r : Std.Result (Form × Form) Unread) → x ≡ y → SidesRead table x r → SidesRead table y r
 sides_as table x y r e h = record {
-  refuses = λ w. sym e ∙ h.refuses w;
-  gives = λ w. sym e ∙ h.gives w;
+  is = sym e ∙ h.is;
   valid_first = h.valid_first;
   valid_second = h.valid_second;
   kinds = h.kinds;
@@ -73,57 +65,52 @@ counted f v long = length-map (take f.count f.terms) term_of ∙ length-take-le 
 
 module _ (at : ℕ) (f g : Form) (vf : FormValid f) (vg : FormValid g) (lf : length f.terms ≡ 48) (lg : length g.terms ≡ 48) where
   -- the first is empty
-  pub first-empty : f.count ≡ 0 → Paired at f g (record { refusal = 0; column = 0; first = empty_form g.kind f.terms; second = g })
+  pub first-empty : f.count ≡ 0 → Paired at f g (Ok (empty_form g.kind f.terms, g))
   unfolding paired form_of
   first-empty e table p q = record {
-    refuses = λ w. absurd (w refl);
-    gives = λ _. rw (eq-eqb (length (form_of f).terms) 0 (counted f vf lf ∙ e));
-    valid_first = λ _. empty-valid g.kind f.terms vg.in_shape.kind;
-    valid_second = λ _. vg;
-    kinds = λ _. refl;
-    tested_first = λ _. empty_tested g.kind f.terms table;
-    tested_second = λ _. q;
+    is = rw (eq-eqb (length (form_of f).terms) 0 (counted f vf lf ∙ e));
+    valid_first = empty-valid g.kind f.terms vg.in_shape.kind;
+    valid_second = vg;
+    kinds = refl;
+    tested_first = empty_tested g.kind f.terms table;
+    tested_second = q;
   }
 
   module _ (some : f.count ≡ 0 → ⊥) where
     -- the second is empty
-    pub second_empty : g.count ≡ 0 → Paired at f g (record { refusal = 0; column = 0; first = f; second = empty_form f.kind g.terms })
+    pub second_empty : g.count ≡ 0 → Paired at f g (Ok (f, empty_form f.kind g.terms))
     unfolding paired form_of
     second_empty e table p q = record {
-      refuses = λ w. absurd (w refl);
-      gives = λ _.
-          rw (ne_eqb (length (form_of f).terms) 0 (λ z. some (sym (counted f vf lf) ∙ z)), eq-eqb (length (form_of g).terms) 0 (counted g vg lg ∙ e));
-      valid_first = λ _. vf;
-      valid_second = λ _. empty-valid f.kind g.terms vf.in_shape.kind;
-      kinds = λ _. refl;
-      tested_first = λ _. p;
-      tested_second = λ _. empty_tested f.kind g.terms table;
+      is = rw (ne_eqb (length (form_of f).terms) 0 (λ z. some (sym (counted f vf lf) ∙ z)), eq-eqb (length (form_of g).terms) 0 (counted g vg lg ∙ e));
+      valid_first = vf;
+      valid_second = empty-valid f.kind g.terms vf.in_shape.kind;
+      kinds = refl;
+      tested_first = p;
+      tested_second = empty_tested f.kind g.terms table;
     }
 
     module _ (more : g.count ≡ 0 → ⊥) where
       -- they are of one kind
-      pub kinds_same : f.kind ≡ g.kind → Paired at f g (record { refusal = 0; column = 0; first = f; second = g })
+      pub kinds_same : f.kind ≡ g.kind → Paired at f g (Ok (f, g))
       unfolding paired form_of
       kinds_same e table p q = record {
-        refuses = λ w. absurd (w refl);
-        gives = λ _.
-            rw (
-              ne_eqb (length (form_of f).terms) 0 (λ z. some (sym (counted f vf lf) ∙ z)),
-              ne_eqb (length (form_of g).terms) 0 (λ z. more (sym (counted g vg lg) ∙ z)),
-              eq-eqb f.kind g.kind e,
-            );
-        valid_first = λ _. vf;
-        valid_second = λ _. vg;
-        kinds = λ _. e;
-        tested_first = λ _. p;
-        tested_second = λ _. q;
+        is = rw (
+          ne_eqb (length (form_of f).terms) 0 (λ z. some (sym (counted f vf lf) ∙ z)),
+          ne_eqb (length (form_of g).terms) 0 (λ z. more (sym (counted g vg lg) ∙ z)),
+          eq-eqb f.kind g.kind e,
+        );
+        valid_first = vf;
+        valid_second = vg;
+        kinds = e;
+        tested_first = p;
+        tested_second = q;
       }
 
       -- they are not
-      pub kinds-other : (r : Sides) → (f.kind ≡ g.kind → ⊥) → (r.refusal ≡ 6) × (r.column ≡ at) → Paired at f g r
+      pub kinds-other : (f.kind ≡ g.kind → ⊥) → Paired at f g (Err (record { why = WrongKind; column = at }))
       unfolding paired form_of
-      kinds-other r n q table s t =
-          sides_refused table (paired at (form_of f) (form_of g)) r 6 at (λ z. omega (arith, z)) q
+      kinds-other n table s t =
+          sides_refused table (paired at (form_of f) (form_of g)) (record { why = WrongKind; column = at })
           (rw (
             ne_eqb (length (form_of f).terms) 0 (λ z. some (sym (counted f vf lf) ∙ z)),
             ne_eqb (length (form_of g).terms) 0 (λ z. more (sym (counted g vg lg) ∙ z)),

@@ -18,6 +18,10 @@ use Rattle.theory.specs.Shape.Terms.{Fits}
 use Rattle.theory.specs.Shape.Forms.{FormInShape, form-fits, form-gathered}
 use Rattle.theory.proofs.Reduction.Operators.{negate-in_shape}
 use Rattle.terms.proofs.Arrays.{all-at}
+use Rattle.std.specs.Prelude.{Err}
+use Rattle.std.specs.Prelude as Std
+use Rattle.refusal.specs.declared.Refusal.{Refusal}
+use Rattle.refusal.specs.declared.Refusal.TheVariants.{WrongKind}
 use Rattle.rows.specs.declared.Worked.{Worked}
 use Rattle.rows.specs.Rows.{RowValid, term_by, terms_by, run_of, Light, form_by, FormRun, RowsGive, Copied}
 use Rattle.gathering.specs.Bringing.{coef_bound, BroughtIn}
@@ -74,10 +78,9 @@ rows_all m right rights f j n rows₀ coefs₀ s rows coefs g h w =
 -- ════ the sum
 
 -- unlike kinds
-pub sum-six : (f g : S.Form) (w : Worked) (rows : List (List ℕ)) (coefs : List ℤ) → (f.kind ≡ g.kind → ⊥) → w.refusal ≡ 6
-    → RowsGive (sum_forms f g) w rows coefs
+pub sum-six : (f g : S.Form) (rows : List (List ℕ)) (coefs : List ℤ) → (f.kind ≡ g.kind → ⊥) → RowsGive (sum_forms f g) (Err WrongKind) rows coefs
 unfolding sum_forms
-sum-six f g w rows coefs h e = rows_refused (sum_forms f g) w 6 rows coefs e (λ z. omega arith) (rw (ne_eqb f.kind g.kind h))
+sum-six f g rows coefs h = rows_refused (sum_forms f g) WrongKind rows coefs (rw (ne_eqb f.kind g.kind h))
 
 -- one kind
 module _ (kind n : ℕ) (rows : List (List ℕ)) (coefs : List ℤ) (m : ℕ) (right : List (List ℕ)) (rights : List ℤ) (v : FormRun kind n rows coefs)
@@ -98,13 +101,13 @@ module _ (kind n : ℕ) (rows : List (List ℕ)) (coefs : List ℤ) (m : ℕ) (r
     }
 
     -- and gives the sum
-    pub sum_gives : (w : Worked) (rows'' : List (List ℕ)) (coefs'' : List ℤ) → RowsGive (within kind (run_of r rows' coefs')) w rows'' coefs''
+    pub sum_gives : (w : Std.Result Worked Refusal) (rows'' : List (List ℕ)) (coefs'' : List ℤ) → RowsGive (within kind (run_of r rows' coefs')) w rows'' coefs''
         → RowsGive (sum_forms (form_by kind n rows coefs) (form_by kind m right rights)) w rows'' coefs''
     unfolding sum_forms
     sum_gives w rows'' coefs'' = rows_as (within kind (run_of r rows' coefs')) _ w rows'' coefs'' (ap (within kind) gathered ∙ rw (eq-eqb kind kind refl))
 
   -- apart
-  pub sum-apart : (more : List (List ℕ)) (beside : List ℤ) (w : Worked) (rows'' : List (List ℕ)) (coefs'' : List ℤ) → Copied n rows coefs more beside
+  pub sum-apart : (more : List (List ℕ)) (beside : List ℤ) (w : Std.Result Worked Refusal) (rows'' : List (List ℕ)) (coefs'' : List ℤ) → Copied n rows coefs more beside
       → RowsGive (sum_forms (form_by kind n more beside) (form_by kind m right rights)) w rows'' coefs''
       → RowsGive (sum_forms (form_by kind n rows coefs) (form_by kind m right rights)) w rows'' coefs''
   sum-apart more beside w rows'' coefs'' q =
@@ -115,7 +118,7 @@ module _ (kind n : ℕ) (rows : List (List ℕ)) (coefs : List ℤ) (m : ℕ) (r
 pub kinds_as : (kind other n : ℕ) (rows : List (List ℕ)) (coefs : List ℤ) → kind ≡ other → FormRun other n rows coefs → FormRun kind n rows coefs
 kinds_as kind other n rows coefs e = subst (λ (k : ℕ). FormRun k n rows coefs) (sym e)
 
-pub sum_as : (f : S.Form) (kind other : ℕ) (ts : List S.Term) (w : Worked) (rows : List (List ℕ)) (coefs : List ℤ) → kind ≡ other
+pub sum_as : (f : S.Form) (kind other : ℕ) (ts : List S.Term) (w : Std.Result Worked Refusal) (rows : List (List ℕ)) (coefs : List ℤ) → kind ≡ other
     → RowsGive (sum_forms f (record { kind = kind; terms = ts })) w rows coefs → RowsGive (sum_forms f (record { kind = other; terms = ts })) w rows coefs
 sum_as f kind other ts w rows coefs e = rows_as _ _ w rows coefs (ap (λ (k : ℕ). sum_forms f (record { kind = k; terms = ts })) e)
 

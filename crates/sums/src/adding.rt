@@ -5,10 +5,11 @@ ghost use Rattle.rows.specs.Rows.{run_of, Run, Light, form_by, FormRun, RowsGive
 ghost use Rattle.rows.specs.Rows.{SomeForm};
 ghost use Rattle.sums.specs.Results.{Brought};
 
-use crate::results::{close, refuse};
+use crate::results::close;
 use gathering::bringing::bring;
 use integers::neg;
 use limits::{NO_BOUND, test_limits};
+use refusal::Refusal;
 use rows::{Worked, copy};
 
 // Each of the m rows of a form brought in among n; how many there are then.
@@ -26,12 +27,10 @@ fn bring_rows(
         coefs.new }
 {
     let mut count = n;
-    let mut j: usize = 0;
-    while j < m {
+    for j in 0..m {
         let r = right[j];
         let c = rights[j];
         count = bring(rows, coefs, count, r, c);
-        j += 1;
     }
     count
 }
@@ -45,19 +44,15 @@ fn add_here(
     m: usize,
     right: &[[u32; 8]],
     rights: &[i64],
-) -> Worked
+) -> Result<Worked, Refusal>
     requires { FormRun kind n rows.old coefs.old × FormRun kind m right.now rights.now
         × (n + m ≤ length rows.old) × (n + m ≤ length coefs.old) }
     ensures { RowsGive (sum_forms (form_by kind n rows.old coefs.old) (form_by kind m right.now rights.now)) result
         rows.new coefs.new }
 {
     let count = bring_rows(rows, coefs, n, right, rights, m);
-    let r = test_limits(coefs, count, NO_BOUND);
-    Worked {
-        refusal: r,
-        kind: kind,
-        count: count,
-    }
+    test_limits(coefs, count, NO_BOUND)?;
+    Ok(Worked { kind, count })
 }
 
 // The sum of two forms of one kind, gathered apart.
@@ -69,7 +64,7 @@ fn add_apart(
     m: usize,
     right: &[[u32; 8]],
     rights: &[i64],
-) -> Worked
+) -> Result<Worked, Refusal>
     requires { FormRun kind n rows.old coefs.old × FormRun kind m right.now rights.now × (48 ≤ length rows.old) × (48 ≤ length coefs.old) }
     ensures { RowsGive (sum_forms (form_by kind n rows.old coefs.old) (form_by kind m right.now rights.now)) result
         rows.new coefs.new }
@@ -82,7 +77,7 @@ fn add_apart(
     close(kind, count, &more, &beside, rows, coefs)
 }
 
-// The sum of two forms: 6 where their kinds differ.
+// The sum of two forms, whose kinds have to agree.
 pub fn sum(
     kind: u8,
     n: usize,
@@ -92,13 +87,13 @@ pub fn sum(
     m: usize,
     right: &[[u32; 8]],
     rights: &[i64],
-) -> Worked
+) -> Result<Worked, Refusal>
     requires { FormRun kind n rows.old coefs.old × FormRun other m right.now rights.now × (48 ≤ length rows.old) × (48 ≤ length coefs.old) }
     ensures { RowsGive (sum_forms (form_by kind n rows.old coefs.old) (form_by other m right.now rights.now)) result
         rows.new coefs.new }
 {
     if kind != other {
-        return refuse(6);
+        return Err(Refusal::WrongKind);
     }
     if n + m > 48 {
         return add_apart(kind, n, rows, coefs, m, right, rights);
@@ -111,11 +106,9 @@ pub fn negate(coefs: &mut [i64], n: usize)
     requires { (n ≤ length coefs.old) × Light 2147483647 n coefs.old }
     ensures { take n coefs.new ≡ map neg_ℤ (take n coefs.old) }
 {
-    let mut i: usize = 0;
-    while i < n {
+    for i in 0..n {
         let c = neg(coefs[i]);
         coefs[i] = c;
-        i += 1;
     }
 }
 
@@ -129,7 +122,7 @@ pub fn difference(
     m: usize,
     right: &[[u32; 8]],
     rights: &mut [i64],
-) -> Worked
+) -> Result<Worked, Refusal>
     requires { FormRun kind n rows.old coefs.old × FormRun other m right.now rights.old × (48 ≤ length rows.old) × (48 ≤ length coefs.old) }
     ensures { RowsGive (sum_forms (form_by kind n rows.old coefs.old)
         (negate_form (form_by other m right.now rights.old))) result rows.new coefs.new }

@@ -24,6 +24,9 @@ use Rattle.terms.specs.declared.types.Term.{Term}
 use Rattle.terms.specs.Numbers.{letters_of}
 use Rattle.terms.specs.Abstraction.{part_of, term_of, Counted}
 use Rattle.leaves.specs.Leaves.{TermAs}
+use Rattle.std.specs.Prelude.{Ok, Err}
+use Rattle.std.specs.Prelude as Std
+use Rattle.refusal.specs.declared.Refusal.{Refusal}
 use Rattle.rows.specs.declared.Worked.{Worked}
 use Rattle.rows.specs.Rows.{form_by, RowsGive}
 use Rattle.rows.proofs.RowForms.{rows_as}
@@ -71,7 +74,7 @@ front-form t f k s m = subst (λ (u : S.Term). FormInShape (one_term scalar u)) 
 
 -- and alone in its rows
 pub front_is : (t f : Term) (k : ℕ) → TermAs (front_of k (term_of t)) f → (w : Worked) (rows : List (List ℕ)) (coefs : List ℤ)
-    → RowsGive (given (record { kind = 0; terms = term_of f ∷ [] })) w rows coefs → form_by w.kind w.count rows coefs ≡ one_term scalar (front_of k (term_of t))
+    → RowsGive (given (record { kind = 0; terms = term_of f ∷ [] })) (Ok w) rows coefs → form_by w.kind w.count rows coefs ≡ one_term scalar (front_of k (term_of t))
 front_is t f k m w rows coefs g = given_is _ w rows coefs g ∙ ap (one_term scalar) m.is
 
 -- ════ the term
@@ -87,17 +90,19 @@ module _ (letter : ℕ) (inserted : S.Form) (t : S.Term) (k : ℕ) (shape : T (t
       (sym leads)
       ∙ ap (λ (g : S.Form). times_each (leaf_with letter inserted) g (drop k t.factors) >>= λ x. times_part_with (leaf_with letter inserted) x t.part) (sym is_front)
 
-  module _ (y : Worked) (rows : List (List ℕ)) (coefs : List ℤ) (g : RowsGive (times_each (leaf_with letter inserted) f (drop k t.factors)) y rows coefs) where
+  module _ (rows : List (List ℕ)) (coefs : List ℤ) where
     -- a factor was refused
-    pub parts_refused : (y.refusal ≡ 0 → ⊥) → RowsGive (work_with (leaf_with letter inserted) (term_tree t)) y rows coefs
-    parts_refused h = rows_as _ _ y rows coefs (sym parts_as) (refused_on (λ x. times_part_with (leaf_with letter inserted) x t.part) _ y rows coefs g rows coefs h)
+    pub parts_refused : (e : Refusal) → RowsGive (times_each (leaf_with letter inserted) f (drop k t.factors)) (Err e) rows coefs
+        → RowsGive (work_with (leaf_with letter inserted) (term_tree t)) (Err e) rows coefs
+    parts_refused e g = rows_as _ _ (Err e) rows coefs (sym parts_as) (refused_on (λ x. times_part_with (leaf_with letter inserted) x t.part) _ rows coefs e g rows coefs)
 
     -- the vector part decides
-    pub parts_given : (w : Worked) (rows' : List (List ℕ)) (coefs' : List ℤ) → y.refusal ≡ 0
+    pub parts_given : (y : Worked) → RowsGive (times_each (leaf_with letter inserted) f (drop k t.factors)) (Ok y) rows coefs
+        → (w : Std.Result Worked Refusal) (rows' : List (List ℕ)) (coefs' : List ℤ)
         → RowsGive (times_part_with (leaf_with letter inserted) (form_by y.kind y.count rows coefs) t.part) w rows' coefs'
         → RowsGive (work_with (leaf_with letter inserted) (term_tree t)) w rows' coefs'
-    parts_given w rows' coefs' z h =
-        rows_as _ _ w rows' coefs' (sym parts_as) (given_on (λ x. times_part_with (leaf_with letter inserted) x t.part) _ y rows coefs g w rows' coefs' z h)
+    parts_given y g w rows' coefs' h =
+        rows_as _ _ w rows' coefs' (sym parts_as) (given_on (λ x. times_part_with (leaf_with letter inserted) x t.part) _ rows coefs y g w rows' coefs' h)
 
 -- ════ a term as it is
 
@@ -115,7 +120,7 @@ module _ (t : Term) (kind : ℕ) (is_kind : kind ≡ kind_of_part (part_of t.par
   term-form = subst (λ (k : ℕ). FormInShape (one_term k (term_of t))) (sym is_kind) (term_in_shape_lem (term_of t) shape)
 
   -- without the letter it stands
-  pub term-as_is : (letter : ℕ) (inserted : S.Form) (k : ℕ) (w : Worked) (rows : List (List ℕ)) (coefs : List ℤ) → t.factor_count ≤ length t.factors
+  pub term-as_is : (letter : ℕ) (inserted : S.Form) (k : ℕ) (w : Std.Result Worked Refusal) (rows : List (List ℕ)) (coefs : List ℤ) → t.factor_count ≤ length t.factors
       → k ≡ leading_of letter (term_of t).factors → k ≡ t.factor_count → has_letter letter (part_of t.part) ≡ false
       → RowsGive (given (record { kind = kind; terms = term_of t ∷ [] })) w rows coefs
       → RowsGive (work_with (leaf_with letter inserted) (term_tree (term_of t))) w rows coefs

@@ -14,6 +14,7 @@ ghost use Rattle.leaves.specs.Leaves.{TermAs};
 ghost use Rattle.replacing.specs.Replacing.{leaf_by, Replaces};
 
 use leaves::alone;
+use refusal::Refusal;
 use replacing::occurrences::{leading, part_has};
 use replacing::working::{times_factor, times_part};
 use rows::Worked;
@@ -31,24 +32,18 @@ fn times_factors(
     rights: &[i64],
     rows: &mut [[u32; 8]],
     coefs: &mut [i64],
-) -> Worked
+) -> Result<Worked, Refusal>
     requires { TermValid t × (k ≤ t.factor_count) × Replaces m right.now rights.now rows.old coefs.old
-        × FormRun x.kind x.count rows.old coefs.old × (x.refusal ≡ 0) }
+        × FormRun x.kind x.count rows.old coefs.old }
     ensures { RowsGive (times_each (leaf_by replaced m right.now rights.now)
         (form_by x.kind x.count rows.old coefs.old) (drop k (term_of t).factors)) result rows.new coefs.new }
 {
     let n = t.factor_count as usize;
-    let f = t.factors;
     let mut w = x;
-    let mut left = n - k;
-    while left > 0 {
-        w = times_factor(w, f[n - left], replaced, m, right, rights, rows, coefs);
-        if w.refusal != 0 {
-            return w;
-        }
-        left -= 1;
+    for i in k..n {
+        w = times_factor(w, t.factors[i], replaced, m, right, rights, rows, coefs)?;
     }
-    w
+    Ok(w)
 }
 
 // The first k factors of a term, with its coefficient.
@@ -56,14 +51,12 @@ fn front_of(t: Term, k: usize) -> Term
     requires { Counted t × (k ≤ t.factor_count) }
     ensures { TermAs (front_of k (term_of t)) result }
 {
-    let c = t.coef;
-    let f = t.factors;
-    let p = Part::Nothing;
+    let factors = t.factors;
     Term {
-        coef: c,
-        factors: f,
+        coef: t.coef,
+        factors,
         factor_count: k as u8,
-        part: p,
+        part: Part::Nothing,
     }
 }
 
@@ -77,18 +70,14 @@ fn work_parts(
     rights: &[i64],
     rows: &mut [[u32; 8]],
     coefs: &mut [i64],
-) -> Worked
+) -> Result<Worked, Refusal>
     requires { TermValid t × (k ≡ leading_of replaced (term_of t).factors) × Replaces m right.now rights.now rows.old coefs.old }
     ensures { RowsGive (work_with (leaf_by replaced m right.now rights.now) (term_tree (term_of t))) result
         rows.new coefs.new }
 {
     let x = alone(0, front_of(t, k), rows, coefs);
-    let y = times_factors(x, t, k, replaced, m, right, rights, rows, coefs);
-    if y.refusal != 0 {
-        return y;
-    }
-    let p = t.part;
-    times_part(y, p, replaced, m, right, rights, rows, coefs)
+    let y = times_factors(x, t, k, replaced, m, right, rights, rows, coefs)?;
+    times_part(y, t.part, replaced, m, right, rights, rows, coefs)
 }
 
 // The kind that a vector part gives.
@@ -108,8 +97,7 @@ fn is_without(t: Term, k: usize, replaced: u8) -> bool
     if k != t.factor_count as usize {
         return false;
     }
-    let p = t.part;
-    !part_has(p, replaced)
+    !part_has(t.part, replaced)
 }
 
 // A term: as it is where it is without the letter.
@@ -121,15 +109,14 @@ pub fn work_term(
     rights: &[i64],
     rows: &mut [[u32; 8]],
     coefs: &mut [i64],
-) -> Worked
+) -> Result<Worked, Refusal>
     requires { TermValid t × Replaces m right.now rights.now rows.old coefs.old }
     ensures { RowsGive (work_with (leaf_by replaced m right.now rights.now) (term_tree (term_of t))) result
         rows.new coefs.new }
 {
     let k = leading(&t.factors, t.factor_count, replaced);
     if is_without(t, k, replaced) {
-        let p = t.part;
-        return alone(kind_of_part(p), t, rows, coefs);
+        return Ok(alone(kind_of_part(t.part), t, rows, coefs));
     }
     work_parts(t, k, replaced, m, right, rights, rows, coefs)
 }

@@ -5,12 +5,16 @@ use Prim.Native.Nat.{ℕ, ◌+◌, ◌<◌, ◌≤◌, Ordering}
 use native.Mathlib.Omega.{arith}
 use lib.ListN.{length, get_or, take, drop, length-map}
 use lib.Seq.{length-take-le}
-use Rattle.specification.specs.Lists.{then_by, order, first_difference, compare_lists}
+use Rattle.std.specs.declared.cmp.Ordering as Std
+use Rattle.std.specs.declared.cmp.Ordering.TheVariants.{Less, Equal, Greater}
+use Rattle.std.specs.Ordering.{is_lt, is_eq}
+use Rattle.std.proofs.Math.Dec.{compare_is_eq}
+use Rattle.specification.specs.Lists.{is_less, then_by, order, first_difference, compare_lists}
 use Rattle.specification.specs.Terms.{compare_letters, compare_terms}
 use Rattle.theory.specs.Order.{nat-laws, compares-less, compares-equal, compares_more}
 use Rattle.terms.specs.declared.types.Term.{Term}
 use Rattle.terms.specs.Numbers.{letters_of, part_letters_of}
-use Rattle.terms.specs.Abstraction.{part_of, term_of}
+use Rattle.terms.specs.Abstraction.{part_of, term_of, ordering_of}
 use Rattle.terms.proofs.Arrays.{rest_at, nothing_left_lem}
 use Rattle.terms.proofs.Numbers.{number-order, part-order}
 
@@ -83,3 +87,17 @@ module _ (a b : Term) (x y : ℕ) (p : part_letters_of x ≡ part_of a.part) (q 
     same_counts h g =
         let e : b.factor_count ≡ a.factor_count = omega arith in
         by_parts ∙ rw (same_parts, compares-equal nat-laws _ _ (sym e), e)
+
+-- ════ what a comparison found, tested
+
+pub is_lt-is_less : (o : Std.Ordering) → is_lt o ≡ is_less (ordering_of o)
+unfolding ordering_of
+is_lt-is_less Less = refl
+is_lt-is_less Equal = refl
+is_lt-is_less Greater = refl
+
+pub is_eq-is_equal : (o : Std.Ordering) → is_eq o ≡ compare_is_eq (ordering_of o)
+unfolding ordering_of
+is_eq-is_equal Less = refl
+is_eq-is_equal Equal = refl
+is_eq-is_equal Greater = refl

@@ -1,7 +1,6 @@
 -- The structs as the specification's terms and forms: each array up to its count. Assumes nothing.
-use Rattle.std.specs.Prelude.{Bool, true, false, List, [], ◌∷◌, map, eqb, take}
+use Rattle.std.specs.Prelude.{Bool, true, false, List, [], ◌∷◌, map, take}
 use Prim.Native.Nat.{ℕ, Ordering, ◌≤◌, ◌<◌}
-use Rattle.specification.specs.Results.{Result, refused, given, when◌then◌else◌}
 use Rattle.specification.specs.Terms as S
 use Rattle.theory.specs.Elements.{All}
 use Rattle.terms.specs.declared.types.Part.{Part}
@@ -10,9 +9,8 @@ use Rattle.terms.specs.declared.factors.Factor.{Factor}
 use Rattle.terms.specs.declared.factors.Factor.TheVariants.{Scalar, Dot, Triple}
 use Rattle.terms.specs.declared.types.Term.{Term}
 use Rattle.terms.specs.declared.types.Form.{Form}
-use Rattle.terms.specs.declared.types.Outcome.{Outcome}
-use Rattle.terms.specs.declared.order.Order.{Order}
-use Rattle.terms.specs.declared.order.Order.TheVariants.{Less, Equal, Greater}
+use Rattle.std.specs.declared.cmp.Ordering as Std
+use Rattle.std.specs.declared.cmp.Ordering.TheVariants.{Less, Equal, Greater}
 use Rattle.terms.specs.Numbers.{letters_of}
 
 -- the letters of a vector part
@@ -40,7 +38,7 @@ unfoldable pub terms_of : Form → List S.Term
 terms_of f = map term_of (take f.count f.terms)
 
 -- what a comparison found
-unfoldable pub ordering_of : Order → Ordering
+unfoldable pub ordering_of : Std.Ordering → Ordering
 ordering_of Less = Ordering.lt
 ordering_of Equal = Ordering.eq
 ordering_of Greater = Ordering.gt
@@ -50,10 +48,6 @@ abbrev pub is_more : Ordering → Bool
 is_more Ordering.lt = false
 is_more Ordering.eq = false
 is_more Ordering.gt = true
-
--- a form, or the refusal where its number is not 0
-unfoldable pub outcome_of : Outcome → Result S.Form
-outcome_of r = when eqb r.refusal 0 then given (form_of r.form) else refused r.refusal
 
 -- a term's count is within its array, and its factors' letters are bytes
 pub record Counted (t : Term) : Type 0 where

@@ -1,5 +1,6 @@
 -- The named invariants: what one crate of ours may ask of another's terms and forms. Assumes nothing.
-use Rattle.std.specs.Prelude.{◌≡◌, ℕ, ◌≤◌, T, take}
+use Rattle.std.specs.Prelude.{◌≡◌, ℕ, ◌≤◌, T, take, IfOk}
+use Rattle.std.specs.Prelude as Std
 use Rattle.specification.specs.Results.{Result}
 use Rattle.specification.specs.Terms.{term_in_shape}
 use Rattle.specification.specs.Terms as S
@@ -7,8 +8,9 @@ use Rattle.theory.specs.Elements.{All}
 use Rattle.theory.specs.Shape.Forms.{FormInShape}
 use Rattle.terms.specs.declared.types.Term.{Term}
 use Rattle.terms.specs.declared.types.Form.{Form}
-use Rattle.terms.specs.declared.types.Outcome.{Outcome}
-use Rattle.terms.specs.Abstraction.{term_of, form_of, outcome_of, Counted}
+use Rattle.refusal.specs.declared.Refusal.{Refusal}
+use Rattle.refusal.specs.Tests.{answer_of}
+use Rattle.terms.specs.Abstraction.{term_of, form_of, Counted}
 
 -- a term in shape
 pub record TermValid (t : Term) : Type 0 where
@@ -27,6 +29,6 @@ pub record FormValid (f : Form) : Type 0 where
   pub in_shape : FormInShape (form_of f)
 
 -- the result of taking or working a form; where it is one, a valid one
-pub record Gives (x : Result S.Form) (r : Outcome) : Type 0 where
-  pub is : outcome_of r ≡ x
-  pub valid : r.refusal ≡ 0 → FormValid r.form
+pub record Gives (x : Result S.Form) (r : Std.Result Form Refusal) : Type 0 where
+  pub is : answer_of form_of r ≡ x
+  pub valid : IfOk r FormValid

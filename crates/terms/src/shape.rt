@@ -24,8 +24,7 @@ fn factors_in_shape(f: &[u32; 7], n: u8) -> bool
 {
     let m = n as usize;
     let mut last: u32 = 0;
-    let mut i: usize = 0;
-    while i < m {
+    for i in 0..m {
         let k = f[i];
         if k < last {
             return false;
@@ -34,7 +33,6 @@ fn factors_in_shape(f: &[u32; 7], n: u8) -> bool
             return false;
         }
         last = k;
-        i += 1;
     }
     true
 }
@@ -62,17 +60,12 @@ pub fn letters_used(f: &[u32; 7], n: u8) -> Used
     let m = n as usize;
     let mut vectors: usize = 0;
     let mut scalars: usize = 0;
-    let mut i: usize = 0;
-    while i < m {
+    for i in 0..m {
         let k = f[i];
         vectors += vector_count(k);
         scalars += scalar_count(k);
-        i += 1;
     }
-    Used {
-        vectors: vectors,
-        scalars: scalars,
-    }
+    Used { vectors, scalars }
 }
 
 // The letters of a vector part are in order.

@@ -25,10 +25,3 @@ pub struct Form {
     pub count: usize,
     pub terms: [Term; 48],
 }
-
-// A form, or the number of the refusal: 0 where there is none. The form beside a refusal means nothing.
-#[derive(Clone, Copy)]
-pub struct Outcome {
-    pub refusal: u8,
-    pub form: Form,
-}

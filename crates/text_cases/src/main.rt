@@ -6,9 +6,8 @@ ghost use Rattle.std.specs.Prelude.{◌<◌, length};
 
 use case_lines::{byte_at, print_character, print_refusal, two_bytes_at};
 use forms::FORM_BYTES;
-use formula_call::{FormulaRead, read_formula};
+use formula_call::read_formula;
 use named_printing::print_named;
-use printer_call::Printing;
 use printing::LINE_BYTES;
 
 // The kind of a form's record.
@@ -27,12 +26,11 @@ fn print_kind(form: &[u8]) {
 fn print_form(table: &[u8], names: &[u8], form: &[u8]) {
     print_kind(form);
     let mut out = [0u8; LINE_BYTES];
-    let r = print_named(table, names, form, &mut out);
-    match r {
-        Printing::Printed(m) => {
+    match print_named(table, names, form, &mut out) {
+        Ok(m) => {
             io::write_all(1, &out[..m]);
         }
-        Printing::Refused(n) => print_refusal(n),
+        Err(why) => print_refusal(why),
     }
 }
 
@@ -40,12 +38,11 @@ fn print_form(table: &[u8], names: &[u8], form: &[u8]) {
 fn print_case(table: &[u8], names: &[u8], line: &[u8]) {
     let mut out = [0u8; FORM_BYTES];
     let mut columns = [0u64; 1];
-    let r = read_formula(table, names, line, &mut out, &mut columns);
-    match r {
-        FormulaRead::Written(n) => print_form(table, names, &out[..n]),
-        FormulaRead::Refused(n) => {
-            print_refusal(n);
-            if n > 2 {
+    match read_formula(table, names, line, &mut out, &mut columns) {
+        Ok(n) => print_form(table, names, &out[..n]),
+        Err(why) => {
+            print_refusal(why);
+            if why.number() > 2 {
                 print_character(b' ');
                 io::print_decimal(1, columns[0]);
             }

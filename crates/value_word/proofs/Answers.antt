@@ -30,9 +30,9 @@ use Rattle.lines.specs.declared.places.UnreadLine.{UnreadLine}
 use Rattle.refusal.specs.Numbers.{number_of}
 use Rattle.std.specs.Prelude.{Ok, Err}
 use Rattle.declarations.specs.Names.{HeaderRead}
-use Rattle.formula_call.specs.declared.TextForm.{TextForm}
+use Rattle.terms.specs.declared.types.Form.{Form}
+use Rattle.refusal.specs.declared.Refusal.TheVariants.{Torn}
 use Rattle.formula_call.specs.Texts.{TextGives}
-use Rattle.formula_call.proofs.Given.{text_refused, text_given}
 use Rattle.std.specs.Prelude as Std
 use Rattle.texts.specs.declared.Unread.{Unread}
 use Rattle.assignment_texts.specs.Assigned.{AssignedRead}
@@ -99,34 +99,36 @@ module _ (s names table : List ℕ) (p : Place) where
   within : (n k c : ℕ) (t : List ℕ) → value_behind names table (place_of s p) ≡ refused_in n k c t → c ≤ length t
   within n k c t e = told-within (value_behind names table (place_of s p)) n k c t (lines-within names table (place_of s p)) e
 
-  module _ (f : TextForm) (g : TextGives (text_form names table (line_of (place_of s p))) f) where
-    -- the formula is refused
-    module _ (n : f.refusal ≡ 0 → ⊥) where
-      formula_so : value_behind names table (place_of s p) ≡ refused_in f.refusal p.number f.column (line_of (place_of s p))
-      unfolding value_behind in_line
-      formula_so = ap (λ (x : Placed S.Form). in_line (place_of s p) x >>> behind_formula names table (place_of s p)) (text_refused _ f g n)
+  -- the formula is refused
+  module _ (e : Unread) (g : TextGives (text_form names table (line_of (place_of s p))) (Err e)) where
+    formula_so : value_behind names table (place_of s p) ≡ refused_in (number_of e.why) p.number e.column (line_of (place_of s p))
+    unfolding value_behind in_line
+    formula_so = ap (λ (x : Placed S.Form). in_line (place_of s p) x >>> behind_formula names table (place_of s p)) (sym g.is)
 
-      pub formula_column : f.column ≤ length (line_of (place_of s p))
-      formula_column = within f.refusal p.number f.column (line_of (place_of s p)) formula_so
+    pub formula_column : e.column ≤ length (line_of (place_of s p))
+    formula_column = within (number_of e.why) p.number e.column (line_of (place_of s p)) formula_so
 
-      pub formula_told : (out : List ℕ) (end : ℕ) → Told out end (refusal_text f.refusal p.number f.column (line_of (place_of s p)))
-          → Told out end (answer_text (value_behind names table (place_of s p)))
-      unfolding answer_text
-      formula_told out end t = subst (λ (x : Lined (List ℕ)). Told out end (answer_text x)) (sym formula_so) t
+    pub formula_told : (n : ℕ) → n ≡ number_of e.why → (out : List ℕ) (end : ℕ) → Told out end (refusal_text n p.number e.column (line_of (place_of s p)))
+        → Told out end (answer_text (value_behind names table (place_of s p)))
+    unfolding answer_text
+    formula_told n w out end t =
+        subst (λ (x : Lined (List ℕ)). Told out end (answer_text x))
+        (sym (formula_so ∙ ap (λ (m : ℕ). refused_in m p.number e.column (line_of (place_of s p))) (sym w))) t
 
-    module _ (z : f.refusal ≡ 0) (q : Place) (reached : Reached s (to_line (next_line (place_of s p))) q) where
+  module _ (f : Form) (g : TextGives (text_form names table (line_of (place_of s p))) (Ok f)) where
+    module _ (q : Place) (reached : Reached s (to_line (next_line (place_of s p))) q) where
       by_formula : value_behind names table (place_of s p)
-          ≡ (in_line (place_of s q) (assigned_in names table (line_of (place_of s q))) >>> behind_assigned (form_of f.form) (place_of s q))
+          ≡ (in_line (place_of s q) (assigned_in names table (line_of (place_of s q))) >>> behind_assigned (form_of f) (place_of s q))
       unfolding value_behind in_line
       by_formula =
-          ap (λ (x : Placed S.Form). in_line (place_of s p) x >>> behind_formula names table (place_of s p)) (text_given _ f g z)
-          ∙ ap (λ (k : L.Place). in_line k (assigned_in names table (line_of k)) >>> behind_assigned (form_of f.form) k) (sym reached.is)
+          ap (λ (x : Placed S.Form). in_line (place_of s p) x >>> behind_formula names table (place_of s p)) (sym g.is)
+          ∙ ap (λ (k : L.Place). in_line k (assigned_in names table (line_of k)) >>> behind_assigned (form_of f) k) (sym reached.is)
 
       -- the assignment is refused
       module _ (u : Unread) (so : List ℕ) (w : AssignedRead (assigned_in names table (line_of (place_of s q))) (Err u) so) where
         assigned_so : value_behind names table (place_of s p) ≡ refused_in (number_of u.why) q.number u.column (line_of (place_of s q))
         unfolding in_line
-        assigned_so = by_formula ∙ ap (λ (x : Placed (List ℕ)). in_line (place_of s q) x >>> behind_assigned (form_of f.form) (place_of s q)) w.is
+        assigned_so = by_formula ∙ ap (λ (x : Placed (List ℕ)). in_line (place_of s q) x >>> behind_assigned (form_of f) (place_of s q)) w.is
 
         pub assigned-column : u.column ≤ length (line_of (place_of s q))
         assigned-column = within (number_of u.why) q.number u.column (line_of (place_of s q)) assigned_so
@@ -140,29 +142,30 @@ module _ (s names table : List ℕ) (p : Place) where
 
       module _ (u : Unit {0}) (so : List ℕ) (w : AssignedRead (assigned_in names table (line_of (place_of s q))) (Ok u) so) (m : Place) (reaches : Reached s (to_line (next_line (place_of s q))) m) where
         abbrev text : List ℕ
-        text = value_text f.form.kind (value (assignment so) (form_of f.form)) ++ bytes "\n"
+        text = value_text f.kind (value (assignment so) (form_of f)) ++ bytes "\n"
 
         by_end : value_behind names table (place_of s p) ≡ nothing_left (place_of s m) text
         unfolding in_line form_of
         by_end =
-            by_formula ∙ ap (λ (x : Placed (List ℕ)). in_line (place_of s q) x >>> behind_assigned (form_of f.form) (place_of s q)) w.is
+            by_formula ∙ ap (λ (x : Placed (List ℕ)). in_line (place_of s q) x >>> behind_assigned (form_of f) (place_of s q)) w.is
             ∙ ap (λ (k : L.Place). nothing_left k text) (sym reaches.is)
 
         -- more stands behind it
-        pub more_told : m.at < length s → (out : List ℕ) (end : ℕ) → Told out end (refusal_text 4 m.number 0 (line_of (place_of s m)))
+        pub more_told : m.at < length s → (n : ℕ) → n ≡ number_of Torn → (out : List ℕ) (end : ℕ) → Told out end (refusal_text n m.number 0 (line_of (place_of s m)))
             → Told out end (answer_text (value_behind names table (place_of s p)))
         unfolding nothing_left at_end answer_text
-        more_told l out end t =
+        more_told l n k out end t =
             let so-refused : value_behind names table (place_of s p) ≡ refused_in 4 m.number 0 (line_of (place_of s m)) =
             by_end ∙ rw (ne_eqb (length (drop m.at s)) 0 (λ x. omega (arith, length-drop m.at s, x))) in
-            subst (λ (x : Lined (List ℕ)). Told out end (answer_text x)) (sym so-refused) t
+            subst (λ (x : Lined (List ℕ)). Told out end (answer_text x)) (sym so-refused)
+            (subst (λ (j : ℕ). Told out end (refusal_text j m.number 0 (line_of (place_of s m)))) k t)
 
         -- the value
-        pub value_told : length s ≤ m.at → (v : Vec) → v ≡ value (assignment so) (form_of f.form) → (out : List ℕ) (end : ℕ)
-            → Told out end (value_text f.form.kind v ++ 10 ∷ []) → Told out end (answer_text (value_behind names table (place_of s p)))
+        pub value_told : length s ≤ m.at → (v : Vec) → v ≡ value (assignment so) (form_of f) → (out : List ℕ) (end : ℕ)
+            → Told out end (value_text f.kind v ++ 10 ∷ []) → Told out end (answer_text (value_behind names table (place_of s p)))
         unfolding nothing_left at_end answer_text bytes
         value_told l v e out end t =
             let given : value_behind names table (place_of s p) ≡ lined text =
             by_end ∙ rw (eq-eqb (length (drop m.at s)) 0 (omega (arith, length-drop m.at s))) in
             subst (λ (x : Lined (List ℕ)). Told out end (answer_text x)) (sym given)
-            (subst (λ (u : Vec). Told out end (value_text f.form.kind u ++ 10 ∷ [])) e t)
+            (subst (λ (u : Vec). Told out end (value_text f.kind u ++ 10 ∷ [])) e t)

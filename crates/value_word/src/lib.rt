@@ -18,6 +18,7 @@ use declarations::read_header;
 use evaluation::values::form_value;
 use formula_lines::form_at;
 use lines::places::{Place, line_behind, line_end};
+use refusal::Refusal;
 use refusals::tell_line;
 use telling::put_byte;
 use texts::Unread;
@@ -51,10 +52,10 @@ fn value_behind(
     requires { GoodTable names.now table.now × Inside s.now p × (length numbers.old ≡ 3 * length table.now) }
     ensures { Told out.new result (answer_text (value_behind names.now table.now (place_of s.now p))) }
 {
-    let r = form_at(names, table, s, p);
-    if r.refusal != 0 {
-        return tell_line(s, r.refusal, p, r.column, out);
-    }
+    let f = match form_at(names, table, s, p) {
+        Ok(f) => f,
+        Err(e) => return tell_line(s, e.why.number(), p, e.column, out),
+    };
     let q = line_behind(s, p);
     match assigned_at(names, table, s, q, numbers) {
         Ok(()) => {}
@@ -62,12 +63,10 @@ fn value_behind(
     }
     let end = line_behind(s, q);
     if end.at < s.len() {
-        return tell_line(s, 4, end, 0, out);
+        return tell_line(s, Refusal::Torn.number(), end, 0, out);
     }
-    let f = r.form;
-    let kind = f.kind;
     let v = form_value(numbers, f);
-    let at = tell_value(out, 0, kind, v);
+    let at = tell_value(out, 0, f.kind, v);
     put_byte(out, at, b'\n')
 }
 

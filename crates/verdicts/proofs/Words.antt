@@ -7,8 +7,12 @@ use Rattle.specification.specs.Words.{bytes}
 use Rattle.specification.specs.Logs as C
 use Rattle.specification.specs.Commands.{step_reason, count_text, checked_text, numeral}
 use Rattle.telling.specs.Told.{Told}
-use Rattle.checker.specs.declared.Checked.{Checked}
-use Rattle.checker.specs.declared.Checked.TheVariants.{Accepted, Refused}
+use Rattle.std.specs.Prelude.{Ok, Err}
+use Rattle.std.specs.Prelude as Std
+use Rattle.refusal.specs.Numbers.{number_of}
+use Rattle.logs.specs.declared.steps.RefusedAt.{RefusedAt}
+use Rattle.logs.specs.Steps.{found_of}
+use Rattle.checker.specs.declared.Accepted.{Accepted}
 use Rattle.checker.specs.Answers.{checked_of}
 
 -- the last reason
@@ -26,11 +30,13 @@ pub many-text : (n : ℕ) (word : List ℕ) → (n ≡ 1 → ⊥) → numeral n 
 unfolding count_text
 many-text n word e = rw (ne_eqb n 1 e)
 
-module _ (first last : ℕ) (out : List ℕ) (end : ℕ) (c : Checked) where
-  pub refused_told : (n k : ℕ) → c ≡ Refused n k → Told out end (checked_text 0 0 (C.refused_at n k)) → Told out end (checked_text first last (checked_of c))
-  unfolding checked_text checked_of
-  refused_told n k e t = subst (λ (x : Checked). Told out end (checked_text first last (checked_of x))) (sym e) t
+module _ (first last : ℕ) (out : List ℕ) (end : ℕ) (c : Std.Result Accepted RefusedAt) where
+  pub refused_told : (e : RefusedAt) → c ≡ Err e → (n : ℕ) → n ≡ number_of e.why → Told out end (checked_text 0 0 (C.refused_at n e.step)) → Told out end (checked_text first last (checked_of c))
+  unfolding checked_text found_of
+  refused_told e h n m t =
+      subst (λ (x : Std.Result Accepted RefusedAt). Told out end (checked_text first last (checked_of x))) (sym h)
+      (subst (λ (k : ℕ). Told out end (checked_text 0 0 (C.refused_at k e.step))) m t)
 
-  pub accepted-told : (a b n : ℕ) → c ≡ Accepted a b n → Told out end (checked_text first last (C.accepted 0 0 n)) → Told out end (checked_text first last (checked_of c))
-  unfolding checked_text checked_of
-  accepted-told a b n e t = subst (λ (x : Checked). Told out end (checked_text first last (checked_of x))) (sym e) t
+  pub accepted-told : (a : Accepted) → c ≡ Ok a → Told out end (checked_text first last (C.accepted 0 0 a.steps)) → Told out end (checked_text first last (checked_of c))
+  unfolding checked_text found_of
+  accepted-told a e t = subst (λ (x : Std.Result Accepted RefusedAt). Told out end (checked_text first last (checked_of x))) (sym e) t

@@ -6,7 +6,8 @@ ghost use Rattle.specification.specs.Logs.{refused_at, accepted};
 ghost use Rattle.checker.specs.Answers.{checked_of};
 ghost use Rattle.telling.specs.Told.{Told, Tells};
 
-use checker::Checked;
+use checker::Accepted;
+use logs::steps::RefusedAt;
 use telling::{put, put_number};
 
 // Why a log is refused at a step.
@@ -91,11 +92,16 @@ fn tell_accepted(out: &mut [u8], first: usize, last: usize, steps: usize) -> usi
 }
 
 // The checker's answer in words.
-pub fn tell_checked(out: &mut [u8], first: usize, last: usize, c: Checked) -> usize
+pub fn tell_checked(
+    out: &mut [u8],
+    first: usize,
+    last: usize,
+    c: Result<Accepted, RefusedAt>,
+) -> usize
     ensures { Told out.new result (checked_text first last (checked_of c)) }
 {
     match c {
-        Checked::Refused(n, step) => tell_refused(out, n, step),
-        Checked::Accepted(_, _, steps) => tell_accepted(out, first, last, steps),
+        Ok(a) => tell_accepted(out, first, last, a.steps),
+        Err(e) => tell_refused(out, e.why.number(), e.step),
     }
 }

@@ -3,29 +3,18 @@ use Rattle.forms.proofs.Takers.{bytes_all}
 use Rattle.audit.proofs.Audits.{refused_audit, other-steps, ends-audited, decided_as}
 use Rattle.audit.proofs.ends_hold.Goals as goal
 
-pub returns-then-n-steps : goal.returns-then-n-steps
-returns-then-n-steps c =
-    let w = c in
-    other-steps w.args.table.now w.args.log.now
-    (bytes_all w.args.log.now (λ (k : ℕ). (c.type_inv.log k).fits)) w.args.steps
-    w.args.buffer.now w.args.work.now _ c.check-c.ensures _ _ _ c.in-Accepted.is _ _ c.if-n-steps.true
+pub returns-in_default : goal.returns-in_default
+returns-in_default c =
+    refused_audit c.args.table.now c.args.log.now (bytes_all c.args.log.now (λ (k : ℕ). (c.type_inv.log k).fits)) c.args.steps
+    c.args.buffer.now c.args.work.now _ c.check.ensures _ _ _ c.in_default.is
 
-pub returns-in-Refused : goal.returns-in-Refused
-returns-in-Refused c =
-    let w = c in
-    refused_audit w.args.table.now w.args.log.now
-    (bytes_all w.args.log.now (λ (k : ℕ). (c.type_inv.log k).fits)) w.args.steps
-    w.args.buffer.now w.args.work.now _ c.check-c.ensures _ _ _ _ c.in-Refused.is
+pub returns-then-a-steps : goal.returns-then-a-steps
+returns-then-a-steps c =
+    other-steps c.args.table.now c.args.log.now (bytes_all c.args.log.now (λ (k : ℕ). (c.type_inv.log k).fits)) c.args.steps
+    c.args.buffer.now c.args.work.now _ c.check.ensures _ c.in-Ok.is _ _ c.if-a-steps.true
 
-pub returns-else-n-steps : goal.returns-else-n-steps
-returns-else-n-steps c =
-    let w = c in
-    ends-audited w.args.table.now w.args.log.now
-    (bytes_all w.args.log.now (λ (k : ℕ).
-    (c.type_inv.log
-    k).fits)) w.args.steps w.args.buffer.now w.args.work.now _
-    c.check-c.ensures _ _ _
-    c.in-Accepted.is _ _ _ _
-    c.if-n-steps.false c.says_holds.ensures
-    (decided_as _ _ _ _ _ _ _ _ _ _ c.first_form-first.ensures
-    c.last_form-last.ensures c.decide-d.ensures)
+pub returns : goal.returns
+returns c =
+    ends-audited c.args.table.now c.args.log.now (bytes_all c.args.log.now (λ (k : ℕ). (c.type_inv.log k).fits)) c.args.steps
+    c.args.buffer.now c.args.work.now _ c.check.ensures _ c.in-Ok.is _ _ _ _ c.if-a-steps.false c.says_holds.ensures
+    (decided_as _ _ _ _ _ _ _ _ _ _ c.first_form-first.ensures c.last_form-last.ensures c.decide.ensures)

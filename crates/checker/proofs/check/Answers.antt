@@ -1,107 +1,44 @@
 -- `checker::check` meets its contract: each test refuses as the replay does where it stands. Assumes nothing.
 use Rattle.std.proofs.Common.{rules}
-use mathlib.Core.Path.{refl}
+use mathlib.Core.Path.{sym}
 use native.Mathlib.Omega.{arith}
-use borrow.Author.Tests.{not-true, not-false}
-use Rattle.logs.specs.Reading.{parts_of}
+use Rattle.refusal.proofs.Passing.{passed_up}
+use Rattle.logs.specs.Steps.{found_of}
 use Rattle.logs.proofs.StepRecords.{steps-long}
-use Rattle.logs.proofs.LogShape.{log-parts, log_refused}
-use Rattle.checker.specs.Answers.{checked_of}
-use Rattle.checker.proofs.CheckedLogs.{table-bad, shape-bad, first_letters, step-letters, last_letters_lem, step_taken, not-reached, all_accepted}
+use Rattle.checker.proofs.CheckedLogs.{table-bad, shape-bad, first_letters, step-letters, last_letters_lem, step_taken, all_accepted}
+use Rattle.std.proofs.lemmas.Result.{IfOk-at_ok}
+use Rattle.logs.specs.Steps.{StepsValid}
+use Rattle.logs.proofs.AtSteps.{at_step_ok}
+use Rattle.checker.proofs.check.Goals.{In_ok-q}
 use Rattle.checker.proofs.check.Goals as goal
 
-pub returns-then-bad-ne0 : goal.returns-then-bad-ne0
-unfolding checked_of
-returns-then-bad-ne0 c = table-bad c.args.table.now c.args.log.now
-    _ c.check_table-bad.ensures c.if-bad-ne0.true
+steps : (c : In_ok-q) → StepsValid c.in_ok-q.q.steps
+steps c = IfOk-at_ok (λ q. StepsValid q.steps) (at_step_ok _ _ _ c.in_ok-q.ensures) c.read_log.ensures.steps
 
-pub returns-then-not-q : goal.returns-then-not-q
-unfolding checked_of
-returns-then-not-q c = let w = c in
-    shape-bad w.args.table.now w.args.log.now _ c.check_table-bad.ensures c.if-bad-ne0.false
-    (log_refused _ _ c.read_log-q.ensures (not-true _ c.if-not-q.true))
+pub returns-in_err-at_step : goal.returns-in_err-at_step
+unfolding found_of
+returns-in_err-at_step c = rw (passed_up _ _ c.from_residual.ensures.1) (sym (table-bad c.args.table.now c.args.log.now _ c.check_table.ensures _ c.in_err-at_step.ensures))
 
-pub overflow_add-behind : goal.overflow_add-behind
-overflow_add-behind c = omega (arith, c.read_log-q.ensures.steps.few)
+pub returns-in_err-q : goal.returns-in_err-q
+unfolding found_of
+returns-in_err-q c = rw (passed_up _ _ c.from_residual-in_err-q.ensures.1) (sym (shape-bad c.args.table.now c.args.log.now _ c.check_table.ensures _ c.in_ok-at_step.ensures _ c.read_log.ensures.is _ c.in_err-q.ensures))
 
-pub overflow_cast-behind : goal.overflow_cast-behind
-overflow_cast-behind c = omega (arith, c.read_log-q.ensures.steps.few)
+pub returns-in_err-at_step-2 : goal.returns-in_err-at_step-2
+unfolding found_of
+returns-in_err-at_step-2 c = rw (passed_up _ _ c.from_residual-in_err-at_step-2.ensures.1) (sym (first_letters c.args.table.now c.args.log.now _ c.check_table.ensures _ c.in_ok-at_step.ensures _ c.read_log.ensures.is _ c.in_ok-q.ensures _ c.test_terms.ensures _ c.in_err-at_step-2.ensures))
 
-pub test_terms-at_first-requires : goal.test_terms-at_first-requires
-test_terms-at_first-requires c = let v = c.read_log-q.ensures.first (not-false _ c.if-not-q.false) in record { few = v.few; counted = v.counted }
+pub returns-in_err-test_steps : goal.returns-in_err-test_steps
+unfolding found_of
+returns-in_err-test_steps c = rw (passed_up _ _ c.from_residual-in_err-test_steps.ensures.1) (sym (step-letters c.args.table.now c.args.log.now _ c.check_table.ensures _ c.in_ok-at_step.ensures _ c.read_log.ensures.is _ c.in_ok-q.ensures _ c.test_terms.ensures _ c.in_ok-at_step-2.ensures _ c.in_err-test_steps.ensures))
 
-pub returns-then-at_first-ne0 : goal.returns-then-at_first-ne0
-unfolding checked_of parts_of
-returns-then-at_first-ne0 c = let w = c in
-    first_letters w.args.table.now w.args.log.now _ c.check_table-bad.ensures
-    c.if-bad-ne0.false _ _ _ _ _
-    (log-parts _ _ c.read_log-q.ensures (not-false _ c.if-not-q.false)) _ c.test_terms-at_first.ensures
-    c.if-at_first-ne0.true
+pub returns-in_err-at_step-3 : goal.returns-in_err-at_step-3
+unfolding found_of
+returns-in_err-at_step-3 c = rw (passed_up _ _ c.from_residual-in_err-at_step-3.ensures.1) (sym (last_letters_lem c.args.table.now c.args.log.now _ c.check_table.ensures _ c.in_ok-at_step.ensures _ c.read_log.ensures.is _ c.in_ok-q.ensures _ c.test_terms.ensures _ c.in_ok-at_step-2.ensures _ c.in_ok-test_steps.ensures (steps-long _ (steps (goal.at.returns-in_err-at_step-3 c).In_ok-q)) _ c.test_terms-2.ensures _ c.in_err-at_step-3.ensures))
 
-pub test_steps-found-requires : goal.test_steps-found-requires
-test_steps-found-requires c = c.read_log-q.ensures.steps
-
-pub returns-then-found-ne0 : goal.returns-then-found-ne0
-unfolding checked_of parts_of
-returns-then-found-ne0 c = let w = c in
-    step-letters w.args.table.now w.args.log.now _ c.check_table-bad.ensures c.if-bad-ne0.false _ _ _ _ _
-    (log-parts _ _ c.read_log-q.ensures
-    (not-false _ c.if-not-q.false)) _ c.test_terms-at_first.ensures
-    c.if-at_first-ne0.false _ c.test_steps-found.ensures c.if-found-ne0.true
-
-pub test_terms-at_last-requires : goal.test_terms-at_last-requires
-test_terms-at_last-requires c = let v = c.read_log-q.ensures.last (not-false _ c.if-not-q.false) in record { few = v.few; counted = v.counted }
-
-pub returns-then-at_last-ne0 : goal.returns-then-at_last-ne0
-unfolding checked_of parts_of
-returns-then-at_last-ne0 c = let w = c in
-    last_letters_lem w.args.table.now w.args.log.now _ c.check_table-bad.ensures c.if-bad-ne0.false _ _ _ _ _
-    (log-parts _ _ c.read_log-q.ensures
-    (not-false _ c.if-not-q.false))
-    _ c.test_terms-at_first.ensures c.if-at_first-ne0.false
-    _ c.test_steps-found.ensures c.if-found-ne0.false _
-    (steps-long _ c.read_log-q.ensures.steps) _ c.test_terms-at_last.ensures
-    c.if-at_last-ne0.true
-
-pub replay-reached-requires : goal.replay-reached-requires
-replay-reached-requires c = let r = c.read_log-q.ensures in
-    let ok = not-false _ c.if-not-q.false in
-    (r.first ok, r.last ok, r.steps)
-
-pub returns-then-reached-ne0 : goal.returns-then-reached-ne0
-unfolding checked_of parts_of
-returns-then-reached-ne0 c = let w = c in
-    step_taken w.args.table.now w.args.log.now _ c.check_table-bad.ensures c.if-bad-ne0.false _ _ _ _ _
-    (log-parts _ _ c.read_log-q.ensures
-    (not-false _ c.if-not-q.false))
-    _ c.test_terms-at_first.ensures
-    c.if-at_first-ne0.false _ c.test_steps-found.ensures c.if-found-ne0.false _
-    (steps-long _ c.read_log-q.ensures.steps)
-    _ c.test_terms-at_last.ensures c.if-at_last-ne0.false _ c.replay-reached.ensures
-    c.if-reached-ne0.true
-
-pub returns-then-not-reached : goal.returns-then-not-reached
-unfolding checked_of parts_of
-returns-then-not-reached c = let w = c in
-    not-reached w.args.table.now w.args.log.now _ c.check_table-bad.ensures c.if-bad-ne0.false _ _ _ _ _
-    (log-parts _ _ c.read_log-q.ensures
-    (not-false _ c.if-not-q.false))
-    _ c.test_terms-at_first.ensures
-    c.if-at_first-ne0.false
-    _ c.test_steps-found.ensures
-    c.if-found-ne0.false _
-    (steps-long _ c.read_log-q.ensures.steps) _ c.test_terms-at_last.ensures c.if-at_last-ne0.false
-    _ c.replay-reached.ensures c.if-reached-ne0.false refl (not-true _ c.if-not-reached.true)
+pub returns-in_err-replay : goal.returns-in_err-replay
+unfolding found_of
+returns-in_err-replay c = rw (passed_up _ _ c.from_residual-in_err-replay.ensures.1) (sym (step_taken c.args.table.now c.args.log.now _ c.check_table.ensures _ c.in_ok-at_step.ensures _ c.read_log.ensures.is _ c.in_ok-q.ensures _ c.test_terms.ensures _ c.in_ok-at_step-2.ensures _ c.in_ok-test_steps.ensures (steps-long _ (steps (goal.at.returns-in_err-replay c).In_ok-q)) _ c.test_terms-2.ensures _ c.in_ok-at_step-3.ensures _ c.in_err-replay.ensures))
 
 pub returns : goal.returns
-unfolding checked_of parts_of
-returns c = let w = c in
-    all_accepted w.args.table.now w.args.log.now _ c.check_table-bad.ensures c.if-bad-ne0.false _ _ _ _ _
-    (log-parts _ _ c.read_log-q.ensures
-    (not-false _ c.if-not-q.false))
-    _ c.test_terms-at_first.ensures
-    c.if-at_first-ne0.false
-    _ c.test_steps-found.ensures
-    c.if-found-ne0.false _
-    (steps-long _ c.read_log-q.ensures.steps) _ c.test_terms-at_last.ensures c.if-at_last-ne0.false
-    _ c.replay-reached.ensures c.if-reached-ne0.false refl (not-false _ c.if-not-reached.false)
+unfolding found_of
+returns c = sym (all_accepted c.args.table.now c.args.log.now _ c.check_table.ensures _ c.in_ok-at_step.ensures _ c.read_log.ensures.is _ c.in_ok-q.ensures _ c.test_terms.ensures _ c.in_ok-at_step-2.ensures _ c.in_ok-test_steps.ensures (steps-long _ (steps (goal.at.returns c).In_ok-q)) _ c.test_terms-2.ensures _ c.in_ok-at_step-3.ensures _ c.in_ok-replay.ensures)

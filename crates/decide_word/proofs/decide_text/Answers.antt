@@ -29,25 +29,25 @@ pub slice_bounds-sides_at-end-2 : goal.slice_bounds-sides_at-end-2
 slice_bounds-sides_at-end-2 c =
     sym (length-take-le _ _ (omega (arith, c.in-Ok.ensures.few, c.read_header.auto.table)))
 
-pub sides_at-r-requires : goal.sides_at-r-requires
-sides_at-r-requires c =
+pub sides_at-requires : goal.sides_at-requires
+sides_at-requires c =
     (header-table _ _ _ _ c.in-Ok.ensures, c.in-Ok.ensures.inside)
 
-pub tell_line-requires-then-r-ne0 : goal.tell_line-requires-then-r-ne0
-tell_line-requires-then-r-ne0 c =
-    (c.in-Ok.ensures.inside, sides-column _ _ _ _ c.in-Ok.ensures _ c.sides_at-r.ensures c.if-r-ne0.true)
+pub tell_line-requires-in-Err-sides_at : goal.tell_line-requires-in-Err-sides_at
+tell_line-requires-in-Err-sides_at c =
+    (c.in-Ok.ensures.inside, sides-column _ _ _ _ c.in-Ok.ensures _ c.in-Err-sides_at.ensures)
 
-pub returns-then-r-ne0 : goal.returns-then-r-ne0
-returns-then-r-ne0 c =
-    sides-told _ _ _ _ c.in-Ok.ensures _ c.sides_at-r.ensures c.if-r-ne0.true _ _ c.tell_line-then-r-ne0.ensures
+pub returns-in-Err-sides_at : goal.returns-in-Err-sides_at
+returns-in-Err-sides_at c =
+    sides-told _ _ _ _ c.in-Ok.ensures _ c.in-Err-sides_at.ensures _ c.number-in-Err-sides_at.ensures _ _ c.tell_line-in-Err-sides_at.ensures
 
 pub line_behind-q-requires : goal.line_behind-q-requires
 line_behind-q-requires c =
-    (c.in-Ok.ensures.inside, sides-inside _ _ _ c.in-Ok.h.place _ c.sides_at-r.ensures c.if-r-ne0.false)
+    (c.in-Ok.ensures.inside, sides-inside _ _ _ c.in-Ok.h.place _ c.in-Ok-sides_at.ensures)
 
 pub returns-then-q-s : goal.returns-then-q-s
 returns-then-q-s c =
-    more_told _ _ _ _ c.in-Ok.ensures _ c.sides_at-r.ensures c.if-r-ne0.false _ c.line_behind-q.ensures c.if-q-s.true _ _
+    more_told _ _ _ _ c.in-Ok.ensures _ c.in-Ok-sides_at.ensures _ c.line_behind-q.ensures c.if-q-s.true _ c.number-then-q-s.ensures _ _
     c.tell_line-then-q-s.ensures
 
 pub slice_bounds-names-end-2 : goal.slice_bounds-names-end-2
@@ -68,9 +68,9 @@ slice_bounds-tell_decision-end-2 c =
 
 pub tell_decision-requires : goal.tell_decision-requires
 tell_decision-requires c =
-    comparable _ _ _ _ c.in-Ok.ensures _ c.sides_at-r.ensures c.if-r-ne0.false
+    comparable _ _ _ _ c.in-Ok.ensures _ c.in-Ok-sides_at.ensures
 
 pub returns : goal.returns
 returns c =
-    decision_told _ _ _ _ c.in-Ok.ensures _ c.sides_at-r.ensures c.if-r-ne0.false _ c.line_behind-q.ensures c.if-q-s.false
+    decision_told _ _ _ _ c.in-Ok.ensures _ c.in-Ok-sides_at.ensures _ c.line_behind-q.ensures c.if-q-s.false
     _ _ c.tell_decision.ensures

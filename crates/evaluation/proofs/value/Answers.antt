@@ -1,34 +1,30 @@
 -- `evaluation::value` meets its contract. Assumes nothing.
 use mathlib.Core.Path.{sym, ◌∙◌}
+use Rattle.refusal.proofs.Passing.{passed_up}
 use Rattle.evaluation.proofs.Answering.{good_small, table_short, table_refused, form_refused, assignment_refused, value_given}
 use Rattle.evaluation.proofs.value.Goals as goal
 
-pub returns-then-n-ne0 : goal.returns-then-n-ne0
-returns-then-n-ne0 c = table_refused _ _ _ _ c.check_table-n.ensures c.if-n-ne0.true
+pub returns-in_err-check_table : goal.returns-in_err-check_table
+returns-in_err-check_table c = rw (passed_up _ _ c.from_residual.ensures.1) (table_refused _ _ _ _ c.in_err-check_table.ensures)
 
-pub returns-then-m-ne0 : goal.returns-then-m-ne0
-returns-then-m-ne0 c =
-    form_refused _ _ _ _ c.check_table-n.ensures c.if-n-ne0.false _ c.read_form-taken.ensures.is
-    c.if-m-ne0.true
+pub returns-in_err-f : goal.returns-in_err-f
+returns-in_err-f c = rw (passed_up _ _ c.from_residual-in_err-f.ensures.1) (form_refused _ _ _ _ c.in_ok-check_table.ensures _ c.in_err-f.ensures.is)
 
 pub good_assignment-requires : goal.good_assignment-requires
-good_assignment-requires c = table_short _ _ c.check_table-n.ensures c.if-n-ne0.false
+good_assignment-requires c = table_short _ c.args.form.now c.args.assignment.now _ c.in_ok-check_table.ensures
 
 pub returns-then-not-good_assignment : goal.returns-then-not-good_assignment
 returns-then-not-good_assignment c =
-    assignment_refused _ _ _ _ c.check_table-n.ensures c.if-n-ne0.false _
-    c.read_form-taken.ensures.is c.if-m-ne0.false
+    assignment_refused _ _ _ _ c.in_ok-check_table.ensures _ c.in_ok-f.ensures.is
     (sym c.good_assignment.ensures ∙ c.if-not-good_assignment.true)
 
-pub form_value-v-requires : goal.form_value-v-requires
-form_value-v-requires c = (
+pub form_value-requires : goal.form_value-requires
+form_value-requires c = (
   good_small _ _ (sym c.good_assignment.ensures ∙ c.if-not-good_assignment.false),
-  c.read_form-taken.ensures.valid c.if-m-ne0.false,
+  c.in_ok-f.ensures.valid,
 )
 
 pub returns : goal.returns
 returns c =
-    value_given _ _ _ _ c.check_table-n.ensures
-    c.if-n-ne0.false _ c.read_form-taken.ensures.is
-    c.if-m-ne0.false
-    (sym c.good_assignment.ensures ∙ c.if-not-good_assignment.false) _ c.form_value-v.ensures
+    value_given _ _ _ _ c.in_ok-check_table.ensures _ c.in_ok-f.ensures.is
+    (sym c.good_assignment.ensures ∙ c.if-not-good_assignment.false) _ c.form_value.ensures

@@ -1,28 +1,17 @@
--- `exports::kalzunbi_insert` meets its contract: what the insertion call says is returned. Assumes nothing.
-use native.Mathlib.Omega.{arith}
-use Prim.Native.Nat.{ℕ}
+-- `exports::kalzunbi_insert` meets its contract: what the call says is returned. Assumes nothing.
 use mathlib.Core.Path.{◌∙◌}
 use Rattle.integers.proofs.Machine.{back_is}
+use Prim.Native.Nat.{ℕ}
+use Rattle.specification.specs.Returns.{insert_returned}
 use Rattle.forms.proofs.Takers.{bytes_all}
-use Rattle.exports.proofs.Returning.{insert_refused_lem, insert-fits, insert_returned_lem}
+use Rattle.exports.proofs.Returning.{handed_as, insert-fits}
 use Rattle.exports.proofs.kalzunbi_insert.Goals as goal
 
-pub written-requires : goal.written-requires
-written-requires c =
-    let s = c in
-    omega (
-      arith,
-      insert-fits _ _ _ _ _ _ _ c.insert-r.ensures _ c.in-Written.is
-          (bytes_all s.args.form.now (λ (k : ℕ). (c.type_inv.form k).fits))
-          (bytes_all s.args.inserted.now (λ (k : ℕ). (c.type_inv.inserted k).fits)),
-    )
+pub returned_of-requires : goal.returned_of-requires
+returned_of-requires c =
+    let s = c.args in
+    λ n g. insert-fits _ _ n g s.table.now s.form.now s.letter s.inserted.now s.out.now (bytes_all s.form.now (λ (k : ℕ). (c.type_inv.form k).fits)) (bytes_all s.inserted.now (λ (k : ℕ). (c.type_inv.inserted k).fits)) c.insert.ensures
 
-pub returns-in-Written : goal.returns-in-Written
-returns-in-Written c =
-    insert_returned_lem _ _ _ _ _ _ _ c.insert-r.ensures _ c.in-Written.is _
-    (back_is (record { sfits = c.written.type_inv }) ∙ c.written.ensures)
-
-pub returns-in-Refused : goal.returns-in-Refused
-returns-in-Refused c =
-    insert_refused_lem _ _ _ _ _ _ _ c.insert-r.ensures _ c.in-Refused.is _
-    (back_is (record { sfits = c.refusal.type_inv }) ∙ c.refusal.ensures)
+pub returns : goal.returns
+unfolding insert_returned
+returns c = handed_as _ _ _ _ c.insert.ensures (back_is (record { sfits = c.returned_of.type_inv }) ∙ c.returned_of.ensures)

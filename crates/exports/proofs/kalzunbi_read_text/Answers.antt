@@ -1,26 +1,14 @@
 -- `exports::kalzunbi_read_text` meets its contract: what the call that reads a text says is returned. Assumes nothing.
 use mathlib.Core.Path.{◌∙◌}
-use native.Mathlib.Omega.{arith}
 use Rattle.integers.proofs.Machine.{back_is}
-use Rattle.formula_call.proofs.Calls.{record-inside}
-use Rattle.exports.proofs.ReturnedTexts.{text-returned, text_refused}
+use native.Mathlib.Omega.{arith}
+use Rattle.specification.specs.Returns.{read_text_returned}
+use Rattle.exports.proofs.ReturnedTexts.{handed_both-as, record_within}
 use Rattle.exports.proofs.kalzunbi_read_text.Goals as goal
 
-pub written-requires : goal.written-requires
-written-requires c =
-    let h = record-inside _ _ _ _ _ _ _ _ _ c.read_formula-r.ensures c.in-Written.is in
-    omega (
-      arith,
-      h,
-      c.read_formula-r.auto.out,
-    )
+pub returned_of-requires : goal.returned_of-requires
+returned_of-requires c = λ n g. omega (arith, record_within _ n g _ _ _ _ _ _ _ c.read_formula.ensures, c.read_formula.auto.out)
 
-pub returns-in-Written : goal.returns-in-Written
-returns-in-Written c =
-    text-returned _ _ _ _ _ _ _ _ c.read_formula-r.ensures _
-    c.in-Written.is _ (back_is (record { sfits = c.written.type_inv }) ∙ c.written.ensures)
-
-pub returns-in-Refused : goal.returns-in-Refused
-returns-in-Refused c =
-    text_refused _ _ _ _ _ _ _ _ c.read_formula-r.ensures _
-    c.in-Refused.is _ (back_is (record { sfits = c.refusal.type_inv }) ∙ c.refusal.ensures)
+pub returns : goal.returns
+unfolding read_text_returned
+returns c = handed_both-as _ _ _ _ _ c.read_formula.ensures (back_is (record { sfits = c.returned_of.type_inv }) ∙ c.returned_of.ensures)

@@ -1,5 +1,7 @@
 -- `exports::verdict_of` meets its contract. Assumes nothing.
 use mathlib.Core.Path.{◌∙◌, sym, ap}
+use Prim.Native.Nat.{ℕ}
+use Rattle.specification.specs.Results.{refused}
 use Rattle.specification.specs.Returns.{returned, decision_returned}
 use Rattle.integers.proofs.Machine.{back_is}
 use Rattle.decision.specs.Answers.{decision_of}
@@ -17,5 +19,5 @@ returns-in-Differs c = sym (ap (λ (d : Decision). decision_returned (decision_o
 pub returns-in-Refused : goal.returns-in-Refused
 unfolding returned decision_returned decision_of
 returns-in-Refused c =
-    let c2 = c in
-    back_is (record { sfits = c.refusal.type_inv }) ∙ c.refusal.ensures ∙ sym (ap (λ (d : Decision). decision_returned (decision_of d)) c2.in-Refused.is)
+    back_is (record { sfits = c.refusal.type_inv }) ∙ c.refusal.ensures ∙ ap (λ (n : ℕ). returned (refused n)) c.number.ensures
+    ∙ sym (ap (λ (d : Decision). decision_returned (decision_of d)) c.in-Refused.is)

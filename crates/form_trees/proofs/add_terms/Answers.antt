@@ -4,10 +4,11 @@ use native.Mathlib.Omega.{arith}
 use Rattle.integers.proofs.Machine.{back_is}
 use Rattle.replacing.proofs.Turns.{left_as, turn_refused, turn_taken, turns-done}
 use Rattle.form_trees.proofs.Rowed.{row_at, term-valid, term_next, terms_none}
+use Rattle.refusal.proofs.Passing.{passed_up}
 use Rattle.form_trees.proofs.add_terms.Goals as goal
 
 pub loop-i-init : goal.loop-i-init
-loop-i-init c = (c.requires.4, refl, refl, refl, refl, record { passed = c.requires.3; form = c.requires.2; is = refl })
+loop-i-init c = (c.requires.3, refl, refl, refl, refl, record { form = c.requires.2; is = refl })
 
 pub offset_bounds-old-i : goal.offset_bounds-old-i
 offset_bounds-old-i c = omega (arith, c.requires.0.form.few)
@@ -24,8 +25,8 @@ bounds-olds-i c = omega (arith, c.requires.0.form.run.beside)
 pub term_of-t-requires : goal.term_of-t-requires
 term_of-t-requires c = row_at _ _ _ c.requires.0 _ c.loop-i-test.true
 
-pub add_term-w-requires : goal.add_term-w-requires
-add_term-w-requires c =
+pub add_term-requires : goal.add_term-requires
+add_term-requires c =
     let s = c in
     let v = c.loop-i.invariant in (
       term-valid _ _ _ s.requires.0 _ c.loop-i-test.true _ (back_is (record { sfits = c.term_of-arg-1.given })) _ c.term_of-t.ensures,
@@ -35,24 +36,13 @@ add_term-w-requires c =
       omega (arith, v.4),
     )
 
-pub shape_of-rows-then-w-ne0 : goal.shape_of-rows-then-w-ne0
-shape_of-rows-then-w-ne0 c = omega (arith, c.loop-i.invariant.1)
-
-pub shape_of-coefs-then-w-ne0 : goal.shape_of-coefs-then-w-ne0
-shape_of-coefs-then-w-ne0 c = omega (arith, c.loop-i.invariant.2)
-
-pub returns-then-w-ne0 : goal.returns-then-w-ne0
-returns-then-w-ne0 c =
+pub returns-in_err-w : goal.returns-in_err-w
+returns-in_err-w c =
     let s = c in
     let v = c.loop-i.invariant in
-    turn_refused _ _ _ _ _ _ _ _ _ _ (left_as _ _ _ _ _ _ _ _ _ _ (term_next _ _ _ s.requires.0 _ c.loop-i-test.true _
-    (back_is (record { sfits = c.term_of-arg-1.given })) _ c.term_of-t.ensures) v.5) _ _ _ c.add_term-w.ensures c.if-w-ne0.true
-
-pub overflow_add-i : goal.overflow_add-i
-overflow_add-i c = omega (arith, c.loop-i-test.true, c.requires.0.form.few)
-
-pub loop-i-smaller : goal.loop-i-smaller
-loop-i-smaller c = omega (arith, c.loop-i-test.true)
+    rw (passed_up _ _ c.from_residual.ensures.1)
+    (turn_refused _ _ _ _ _ _ _ _ _ _ (left_as _ _ _ _ _ _ _ _ _ _ (term_next _ _ _ s.requires.0 _ c.loop-i-test.true _
+    (back_is (record { sfits = c.term_of-arg-1.given })) _ c.term_of-t.ensures) v.5) _ _ _ c.in_err-w.ensures)
 
 pub loop-i-preserved : goal.loop-i-preserved
 loop-i-preserved c =
@@ -64,7 +54,7 @@ loop-i-preserved c =
       omega (arith, v.3),
       omega (arith, v.4),
       turn_taken _ _ _ _ _ _ _ _ _ _ (left_as _ _ _ _ _ _ _ _ _ _ (term_next _ _ _ s.requires.0 _ c.loop-i-test.true _
-          (back_is (record { sfits = c.term_of-arg-1.given })) _ c.term_of-t.ensures) v.5) _ _ _ c.add_term-w.ensures c.if-w-ne0.false,
+          (back_is (record { sfits = c.term_of-arg-1.given })) _ c.term_of-t.ensures) v.5) _ _ _ c.in_ok-w.ensures,
     )
 
 pub shape_of-rows : goal.shape_of-rows

@@ -15,6 +15,3 @@ invariant-loop-i l = (l.i ≤ l.n) × (length l.rows ≡ length l.initial.rows) 
     (plus_first (leaf_by l.replaced l.m l.right l.rights))
     (plus_each (leaf_by l.replaced l.m l.right l.rights) (form_by l.initial.w.kind l.initial.w.count l.initial.rows l.initial.coefs)
     (drop 1 (run_of l.n l.old l.olds))) (drop l.i (run_of l.n l.old l.olds)) l.w l.rows l.coefs
-
-abbrev pub decreases-loop-i : goal.decreases-loop-i
-decreases-loop-i l = l.n - l.i

@@ -13,11 +13,7 @@ roomy : (c : After-shared_slice_known-2-1) → c.args.at + 2 ≤ length c.args.s
 roomy c = leb-true _ _ (sym c.room.ensures ∙ c.if-not-room.false)
 
 pub returns-then-not-room : goal.returns-then-not-room
-returns-then-not-room c =
-    record {
-      is = form-short_of-bytes _ _ _ c.refuse_form.ensures.0 (sym c.room.ensures ∙ c.if-not-room.true);
-      readable = rw c.refuse_form.ensures.1 (more_room 0 48 _ (omega arith) c.no_terms.ensures.1);
-    }
+returns-then-not-room c = form-short_of-bytes _ _ (sym c.room.ensures ∙ c.if-not-room.true)
 
 pub bounds-s-at : goal.bounds-s-at
 bounds-s-at c = omega (arith, leb-true _ _ (sym c.room.ensures ∙ c.if-not-room.false))
@@ -32,31 +28,13 @@ pub overflow_cast-n : goal.overflow_cast-n
 overflow_cast-n c = omega (arith, c.type_inv.s (c.args.at + 1))
 
 pub returns-then-kind-gt1 : goal.returns-then-kind-gt1
-returns-then-kind-gt1 c =
-    record {
-      is = form-bad-kind _ _ _ c.refuse_form-then-kind-gt1.ensures.0
-          (sym c.room.ensures ∙ c.if-not-room.false)
-          c.if-kind-gt1.true;
-      readable = rw c.refuse_form-then-kind-gt1.ensures.1 (more_room 0 48 _ (omega arith) c.no_terms-then-kind-gt1.ensures.1);
-    }
+returns-then-kind-gt1 c = form-bad-kind _ _ (sym c.room.ensures ∙ c.if-not-room.false) c.if-kind-gt1.true
 
 pub returns-then-n-gt48 : goal.returns-then-n-gt48
-returns-then-n-gt48 c =
-    record {
-      is = form-too_long _ _ _ c.refuse_form-then-n-gt48.ensures.0
-          (sym c.room.ensures ∙ c.if-not-room.false)
-          c.if-kind-gt1.false c.if-n-gt48.true;
-      readable = rw c.refuse_form-then-n-gt48.ensures.1 (more_room 0 48 _ (omega arith) c.no_terms-then-n-gt48.ensures.1);
-    }
+returns-then-n-gt48 c = form-too_long _ _ (sym c.room.ensures ∙ c.if-not-room.false) c.if-kind-gt1.false c.if-n-gt48.true
 
 pub overflow_add-at : goal.overflow_add-at
 overflow_add-at c = omega (arith, roomy (goal.at.overflow_add-at c).After-shared_slice_known-2-1)
 
 pub returns : goal.returns
-returns c =
-    record {
-      is = form_of-terms _ _
-          (sym c.room.ensures ∙ c.if-not-room.false)
-          c.if-kind-gt1.false c.if-n-gt48.false _ c.take_terms.ensures;
-      readable = more_room _ 48 _ c.if-n-gt48.false c.take_terms.ensures.readable;
-    }
+returns c = form_of-terms _ _ (sym c.room.ensures ∙ c.if-not-room.false) c.if-kind-gt1.false c.if-n-gt48.false _ c.take_terms.ensures

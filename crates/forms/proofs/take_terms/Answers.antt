@@ -15,6 +15,7 @@ use Rattle.terms.specs.Abstraction.{term_of, Counted, terms_of}
 use Rattle.terms.specs.Valid.{Readable}
 use Rattle.forms.specs.Reading.{behind_last}
 use Rattle.forms.proofs.Takers.{begins, behind_none, behind_more, more_room, pushed-terms, pushed-readable, turn_refused, turned, terms_refused, terms_given}
+use Rattle.refusal.proofs.Passing.{passed_up}
 use Rattle.forms.proofs.take_terms.Goals as goal
 
 pub loop-i-init : goal.loop-i-init
@@ -23,33 +24,31 @@ loop-i-init c =
     let a = c.args in
     (omega arith, w.3, w.4, begins a.kind a.n a.s.now a.at _ w.0, w.1, w.2, behind_none _ _ w.0, c.no_term-last.ensures)
 
-pub take_term-a-requires : goal.take_term-a-requires
-take_term-a-requires c = c.loop-i.invariant.7
+pub take_term-requires : goal.take_term-requires
+take_term-requires c = c.loop-i.invariant.7
 
-pub returns-then-not-a : goal.returns-then-not-a
-returns-then-not-a c =
+pub returns-in_err-t : goal.returns-in_err-t
+returns-in_err-t c =
     let a = c.args in
     let v = c.loop-i in
     let inv = v.invariant in
-    let o = not-true c.take_term-a.result.ok c.if-not-a.true in
     let e : a.n - v.i ≡ suc (a.n - (v.i + 1)) = omega arith in
-    terms_refused _ _ _ (rw c.refuse_form.ensures.1 (more_room _ _ _ inv.0 inv.4)) (rw c.refuse_form.ensures.1 inv.5) _ c.refuse_form.ensures.0
-    (inv.3 ∙ rw e (turn_refused a.kind v.i _ a.s.now _ _ inv.6 _ c.take_term-a.ensures.is _ o))
+    rw (passed_up _ _ c.from_residual.ensures.1)
+    (terms_refused _ _ _ _ (inv.3 ∙ rw e (turn_refused a.kind v.i _ a.s.now _ _ inv.6 _ c.in_err-t.ensures.is _ _ refl)))
 
 pub loop-i-preserved : goal.loop-i-preserved
 loop-i-preserved c =
     let a = c.args in
     let v = c.loop-i in
     let inv = v.invariant in
-    let w = c.take_term-a.ensures in
-    let t = c.take_term-a.result.term in
-    let o = not-false c.take_term-a.result.ok c.if-not-a.false in
+    let w = c.in_ok-t.ensures in
+    let t = c.in_ok-t.t in
     let l : v.i < length v.f.terms = omega (arith, inv.2, c.requires) in
     let p = pushed-terms t v.f _ v.i inv.1 l refl refl in (
       omega arith,
       refl,
       simp length-set inv.2,
-      inv.3 ∙ turned a.kind a.n v.i _ a.s.now (terms_of v.f) _ v.next inv.6 _ w.is o c.loop-i-test.true p,
+      inv.3 ∙ turned a.kind a.n v.i _ a.s.now (terms_of v.f) _ v.next inv.6 _ _ w.is c.loop-i-test.true p,
       pushed-readable t v.f _ v.i inv.1 l refl refl inv.4 w.counted,
       inv.5,
       behind_more (terms_of v.f) _ v.i (term_of t) p,
@@ -62,4 +61,4 @@ returns c =
     let v = c.loop-i in
     let inv = v.invariant in
     let e : a.n - v.i ≡ 0 = omega arith in
-    terms_given _ _ _ (more_room _ _ _ inv.0 inv.4) inv.5 _ a.s.now refl (inv.3 ∙ ap (λ (m : ℕ). read_terms m a.kind (terms_of v.f) a.s.now v.next) e)
+    terms_given _ _ _ _ _ a.s.now (more_room _ _ _ inv.0 inv.4) inv.5 (inv.3 ∙ ap (λ (m : ℕ). read_terms m a.kind (terms_of v.f) a.s.now v.next) e)

@@ -19,6 +19,3 @@ use Rattle.forms.proofs.take_terms.Given as goal
 abbrev pub invariant-loop-i : goal.invariant-loop-i
 invariant-loop-i l = (l.i ≤ l.n) × (l.f.count ≡ l.i) × (length l.f.terms ≡ 48) × (read_terms l.n l.kind [] l.s l.at ≡ read_terms (l.n - l.i) l.kind (terms_of l.f) l.s l.next) × Readable l.i l.f × (l.f.kind ≡ l.kind)
     × ((t : S.Term) → follows term_before (terms_of l.f) t ≡ behind_last l.i (term_of l.last) t) × Counted l.last
-
-abbrev pub decreases-loop-i : goal.decreases-loop-i
-decreases-loop-i l = l.n - l.i

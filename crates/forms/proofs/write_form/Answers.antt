@@ -45,9 +45,6 @@ write_term-at-requires c =
     let h : w.loop-i.at + 16 ≤ length w.loop-i.out = omega (arith, long (goal.at.write_term-at-requires c).At-loop-i, c.loop-i-test.true, w.loop-i.invariant.2, s.requires.0.few) in
     (term_at_lem s.args.f _ _ s.requires.0 (few (goal.at.write_term-at-requires c).Start) c.loop-i-test.true, h)
 
-pub overflow_add-i : goal.overflow_add-i
-overflow_add-i c = omega (arith, c.requires.0.few)
-
 pub loop-i-preserved : goal.loop-i-preserved
 loop-i-preserved c =
     let w = c in

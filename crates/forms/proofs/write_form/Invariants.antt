@@ -11,6 +11,3 @@ use Rattle.forms.proofs.write_form.Given as goal
 
 abbrev pub invariant-loop-i : goal.invariant-loop-i
 invariant-loop-i l = (l.i ≤ l.n) × (length l.out ≡ length l.initial.out) × (l.at ≤ 2 + l.i * 16) × Written l.initial.out l.out 2 l.at (records (take l.i l.f.terms))
-
-abbrev pub decreases-loop-i : goal.decreases-loop-i
-decreases-loop-i l = l.n - l.i

@@ -1,22 +1,17 @@
 -- `insertion::with_inserted` meets its contract: both forms, the letter and the kind, then working. Assumes nothing.
+use Rattle.std.proofs.Common.{rules}
+use Rattle.refusal.proofs.Passing.{passed_up}
 use Rattle.insertion.proofs.Inserting.{forms_refused, replaced_refused, second-vector, working_decides}
 use Rattle.insertion.proofs.with_inserted.Goals as goal
 
-pub returns-then-b-ne0 : goal.returns-then-b-ne0
-returns-then-b-ne0 c = forms_refused _ _ _ _ _ c.read_both-b.ensures _ c.if-b-ne0.true c.refuse.ensures
+pub returns-in_err-f : goal.returns-in_err-f
+returns-in_err-f c = rw (passed_up _ _ c.from_residual.ensures.1) (forms_refused _ _ _ _ _ c.in_err-f.ensures)
 
-pub returns-then-n-ne0 : goal.returns-then-n-ne0
-returns-then-n-ne0 c =
-    replaced_refused _ _ _ _ _ c.read_both-b.ensures
-    c.if-b-ne0.false _ c.test_replaced-n.ensures _ c.if-n-ne0.true c.refuse-then-n-ne0.ensures
+pub returns-in_err-test_replaced : goal.returns-in_err-test_replaced
+returns-in_err-test_replaced c = rw (passed_up _ _ c.from_residual-in_err-test_replaced.ensures.1) (replaced_refused _ _ _ _ _ _ c.in_ok-f.ensures _ c.in_err-test_replaced.ensures)
 
 pub replace-requires : goal.replace-requires
-replace-requires c =
-    let b = c.read_both-b.ensures in
-    let z = c.if-b-ne0.false in
-    (b.first z, b.second z, second-vector _ _ _ _ _ b z _ c.test_replaced-n.ensures c.if-n-ne0.false)
+replace-requires c = let b = c.in_ok-f.ensures in (b.first, b.second, second-vector _ _ _ _ _ _ b _ c.in_ok-test_replaced.ensures)
 
 pub returns : goal.returns
-returns c =
-    working_decides _ _ _ _ _ c.read_both-b.ensures
-    c.if-b-ne0.false _ c.test_replaced-n.ensures c.if-n-ne0.false _ c.replace.ensures
+returns c = working_decides _ _ _ _ _ _ c.in_ok-f.ensures _ c.in_ok-test_replaced.ensures _ c.replace.ensures

@@ -5,10 +5,10 @@ use Rattle.leaves.proofs.Single.{alone-gives}
 use native.Mathlib.Omega.{arith}
 use Rattle.leaves.proofs.alone.Goals as goal
 
-pub row_of-r-requires : goal.row_of-r-requires
-row_of-r-requires c = c.requires.0
+pub row_of-requires : goal.row_of-requires
+row_of-requires c = c.requires.0
 
 pub returns : goal.returns
 returns c =
     let p = c.requires in alone-gives _ c.args.t _ _ c.args.rows.now
-    c.args.coefs.now p.1 c.row_of-r.ensures (back_is (record { sfits = c.struct_told-1.given.0.1 })) p.2 p.3
+    c.args.coefs.now p.1 c.row_of.ensures (back_is (record { sfits = search rules })) p.2 p.3

@@ -8,7 +8,7 @@ use Rattle.leaves.proofs.constant.Goals as goal
 pub returns-then-not-within : goal.returns-then-not-within
 returns-then-not-within c =
     constant-back _ _ _ _ c.ranges.k
-    (constant-nine _ _ _ _ _ c.within.ensures c.if-not-within.true c.refuse.ensures)
+    (constant-nine _ _ _ _ c.within.ensures c.if-not-within.true)
 
 pub returns-then-is_zero : goal.returns-then-is_zero
 returns-then-is_zero c =

@@ -10,6 +10,3 @@ use Rattle.letters.proofs.check_table.Given as goal
 
 abbrev pub invariant-loop-i : goal.invariant-loop-i
 invariant-loop-i l = (l.i ≤ l.n) × (l.n ≡ length l.table) × (1 ≤ l.n) × (l.n ≤ 24) × (all is_kind l.table ≡ all is_kind (drop l.i l.table))
-
-abbrev pub decreases-loop-i : goal.decreases-loop-i
-decreases-loop-i l = l.n - l.i

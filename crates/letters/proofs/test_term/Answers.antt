@@ -13,6 +13,7 @@ use Rattle.terms.proofs.Arrays.{all-at}
 use mathlib.Core.Path.{◌≡◌, refl, sym, ◌∙◌}
 use native.Mathlib.Omega.{arith}
 use Rattle.letters.proofs.test_term.Goals.{Start}
+use Rattle.refusal.proofs.Passing.{passed_up}
 use Rattle.letters.proofs.test_term.Goals as goal
 
 places : (c : Start) → length c.args.t.factors ≡ 7
@@ -31,16 +32,14 @@ loop-i-init c = (omega arith, refl, c.requires.few, refl)
 pub bounds-t-i : goal.bounds-t-i
 bounds-t-i c = omega (arith, places (goal.at.bounds-t-i c).Start)
 
-pub test_factor-r-requires : goal.test_factor-r-requires
-test_factor-r-requires c = all-at _ _ _ _ _ (room (goal.at.test_factor-r-requires c).Start) c.loop-i-test.true c.requires.small
+pub test_factor-requires : goal.test_factor-requires
+test_factor-requires c = all-at _ _ _ _ _ (room (goal.at.test_factor-requires c).Start) c.loop-i-test.true c.requires.small
 
-pub returns-then-r-ne0 : goal.returns-then-r-ne0
-returns-then-r-ne0 c =
+pub returns-in_err-test_factor : goal.returns-in_err-test_factor
+returns-in_err-test_factor c =
     let w = c in
-    sym
-    (c.loop-i.invariant.3 ∙ sym (factor-stops w.args.table.now w.args.t.factors w.args.t.factor_count
-    c.loop-i.i _ _ (room (goal.at.returns-then-r-ne0 c).Start) c.loop-i-test.true
-    c.test_factor-r.ensures c.if-r-ne0.true))
+    rw (passed_up _ _ c.from_residual.ensures.1)
+    (sym (c.loop-i.invariant.3 ∙ sym (factor-stops w.args.table.now w.args.t.factors w.args.t.factor_count c.loop-i.i _ (room (goal.at.returns-in_err-test_factor c).Start) _ c.loop-i-test.true c.in_err-test_factor.ensures)))
 
 pub loop-i-preserved : goal.loop-i-preserved
 loop-i-preserved c =
@@ -49,8 +48,7 @@ loop-i-preserved c =
       omega arith,
       inv.1,
       inv.2,
-      inv.3 ∙ factor-passes w.args.table.now w.args.t.factors w.args.t.factor_count c.loop-i.i _ _
-          (room (goal.at.loop-i-preserved c).Start) c.loop-i-test.true c.test_factor-r.ensures c.if-r-ne0.false,
+      inv.3 ∙ factor-passes w.args.table.now w.args.t.factors w.args.t.factor_count c.loop-i.i _ (room (goal.at.loop-i-preserved c).Start) c.loop-i-test.true c.in_ok-test_factor.ensures,
     )
 
 pub test_part-requires : goal.test_part-requires
@@ -60,5 +58,5 @@ pub returns : goal.returns
 returns c =
     let w = c in
     c.test_part.ensures ∙ sym
-    (c.loop-i.invariant.3 ∙ factors-end w.args.table.now w.args.t.factors w.args.t.factor_count c.loop-i.i 0 _
+    (c.loop-i.invariant.3 ∙ factors-end w.args.table.now w.args.t.factors w.args.t.factor_count c.loop-i.i _
     (room (goal.at.returns c).Start) c.loop-i-test.false)

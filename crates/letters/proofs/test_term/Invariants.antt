@@ -16,6 +16,3 @@ use Rattle.letters.proofs.test_term.Given as goal
 abbrev pub invariant-loop-i : goal.invariant-loop-i
 invariant-loop-i l = (l.i ≤ l.n) × (l.n ≡ l.t.factor_count) × (l.n ≤ 7)
     × (test_term l.table (term_of l.t) ≡ (test_factors l.table (map letters_of (drop l.i (take l.n l.t.factors))) >> test_letters l.table vector (part_of l.t.part)))
-
-abbrev pub decreases-loop-i : goal.decreases-loop-i
-decreases-loop-i l = l.n - l.i

@@ -8,11 +8,7 @@ use mathlib.Core.List.{map}
 use lib.ListN.{length, length-map, take, drop}
 use Rattle.specification.specs.Records.{test_terms}
 use Rattle.terms.specs.Abstraction.{term_of, Counted, terms_of}
-use Rattle.letters.specs.Tested.{test_of}
 use Rattle.letters.proofs.test_terms.Given as goal
 
 abbrev pub invariant-loop-i : goal.invariant-loop-i
 invariant-loop-i l = (l.i ≤ l.n) × (l.n ≡ l.f.count) × (l.n ≤ 48) × (test_terms l.table (terms_of l.f) ≡ test_terms l.table (map term_of (drop l.i (take l.n l.f.terms))))
-
-abbrev pub decreases-loop-i : goal.decreases-loop-i
-decreases-loop-i l = l.n - l.i

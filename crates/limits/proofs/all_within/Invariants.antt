@@ -13,6 +13,3 @@ use Rattle.limits.proofs.all_within.Given as goal
 
 abbrev pub invariant-loop-i : goal.invariant-loop-i
 invariant-loop-i l = (l.i ≤ l.n) × (all coef_within (take l.n l.coefs) ≡ all coef_within (drop l.i (take l.n l.coefs)))
-
-abbrev pub decreases-loop-i : goal.decreases-loop-i
-decreases-loop-i l = l.n - l.i

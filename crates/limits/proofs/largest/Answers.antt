@@ -51,9 +51,6 @@ size-v-requires c = rw (back_is {z = get_or c.args.coefs.now c.loop-i.i (pos 0)}
     (record { sfits = c.size-arg-1.given }))
     (omega (arith, small (goal.at.size-v-requires c).In-loop-i))
 
-pub overflow_add-i : goal.overflow_add-i
-overflow_add-i c = omega (arith, c.loop-i-test.true)
-
 pub loop-i-preserved : goal.loop-i-preserved
 loop-i-preserved c = let a = c in
     let v = c.loop-i in

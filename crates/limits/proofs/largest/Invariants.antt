@@ -12,6 +12,3 @@ use Rattle.limits.proofs.largest.Given as goal
 
 abbrev pub invariant-loop-i : goal.invariant-loop-i
 invariant-loop-i l = (l.i ≤ l.n) × Light l.most l.i l.coefs × (l.most ≤ 2147483647)
-
-abbrev pub decreases-loop-i : goal.decreases-loop-i
-decreases-loop-i l = l.n - l.i

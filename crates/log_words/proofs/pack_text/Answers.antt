@@ -8,29 +8,27 @@ use Rattle.log_words.proofs.pack_text.Goals as goal
 
 pub tell_line-requires : goal.tell_line-requires
 tell_line-requires c =
-    (c.read_log_text-l.ensures.inside, log-column _ _ _ _ c.read_log_text-l.ensures c.if-l-ne0.true)
+    (c.in-Err.ensures.inside, log-column _ _ _ _ c.in-Err.ensures)
 
-pub returns-then-l-ne0 : goal.returns-then-l-ne0
-returns-then-l-ne0 c =
-    pack_refused _ _ _ _ c.read_log_text-l.ensures c.if-l-ne0.true _ _ c.tell_line.ensures
+pub returns-in-Err : goal.returns-in-Err
+returns-in-Err c =
+    pack_refused _ _ _ _ c.in-Err.ensures _ c.number.ensures _ _ c.tell_line.ensures
 
 pub write_log-m-requires : goal.write_log-m-requires
 write_log-m-requires c =
-    let r = c.read_log_text-l.ensures in
-    let e = c.if-l-ne0.false in
-    (r.first e, r.steps e, r.last e, omega (arith, (r.steps e).few, (r.last e).few))
+    let r = c.in-Ok.ensures in (r.first, r.steps, r.last, omega (arith, r.steps.few, r.last.few))
 
 pub overflow_cast-n : goal.overflow_cast-n
 overflow_cast-n c =
-    omega (arith, c.read_log_text-l.ensures.few c.if-l-ne0.false)
+    omega (arith, c.in-Ok.ensures.few)
 
 pub slice_bounds-table-end : goal.slice_bounds-table-end
 slice_bounds-table-end c =
-    omega (arith, c.read_log_text-l.ensures.few c.if-l-ne0.false, c.read_log_text-l.auto.table)
+    omega (arith, c.in-Ok.ensures.few, c.read_log_text.auto.table)
 
 pub slice_bounds-put-end : goal.slice_bounds-put-end
 slice_bounds-put-end c =
-    sym (length-take-le _ _ (omega (arith, c.read_log_text-l.ensures.few c.if-l-ne0.false, c.read_log_text-l.auto.table)))
+    sym (length-take-le _ _ (omega (arith, c.in-Ok.ensures.few, c.read_log_text.auto.table)))
 
 pub slice_bounds-log-end : goal.slice_bounds-log-end
 slice_bounds-log-end c = log_within-bytes _ _ _ _ _ _ c.write_log-m.ensures
@@ -41,6 +39,5 @@ slice_bounds-put-end-2 c =
 
 pub returns : goal.returns
 returns c =
-    let r = c.read_log_text-l in
-    pack_given _ _ _ _ r.ensures c.if-l-ne0.false _ _ _ c.write_log-m.ensures _ _ (omega (arith, r.ensures.few c.if-l-ne0.false, r.auto.table))
+    pack_given _ _ _ _ c.in-Ok.ensures _ _ _ c.write_log-m.ensures _ _ (omega (arith, c.in-Ok.ensures.few, c.read_log_text.auto.table))
     (told_first (tells-then (tells-then c.put_byte-a.ensures c.put-b.ensures) c.put.ensures))

@@ -1,55 +1,31 @@
 -- `named_printing::print_named` meets its contract: the tests in order, the form taken, its text. Assumes nothing.
-use Rattle.printer_call.specs.Answers.{printing_of}
+use Rattle.std.proofs.Common.{rules}
+use Rattle.refusal.proofs.Passing.{passed_up}
 use Rattle.named_printing.proofs.Calls.{table_refused, names_refused, out_refused, form_refused, form-printable, form-printed}
 use Rattle.named_printing.proofs.print_named.Goals as goal
 
-pub returns-then-c-ne0 : goal.returns-then-c-ne0
-unfolding printing_of
-returns-then-c-ne0 c =
-    let w = c.args in
-    table_refused w.table.now w.names.now w.form.now w.out.now _ c.check_table-c.ensures c.if-c-ne0.true
+pub returns-in_err-check_table : goal.returns-in_err-check_table
+returns-in_err-check_table c = rw (passed_up _ _ c.from_residual.ensures.1) (table_refused _ _ _ _ _ c.in_err-check_table.ensures)
 
 pub returns-then-not-good_names : goal.returns-then-not-good_names
-unfolding printing_of
-returns-then-not-good_names c =
-    let w = c.args in
-    names_refused w.table.now w.names.now w.form.now w.out.now _ c.check_table-c.ensures
-    c.if-c-ne0.false _ c.good_names.ensures c.if-not-good_names.true
+returns-then-not-good_names c = names_refused _ _ _ _ _ c.in_ok-check_table.ensures _ c.good_names.ensures c.if-not-good_names.true
 
 pub returns-then-out-lt-LINE_BYTES : goal.returns-then-out-lt-LINE_BYTES
-unfolding printing_of
 returns-then-out-lt-LINE_BYTES c =
-    let w = c.args in
-    out_refused w.table.now w.names.now w.form.now w.out.now _ c.check_table-c.ensures
-    c.if-c-ne0.false _ c.good_names.ensures c.if-not-good_names.false c.if-out-lt-LINE_BYTES.true
+    out_refused _ _ _ _ _ c.in_ok-check_table.ensures _ c.good_names.ensures c.if-not-good_names.false c.if-out-lt-LINE_BYTES.true
 
-pub returns-then-n-ne0 : goal.returns-then-n-ne0
-unfolding printing_of
-returns-then-n-ne0 c =
-    let w = c.args in
-    form_refused w.table.now w.names.now w.form.now w.out.now _
-    c.check_table-c.ensures c.if-c-ne0.false _
-    c.good_names.ensures c.if-not-good_names.false c.if-out-lt-LINE_BYTES.false _
-    c.read_form-w.ensures c.if-n-ne0.true
+pub returns-in_err-f : goal.returns-in_err-f
+returns-in_err-f c =
+    rw (passed_up _ _ c.from_residual-in_err-f.ensures.1)
+    (form_refused _ _ _ _ _ c.in_ok-check_table.ensures _ c.good_names.ensures c.if-not-good_names.false c.if-out-lt-LINE_BYTES.false _ c.in_err-f.ensures)
 
 pub print_form-requires : goal.print_form-requires
-print_form-requires c =
-    let w = c.args in (
-      form-printable w.table.now w.names.now w.form.now w.out.now _
-          c.check_table-c.ensures c.if-c-ne0.false _
-          c.good_names.ensures c.if-not-good_names.false
-          c.if-out-lt-LINE_BYTES.false _ c.read_form-w.ensures c.if-n-ne0.false,
-      c.if-out-lt-LINE_BYTES.false,
-    )
+print_form-requires c = (
+  form-printable _ _ _ _ _ c.in_ok-check_table.ensures _ c.good_names.ensures c.if-not-good_names.false c.if-out-lt-LINE_BYTES.false _ c.in_ok-f.ensures,
+  c.if-out-lt-LINE_BYTES.false,
+)
 
 pub returns : goal.returns
-unfolding printing_of
 returns c =
-    let w = c.args in
-    form-printed w.table.now w.names.now w.form.now w.out.now _
-    c.check_table-c.ensures
-    c.if-c-ne0.false _
-    c.good_names.ensures
-    c.if-not-good_names.false c.if-out-lt-LINE_BYTES.false _
-    c.read_form-w.ensures c.if-n-ne0.false _ _
-    c.print_form.ensures
+    form-printed _ _ _ _ _ c.in_ok-check_table.ensures _ c.good_names.ensures
+    c.if-not-good_names.false c.if-out-lt-LINE_BYTES.false _ c.in_ok-f.ensures _ _ c.print_form.ensures

@@ -24,9 +24,6 @@ loop-i-init c =
           (omega (arith, run_length c.args.rows.now c.args.coefs.now c.args.n v.room v.beside)),
     )
 
-pub overflow_sub-i : goal.overflow_sub-i
-overflow_sub-i c = omega (arith, c.loop-i-test.true)
-
 pub offset_bounds-rows-i : goal.offset_bounds-rows-i
 offset_bounds-rows-i c = omega (arith, c.loop-i.invariant.0)
 

@@ -17,6 +17,3 @@ use Rattle.pair_limits.proofs.fit_of_pairs.Given as goal
 
 abbrev pub invariant-loop-i : goal.invariant-loop-i
 invariant-loop-i l = (l.i ≤ l.n) × FitOf (product_terms (parts_of l.op) (drop l.i (run_of l.n l.rows l.coefs)) (run_of l.m l.right l.rights)) l.fit
-
-abbrev pub decreases-loop-i : goal.decreases-loop-i
-decreases-loop-i l = l.i

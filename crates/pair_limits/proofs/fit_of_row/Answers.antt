@@ -22,9 +22,6 @@ loop-j-init c =
           (omega (arith, run_length c.args.right.now c.args.rights.now c.args.m v.room v.beside)),
     )
 
-pub overflow_sub-j : goal.overflow_sub-j
-overflow_sub-j c = omega (arith, c.loop-j-test.true)
-
 pub offset_bounds-right-j : goal.offset_bounds-right-j
 offset_bounds-right-j c = omega (arith, c.loop-j.invariant.0)
 

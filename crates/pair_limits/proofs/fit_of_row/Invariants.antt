@@ -15,6 +15,3 @@ use Rattle.pair_limits.proofs.fit_of_row.Given as goal
 
 abbrev pub invariant-loop-j : goal.invariant-loop-j
 invariant-loop-j l = (l.j ≤ l.m) × FitOf (row_terms l.op (term_of l.t) (drop l.j (run_of l.m l.right l.rights))) l.fit
-
-abbrev pub decreases-loop-j : goal.decreases-loop-j
-decreases-loop-j l = l.j

@@ -13,6 +13,3 @@ use Rattle.pair_limits.proofs.most_of.Given as goal
 
 abbrev pub invariant-loop-i : goal.invariant-loop-i
 invariant-loop-i l = (l.i ≤ l.n) × MostOf (drop l.i (run_of l.n l.rows l.coefs)) l.m
-
-abbrev pub decreases-loop-i : goal.decreases-loop-i
-decreases-loop-i l = l.i

@@ -15,6 +15,3 @@ use Rattle.record_writing.proofs.write_joined.Given as goal
 
 abbrev pub invariant-loop-i : goal.invariant-loop-i
 invariant-loop-i l = (l.i ≤ l.n) × (length l.out ≡ length l.initial.out) × Written l.initial.out l.out l.at l.next (joined (sized l.size (take l.i l.t.factors)))
-
-abbrev pub decreases-loop-i : goal.decreases-loop-i
-decreases-loop-i l = l.n - l.i

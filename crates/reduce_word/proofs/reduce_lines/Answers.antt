@@ -14,20 +14,20 @@ shape_of-out-then-q-n c = c.loop.invariant.1
 pub returns-then-q-n : goal.returns-then-q-n
 returns-then-q-n c = lines_end _ _ _ _ _ _ _ _ c.loop.invariant.0 c.if-q-n.true
 
-pub form_at-r-requires : goal.form_at-r-requires
-form_at-r-requires c =
+pub form_at-requires : goal.form_at-requires
+form_at-requires c =
     (c.requires.0, c.loop.invariant.0.inside)
 
-pub shape_of-out-then-r-ne0 : goal.shape_of-out-then-r-ne0
-shape_of-out-then-r-ne0 c = c.loop.invariant.1
+pub shape_of-out-in-Err : goal.shape_of-out-in-Err
+shape_of-out-in-Err c = c.loop.invariant.1
 
-pub returns-then-r-ne0 : goal.returns-then-r-ne0
-returns-then-r-ne0 c =
-    lines_refused c.args.s.now _ _ _ _ _ _ _ c.loop.invariant.0 (omega (arith, c.loop-test.true)) c.if-q-n.false _ c.form_at-r.ensures _ c.if-r-ne0.true
+pub returns-in-Err : goal.returns-in-Err
+returns-in-Err c =
+    lines_refused c.args.s.now _ _ _ _ _ _ _ c.loop.invariant.0 (omega (arith, c.loop-test.true)) c.if-q-n.false _ _ c.in-Err.ensures
 
 pub tell_form-end-requires : goal.tell_form-end-requires
 tell_form-end-requires c =
-    text-printable _ _ c.requires.0 _ _ c.form_at-r.ensures c.if-r-ne0.false
+    text-printable _ _ c.requires.0 _ _ c.in-Ok.ensures
 
 pub line_behind-q-requires : goal.line_behind-q-requires
 line_behind-q-requires c =
@@ -36,7 +36,7 @@ line_behind-q-requires c =
 pub loop-preserved : goal.loop-preserved
 loop-preserved c =
     let i = c.loop.invariant in (
-      lines_more c.args.s.now _ _ _ _ _ _ _ i.0 (omega (arith, c.loop-test.true)) c.if-q-n.false _ c.form_at-r.ensures _ _ _ _ (omega (arith, c.loop-test.true)) c.if-r-ne0.false
+      lines_more c.args.s.now _ _ _ _ _ _ _ i.0 (omega (arith, c.loop-test.true)) c.if-q-n.false _ c.in-Ok.ensures _ _ _ _ (omega (arith, c.loop-test.true))
           c.tell_form-end.ensures c.line_behind-q.ensures,
       c.tell_form-end.auto.out ∙ i.1,
     )

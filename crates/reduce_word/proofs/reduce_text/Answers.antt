@@ -28,18 +28,17 @@ pub slice_bounds-reduce_lines-end-2 : goal.slice_bounds-reduce_lines-end-2
 slice_bounds-reduce_lines-end-2 c =
     sym (length-take-le _ _ (omega (arith, c.in-Ok.ensures.few, c.read_header.auto.table)))
 
-pub reduce_lines-r-requires : goal.reduce_lines-r-requires
-reduce_lines-r-requires c =
+pub reduce_lines-requires : goal.reduce_lines-requires
+reduce_lines-requires c =
     (header-table _ _ _ _ c.in-Ok.ensures, c.in-Ok.ensures.inside)
 
-pub tell_line-requires-then-r-ne0 : goal.tell_line-requires-then-r-ne0
-tell_line-requires-then-r-ne0 c =
-    (c.reduce_lines-r.ensures.inside, line-column _ _ _ _ c.in-Ok.ensures _ _ c.reduce_lines-r.ensures c.if-r-ne0.true)
+pub tell_line-requires-in-Err-reduce_lines : goal.tell_line-requires-in-Err-reduce_lines
+tell_line-requires-in-Err-reduce_lines c =
+    (c.in-Err-reduce_lines.ensures.inside, line-column _ _ _ _ c.in-Ok.ensures _ _ c.in-Err-reduce_lines.ensures)
 
-pub returns-then-r-ne0 : goal.returns-then-r-ne0
-returns-then-r-ne0 c =
-    line-answer _ _ _ _ c.in-Ok.ensures _ _ c.reduce_lines-r.ensures c.if-r-ne0.true _ _ c.tell_line-then-r-ne0.ensures
+pub returns-in-Err-reduce_lines : goal.returns-in-Err-reduce_lines
+returns-in-Err-reduce_lines c =
+    line-answer _ _ _ _ c.in-Ok.ensures _ _ c.in-Err-reduce_lines.ensures _ c.number-in-Err-reduce_lines.ensures _ _ c.tell_line-in-Err-reduce_lines.ensures
 
-pub returns : goal.returns
-returns c =
-    forms-answer _ _ _ _ c.in-Ok.ensures _ _ c.reduce_lines-r.ensures c.if-r-ne0.false
+pub returns-in-Ok-reduce_lines : goal.returns-in-Ok-reduce_lines
+returns-in-Ok-reduce_lines c = forms-answer _ _ _ _ c.in-Ok.ensures _ _ c.in-Ok-reduce_lines.ensures

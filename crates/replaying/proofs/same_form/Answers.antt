@@ -85,9 +85,6 @@ returns-then-not-same_row c = let a = c in
     (run_at _ _ _ a.requires.1.room a.requires.1.beside v.j (inside (goal.at.returns-then-not-same_row c).In-loop-j)) _ (pair (goal.at.returns-then-not-same_row c).After-same_row)
     c.if-not-same_row.true)
 
-pub overflow_add-j : goal.overflow_add-j
-overflow_add-j c = omega (arith, c.requires.0.few)
-
 pub loop-j-preserved : goal.loop-j-preserved
 loop-j-preserved c = let a = c in
     let v = c.loop-j in (

@@ -19,6 +19,3 @@ use Rattle.replaying.proofs.same_form.Given as goal
 abbrev pub invariant-loop-j : goal.invariant-loop-j
 invariant-loop-j l = (l.j ≤ l.n) × (l.n ≡ l.f.count) × (same_form (form_of l.f) (form_by l.kind l.count l.rows l.coefs) ≡ same_terms (drop l.j (form_of l.f).terms)
     (drop l.j (run_of l.count l.rows l.coefs)))
-
-abbrev pub decreases-loop-j : goal.decreases-loop-j
-decreases-loop-j l = l.n - l.j

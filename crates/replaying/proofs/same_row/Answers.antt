@@ -5,6 +5,7 @@ use borrow.Author.Tests.{not-true, not-false}
 use Rattle.specification.specs.Logs.{same_coef}
 use Rattle.integers.proofs.Machine.{back_is}
 use Rattle.replaying.proofs.Replays.{row_same, coef-other}
+use Rattle.terms.proofs.Orders.{is_eq-is_equal}
 use Rattle.replaying.proofs.same_row.Goals.{After-equal}
 use Rattle.replaying.proofs.same_row.Goals as goal
 
@@ -20,6 +21,6 @@ pub order_of-requires : goal.order_of-requires
 order_of-requires c = (c.row_of-u.ensures.valid.places, c.requires.1.places)
 
 pub returns : goal.returns
-returns c = c.is_equal.ensures ∙ row_same c.args.t
+returns c = c.is_eq.ensures ∙ is_eq-is_equal _ ∙ row_same c.args.t
     _ _ _ _ _ (coefs (goal.at.returns c).After-equal) c.if-not-equal.false
     c.row_of-u.ensures.is (c.order_of.ensures _ _)

@@ -20,6 +20,11 @@ use Rattle.logs.specs.Steps.{steps_of, found_of}
 use Rattle.logs.proofs.StepRecords.{no_step}
 use Rattle.logs.proofs.StepLetters.{steps_from}
 use Rattle.replaying.proofs.Replays.{step-fails, step-reaches, all_taken}
+use Rattle.std.specs.Prelude.{Ok}
+use Rattle.std.proofs.lemmas.Result.{IfOk-at_ok}
+use Rattle.refusal.proofs.Passing.{passed_up}
+use Rattle.logs.proofs.StepLetters.{steps_from}
+use Rattle.logs.proofs.AtSteps.{at_step_ok}
 use Rattle.replaying.proofs.take_steps.Goals.{Start}
 use Rattle.replaying.proofs.take_steps.Goals as goal
 
@@ -61,32 +66,29 @@ offset_bounds-q-i c = omega (arith, c.requires.3.few)
 pub bounds-q-i : goal.bounds-q-i
 bounds-q-i c = omega (arith, c.requires.3.few)
 
-pub overflow_add-i : goal.overflow_add-i
-overflow_add-i c = omega (arith, c.requires.3.few)
+pub overflow_cast-i : goal.overflow_cast-i
+overflow_cast-i c = omega (arith, c.requires.3.few, c.loop-i-test.true)
 
-pub overflow_cast-k : goal.overflow_cast-k
-overflow_cast-k c = omega (arith, c.requires.3.few, c.loop-i-test.true)
-
-pub take_step-w-requires : goal.take_step-w-requires
-take_step-w-requires c = let a = c in
+pub take_step-requires : goal.take_step-requires
+take_step-requires c = let a = c in
     let v = c.loop-i in (
       v.invariant.2,
-      valid (goal.at.take_step-w-requires c).Start v.i c.loop-i-test.true,
+      valid (goal.at.take_step-requires c).Start v.i c.loop-i-test.true,
       omega (arith, v.invariant.2.few, v.invariant.4, a.requires.1),
       omega (arith, v.invariant.2.few, v.invariant.5, a.requires.2),
       v.invariant.6,
       omega (arith, v.invariant.7, a.requires.3.few, c.loop-i-test.true),
     )
 
-pub returns-then-e-ne0 : goal.returns-then-e-ne0
-returns-then-e-ne0 c = let a = c in
+pub returns-in_err-w : goal.returns-in_err-w
+unfolding found_of
+returns-in_err-w c = let a = c in
     let v = c.loop-i in
-    record {
-      is = λ log. v.invariant.3 log ∙ step-fails a.args.q.steps a.args.q.count v.i (room (goal.at.returns-then-e-ne0 c).Start)
-          _ (v.i + 1) log _ _ c.loop-i-test.true c.if-e-ne0.true
-          (c.take_step-w.ensures.reached.refuses c.if-e-ne0.true);
-      form = λ z. absurd (c.if-e-ne0.true z);
-    }
+    rw (passed_up _ _ c.from_residual.ensures.1) (record {
+      is = λ log. v.invariant.3 log ∙ step-fails a.args.q.steps a.args.q.count v.i (room (goal.at.returns-in_err-w c).Start)
+          _ (v.i + 1) log c.loop-i-test.true _ _ c.take_step.ensures.reached.is _ c.in_err-w.ensures;
+      form = tt;
+    })
 
 pub raised-bound-requires : goal.raised-bound-requires
 raised-bound-requires c = let a = c in
@@ -96,22 +98,26 @@ raised-bound-requires c = let a = c in
 
 pub loop-i-preserved : goal.loop-i-preserved
 loop-i-preserved c =
-    let a = c in
+    let a = c.args in
     let v = c.loop-i in
     let inside = c.loop-i-test.true in
-    let w = c.take_step-w in
-    let left = c.if-e-ne0.false in
-    let e : c.raised-bound.result ≡ v.bound + 7 * nat_abs (get_or a.args.q.steps v.i no_step).m.coef =
+    let w = c.take_step in
+    let m = c.in_ok-w.w in
+    let g : w.result ≡ Ok m = at_step_ok _ _ _ c.in_ok-w.ensures in
+    let form : FormRun m.kind m.count w.new.rows w.new.coefs = IfOk-at_ok _ g w.ensures.reached.form in
+    let kind : m.kind ≡ a.kind = IfOk-at_ok (λ x. x.kind ≡ a.kind) g w.ensures.kind in
+    let light : Light (v.bound + 7 * nat_abs (get_or a.q.steps v.i no_step).m.coef) m.count w.new.coefs = IfOk-at_ok (λ x. Light (v.bound + 7 * nat_abs (get_or a.q.steps v.i no_step).m.coef) x.count w.new.coefs) g w.ensures.light in
+    let e : c.raised-bound.result ≡ v.bound + 7 * nat_abs (get_or a.q.steps v.i no_step).m.coef =
     omega (arith, c.raised-bound.ensures, own (goal.at.loop-i-preserved c).Start v.i inside) in (
       omega arith,
       v.invariant.1,
-      subst (λ (k : ℕ). FormRun k w.result.count w.new.rows w.new.coefs) w.ensures.kind (w.ensures.reached.form left),
-      λ log. v.invariant.3 log ∙ step-reaches a.args.q.steps a.args.q.count v.i (room (goal.at.loop-i-preserved c).Start)
-          _ (v.i + 1) log _ inside
-          (w.ensures.reached.gives left ∙ ap (λ (k : ℕ). given (form_by k w.result.count w.new.rows w.new.coefs)) w.ensures.kind),
+      subst (λ (k : ℕ). FormRun k m.count w.new.rows w.new.coefs) kind form,
+      λ log. v.invariant.3 log ∙ step-reaches a.q.steps a.q.count v.i (room (goal.at.loop-i-preserved c).Start)
+          _ (v.i + 1) log inside _ _ w.ensures.reached.is _ c.in_ok-w.ensures
+          ∙ ap (λ (k : ℕ). L.replay log (v.i + 1 + 1) (form_by k m.count w.new.rows w.new.coefs) (steps_from a.q.steps a.q.count (v.i + 1))) kind,
       omega (arith, v.invariant.4),
       omega (arith, v.invariant.5),
-      subst (λ (k : ℕ). Light k w.result.count w.new.coefs) (sym e) w.ensures.light,
+      subst (λ (k : ℕ). Light k m.count w.new.coefs) (sym e) light,
       omega (arith, e, v.invariant.7, limit (goal.at.loop-i-preserved c).Start v.i inside),
     )
 
@@ -123,5 +129,5 @@ returns c = let a = c in
     record {
       is = λ log. v.invariant.3 log ∙ all_taken a.args.q.steps a.args.q.count v.i (room (goal.at.returns c).Start) c.loop-i-test.false log (v.i + 1) _
           ∙ ap (λ (m : ℕ). L.replay log (m + 1) (form_by a.args.kind v.count v.rows v.coefs) []) e;
-      form = λ z. v.invariant.2;
+      form = v.invariant.2;
     }

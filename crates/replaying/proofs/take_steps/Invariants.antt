@@ -26,6 +26,3 @@ invariant-loop-i l = (l.i ≤ l.n) × (l.n ≡ l.q.count) × FormRun l.kind l.co
     × ((log : Log) → L.replay log 1 (form_by l.kind l.held l.initial.rows l.initial.coefs) (steps_of l.q) ≡ L.replay log (l.i + 1) (form_by l.kind l.count l.rows l.coefs)
     (steps_from l.q.steps l.n l.i))
     × (length l.rows ≡ length l.initial.rows) × (length l.coefs ≡ length l.initial.coefs) × Light l.bound l.count l.coefs × (l.bound ≤ 2147483647 + l.i * 15032385529)
-
-abbrev pub decreases-loop-i : goal.decreases-loop-i
-decreases-loop-i l = l.n - l.i

@@ -10,6 +10,3 @@ use Rattle.rows.proofs.copy.Given as goal
 
 abbrev pub invariant-loop-i : goal.invariant-loop-i
 invariant-loop-i l = (l.i ≤ l.n) × Copied l.i l.from l.froms l.rows l.coefs × (length l.rows ≡ length l.initial.rows) × (length l.coefs ≡ length l.initial.coefs)
-
-abbrev pub decreases-loop-i : goal.decreases-loop-i
-decreases-loop-i l = l.n - l.i

@@ -12,6 +12,3 @@ use Rattle.rows.proofs.form_of.Given as goal
 
 abbrev pub invariant-loop-i : goal.invariant-loop-i
 invariant-loop-i l = (l.i ≤ l.n) × Given l.n l.rows l.coefs l.i l.ts × (length l.ts ≡ 48)
-
-abbrev pub decreases-loop-i : goal.decreases-loop-i
-decreases-loop-i l = l.n - l.i

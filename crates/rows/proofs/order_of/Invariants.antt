@@ -11,6 +11,3 @@ use Rattle.rows.proofs.order_of.Given as goal
 
 abbrev pub invariant-loop-k : goal.invariant-loop-k
 invariant-loop-k l = (l.k ≤ l.m) × (first_difference order (take l.m l.a) (take l.m l.b) ≡ first_difference order (drop l.k (take l.m l.a)) (drop l.k (take l.m l.b)))
-
-abbrev pub decreases-loop-k : goal.decreases-loop-k
-decreases-loop-k l = l.m - l.k

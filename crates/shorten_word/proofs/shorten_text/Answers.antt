@@ -9,10 +9,10 @@ use Rattle.telling.proofs.Pieces.{told_first}
 use Rattle.formula_lines.proofs.Forms.{text-inside}
 use Rattle.formula_lines.proofs.OneLine.{header-column, header-table}
 use Rattle.shorten_word.proofs.Answers.{names-told, formula_column, formula_told, more_told, log_tellable, names_fit, log-told}
-use Rattle.shorten_word.proofs.shorten_text.Goals.{After-derive-d, After-form_at-r}
+use Rattle.shorten_word.proofs.shorten_text.Goals.{After-derive-d, In-Ok-form_at}
 use Rattle.shorten_word.proofs.shorten_text.Goals as goal
 
-form-places : (c : After-form_at-r) → length c.form_at-r.result.form.terms ≡ 48
+form-places : (c : In-Ok-form_at) → length c.in-Ok-form_at.f.terms ≡ 48
 form-places c = search rules
 
 last_places : (c : After-derive-d) → length c.derive-d.result.last.terms ≡ 48
@@ -40,26 +40,26 @@ pub slice_bounds-form_at-end-2 : goal.slice_bounds-form_at-end-2
 slice_bounds-form_at-end-2 c =
     sym (length-take-le _ _ (omega (arith, c.in-Ok.ensures.few, c.read_header.auto.table)))
 
-pub form_at-r-requires : goal.form_at-r-requires
-form_at-r-requires c =
+pub form_at-requires : goal.form_at-requires
+form_at-requires c =
     (header-table _ _ _ _ c.in-Ok.ensures, c.in-Ok.ensures.inside)
 
-pub tell_line-requires-then-r-ne0 : goal.tell_line-requires-then-r-ne0
-tell_line-requires-then-r-ne0 c =
-    (c.in-Ok.ensures.inside, formula_column _ [] 0 _ _ _ c.in-Ok.ensures _ c.form_at-r.ensures c.if-r-ne0.true)
+pub tell_line-requires-in-Err-form_at : goal.tell_line-requires-in-Err-form_at
+tell_line-requires-in-Err-form_at c =
+    (c.in-Ok.ensures.inside, formula_column _ [] 0 _ _ _ c.in-Ok.ensures _ c.in-Err-form_at.ensures)
 
-pub returns-then-r-ne0 : goal.returns-then-r-ne0
-returns-then-r-ne0 c =
-    formula_told _ _ _ _ _ _ c.in-Ok.ensures _ c.form_at-r.ensures c.if-r-ne0.true c.tell_line-then-r-ne0.ensures
+pub returns-in-Err-form_at : goal.returns-in-Err-form_at
+returns-in-Err-form_at c =
+    formula_told _ _ _ _ _ _ c.in-Ok.ensures _ c.in-Err-form_at.ensures _ c.number-in-Err-form_at.ensures c.tell_line-in-Err-form_at.ensures
 
 pub line_behind-q-requires : goal.line_behind-q-requires
 line_behind-q-requires c =
-    (c.in-Ok.ensures.inside, text-inside _ _ _ c.in-Ok.h.place _ c.form_at-r.ensures c.if-r-ne0.false)
+    (c.in-Ok.ensures.inside, text-inside _ _ _ c.in-Ok.h.place _ c.in-Ok-form_at.ensures)
 
 pub returns-then-q-s : goal.returns-then-q-s
 returns-then-q-s c =
-    more_told _ _ _ _ _ _ c.in-Ok.ensures _ c.form_at-r.ensures c.if-r-ne0.false _ c.line_behind-q.ensures c.if-q-s.true
-    c.tell_line-then-q-s.ensures
+    more_told _ _ _ _ _ _ c.in-Ok.ensures _ c.in-Ok-form_at.ensures _ c.line_behind-q.ensures c.if-q-s.true
+    _ c.number-then-q-s.ensures c.tell_line-then-q-s.ensures
 
 pub slice_bounds-table-end-2 : goal.slice_bounds-table-end-2
 slice_bounds-table-end-2 c =
@@ -71,7 +71,7 @@ slice_bounds-derive-end c =
 
 pub derive-d-requires : goal.derive-d-requires
 derive-d-requires c =
-    c.form_at-r.ensures.valid c.if-r-ne0.false
+    c.in-Ok-form_at.ensures.valid
 
 pub slice_bounds-names-end-2 : goal.slice_bounds-names-end-2
 slice_bounds-names-end-2 c =
@@ -91,11 +91,11 @@ slice_bounds-tell_log-end-2 c =
 
 pub tell_log-requires : goal.tell_log-requires
 tell_log-requires c =
-    let p = log_tellable _ [] 0 _ _ _ c.in-Ok.ensures _ c.form_at-r.ensures c.if-r-ne0.false _ c.line_behind-q.ensures _
+    let p = log_tellable _ [] 0 _ _ _ c.in-Ok.ensures _ c.in-Ok-form_at.ensures _ c.line_behind-q.ensures _
     c.derive-d.ensures in
-    (p.0, p.1, p.2, names_fit _ [] 0 _ _ _ c.in-Ok.ensures _ c.form_at-r.ensures c.if-r-ne0.false _ c.line_behind-q.ensures _ c.derive-d.ensures)
+    (p.0, p.1, p.2, names_fit _ [] 0 _ _ _ c.in-Ok.ensures _ c.in-Ok-form_at.ensures _ c.line_behind-q.ensures _ c.derive-d.ensures)
 
 pub returns : goal.returns
 returns c =
-    log-told _ _ _ _ _ _ c.in-Ok.ensures _ c.form_at-r.ensures c.if-r-ne0.false _ c.line_behind-q.ensures _
-    c.derive-d.ensures c.if-q-s.false (form-places (goal.at.returns c).After-form_at-r) (last_places (goal.at.returns c).After-derive-d) (told_first c.tell_log.ensures)
+    log-told _ _ _ _ _ _ c.in-Ok.ensures _ c.in-Ok-form_at.ensures _ c.line_behind-q.ensures _
+    c.derive-d.ensures c.if-q-s.false (form-places (goal.at.returns c).In-Ok-form_at) (last_places (goal.at.returns c).After-derive-d) (told_first c.tell_log.ensures)

@@ -30,7 +30,7 @@ returns-then-f-g c =
     let a = c.args in
     kinds-other a.at a.f a.g c.requires.0 c.requires.1
     (firsts (goal.at.returns-then-f-g c).Start) (seconds (goal.at.returns-then-f-g c).Start)
-    c.if-f-eq0.false c.if-g-eq0.false _ c.if-f-g.true c.no_sides.ensures
+    c.if-f-eq0.false c.if-g-eq0.false c.if-f-g.true
 
 pub returns : goal.returns
 returns c =

@@ -7,4 +7,4 @@ returns-then-at-line c = sign-there _ _ _ _ c.place_of-at.ensures _ c.if-at-line
 
 pub returns : goal.returns
 returns c =
-    let a = c.args in sign-missing a.names.now a.table.now a.line.now _ c.place_of-at.ensures _ c.if-at-line.false c.no_sides.ensures
+    let a = c.args in sign-missing a.names.now a.table.now a.line.now _ c.place_of-at.ensures c.if-at-line.false

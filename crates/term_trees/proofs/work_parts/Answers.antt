@@ -5,8 +5,8 @@ use Prim.Native.Nat.{◌≤◌}
 use native.Mathlib.Omega.{arith}
 use lib.ListN.{length}
 use Rattle.terms.specs.Abstraction.{term_of}
-use Rattle.replacing.proofs.Factors.{given_stands}
 use Rattle.term_trees.proofs.Splitting.{leading-within, front-form, front_is, parts_refused, parts_given}
+use Rattle.refusal.proofs.Passing.{passed_up}
 use Rattle.term_trees.proofs.work_parts.Goals.{Start}
 use Rattle.term_trees.proofs.work_parts.Goals as goal
 
@@ -25,35 +25,28 @@ alone-x-requires c =
     let p = c.requires in
     (m.counted, front-form _ _ _ p.0.in_shape m, omega (arith, p.2.room), omega (arith, p.2.beside))
 
-pub times_factors-y-requires : goal.times_factors-y-requires
-times_factors-y-requires c =
-    let g = c.alone-x.ensures in
-    let z = given_stands _ _ _ _ g in
+pub times_factors-requires : goal.times_factors-requires
+times_factors-requires c =
     let p = c.requires in (
       p.0,
-      leading-within _ _ _ (room (goal.at.times_factors-y-requires c).Start) p.1,
+      leading-within _ _ _ (room (goal.at.times_factors-requires c).Start) p.1,
       record { form = p.2.form; room = omega (arith, p.2.room); beside = omega (arith, p.2.beside) },
-      g.form z,
-      z,
+      c.alone-x.ensures.form,
     )
 
-pub returns-then-y-ne0 : goal.returns-then-y-ne0
-returns-then-y-ne0 c =
+pub returns-in_err-y : goal.returns-in_err-y
+returns-in_err-y c =
     let p = c.requires in
-    parts_refused _ _ _ _ p.0.in_shape p.1 _
-    (front_is c.args.t _ _ c.front_of.ensures _ _ _ c.alone-x.ensures) _ _ _
-    c.times_factors-y.ensures c.if-y-ne0.true
+    rw (passed_up _ _ c.from_residual.ensures.1)
+    (parts_refused _ _ _ _ p.0.in_shape p.1 _ (front_is c.args.t _ _ c.front_of.ensures _ _ _ c.alone-x.ensures) _ _ _ c.in_err-y.ensures)
 
 pub times_part-requires : goal.times_part-requires
 times_part-requires c =
     let p = c.requires in
-    let z = c.if-y-ne0.false in
-    (record { form = p.2.form; room = omega (arith, p.2.room); beside = omega (arith, p.2.beside) }, c.times_factors-y.ensures.form z, z)
+    (record { form = p.2.form; room = omega (arith, p.2.room); beside = omega (arith, p.2.beside) }, c.in_ok-y.ensures.form)
 
 pub returns : goal.returns
 unfolding term_of
 returns c =
     let p = c.requires in
-    parts_given _ _ _ _ p.0.in_shape p.1 _
-    (front_is c.args.t _ _ c.front_of.ensures _ _ _ c.alone-x.ensures) _ _ _
-    c.times_factors-y.ensures _ _ _ c.if-y-ne0.false c.times_part.ensures
+    parts_given _ _ _ _ p.0.in_shape p.1 _ (front_is c.args.t _ _ c.front_of.ensures _ _ _ c.alone-x.ensures) _ _ _ c.in_ok-y.ensures _ _ _ c.times_part.ensures

@@ -2,8 +2,8 @@
 use Rattle.verdicts.proofs.Words.{refused_told, accepted-told}
 use Rattle.verdicts.proofs.tell_checked.Goals as goal
 
-pub returns-in-Refused : goal.returns-in-Refused
-returns-in-Refused c = refused_told _ _ _ _ _ _ _ c.in-Refused.is c.tell_refused.ensures
+pub returns-in-Ok : goal.returns-in-Ok
+returns-in-Ok c = accepted-told _ _ _ _ _ _ c.in-Ok.is c.tell_accepted.ensures
 
-pub returns-in-Accepted : goal.returns-in-Accepted
-returns-in-Accepted c = accepted-told _ _ _ _ _ _ _ _ c.in-Accepted.is c.tell_accepted.ensures
+pub returns-in-Err : goal.returns-in-Err
+returns-in-Err c = refused_told _ _ _ _ _ _ c.in-Err.is _ c.number.ensures c.tell_refused.ensures

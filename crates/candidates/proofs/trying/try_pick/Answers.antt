@@ -2,17 +2,16 @@
 use mathlib.Core.Path.{◌≡◌, ap, sym, refl, subst, ◌∙◌}
 use Prim.Native.Nat.{ℕ, ◌≤◌, ◌<◌}
 use native.Mathlib.Omega.{arith}
-use borrow.Author.Tests.{not-true, not-false}
-use lib.IntN.{nat_abs, neg_ℤ}
+use lib.IntN.{ℤ, nat_abs, neg_ℤ}
 use Rattle.algebra.specs.Integers.{nat_abs-neg}
-use Rattle.integers.proofs.Machine.{back, back_is}
+use Rattle.integers.proofs.Machine.{back, back_is, fits_back}
 use Rattle.theory.specs.Elements.{All}
 use Rattle.theory.specs.Shape.Terms.{in_limit}
 use Rattle.terms.specs.Abstraction.{term_of}
 use Rattle.marking.specs.Marks.{size_mark}
 use Rattle.candidates.specs.Trying.{Tried}
 use Rattle.candidates.proofs.Trials.{unit-step-valid, unit-step_fits, tried_none, tried-long, tried_inexact, tried-sized, tried-by}
-use Rattle.candidates.proofs.trying.try_pick.Goals.{After-neg, After-struct_told-2-1}
+use Rattle.candidates.proofs.trying.try_pick.Goals.{After-neg}
 use Rattle.candidates.proofs.trying.try_pick.Goals as goal
 
 -- the term's coefficient with its sign turned
@@ -34,8 +33,8 @@ negated-small c = let w = c in omega (
 )
 
 -- nor is the quotient
-quotient : (c : After-struct_told-2-1) → back c.divide-q.result.value ≡ c.divide-q.result.value
-quotient c = back_is {z = c.divide-q.result.value} (record { sfits = c.type_inv.q.1.0.1 })
+quotient : (q n : ℤ) → nat_abs q ≤ nat_abs n → nat_abs n ≤ 2147483647 → back q ≡ q
+quotient q n h k = fits_back q (omega arith)
 
 pub pick-requires : goal.pick-requires
 pick-requires c = let w = c in let s = w.requires.3 in record {
@@ -82,11 +81,19 @@ gain-requires c = let w = c in (
   c.mark_step-w.ensures,
 )
 
-pub divide-q-requires : goal.divide-q-requires
-divide-q-requires c = omega (arith, negated-small (goal.at.divide-q-requires c).After-neg)
+pub divide-requires : goal.divide-requires
+divide-requires c = omega (arith, negated-small (goal.at.divide-requires c).After-neg)
+
+pub returns-in_err-q : goal.returns-in_err-q
+returns-in_err-q c = let w = c in subst (Tried w.args.marks.now w.args.t w.args.rule w.args.o w.args.j) (sym c.from_residual-in_err-q.ensures)
+    (tried_inexact w.args.marks.now w.args.t w.args.rule w.args.o w.args.j _ c.in_ok-letters.ensures _ _ w.requires.1
+    (back_is (record { sfits = c.gain.type_inv }) ∙ c.gain.ensures)
+    (negated (goal.at.returns-in_err-q c).After-neg) c.in_err-q.ensures)
 
 pub size_mark-requires : goal.size_mark-requires
-size_mark-requires c = omega (arith, ap nat_abs (quotient (goal.at.size_mark-requires c).After-struct_told-2-1), c.divide-q.ensures.bound, negated-small (goal.at.size_mark-requires c).After-neg)
+size_mark-requires c =
+    let small = negated-small (goal.at.size_mark-requires c).After-neg in
+    omega (arith, ap nat_abs (quotient c.in_ok-q.q (back c.neg.result) c.in_ok-q.ensures.bound small), c.in_ok-q.ensures.bound, small)
 
 pub surely_longer-requires-2 : goal.surely_longer-requires-2
 surely_longer-requires-2 c = let w = c in (
@@ -97,34 +104,24 @@ surely_longer-requires-2 c = let w = c in (
   w.requires.0,
 )
 
-pub returns-then-not-q : goal.returns-then-not-q
-returns-then-not-q c = let w = c in
-    tried_inexact w.args.marks.now w.args.t w.args.rule w.args.o w.args.j _ c.in_ok-letters.ensures
-    c.divide-q.result _ _ w.requires.1
-    (back_is (record { sfits = c.gain.type_inv }) ∙ c.gain.ensures)
-    (negated (goal.at.returns-then-not-q c).After-neg) c.divide-q.ensures (not-true _ c.if-not-q.true)
-
 pub returns-then-surely_longer-2 : goal.returns-then-surely_longer-2
 returns-then-surely_longer-2 c = let w = c in
-    tried-sized w.args.marks.now w.args.t w.args.rule w.args.o w.args.j _ c.in_ok-letters.ensures
-    c.divide-q.result _ _ w.requires.1
+    let near = (goal.at.returns-then-surely_longer-2 c).After-neg in
+    tried-sized w.args.marks.now w.args.t w.args.rule w.args.o w.args.j _ c.in_ok-letters.ensures _ _ w.requires.1
     (back_is (record { sfits = c.gain.type_inv }) ∙ c.gain.ensures)
-    (negated (goal.at.returns-then-surely_longer-2 c).After-neg) c.divide-q.ensures (not-false _ c.if-not-q.false)
-    _ _ refl (c.size_mark.ensures ∙ ap size_mark (quotient (goal.at.returns-then-surely_longer-2 c).After-struct_told-2-1))
+    (negated near) _ c.in_ok-q.ensures
+    _ _ refl (c.size_mark.ensures ∙ ap size_mark (quotient c.in_ok-q.q (back c.neg.result) c.in_ok-q.ensures.bound (negated-small near)))
     (c.surely_longer-2.ensures c.if-surely_longer-2.true)
 
 pub returns : goal.returns
 returns c = let w = c in
     let o = w.args.o in
-    tried-by w.args.marks.now w.args.t w.args.rule w.args.o w.args.j _ c.in_ok-letters.ensures
-    c.divide-q.result _ _ w.requires.1
+    let near = (goal.at.returns c).After-neg in
+    tried-by w.args.marks.now w.args.t w.args.rule w.args.o w.args.j _ c.in_ok-letters.ensures _ _ w.requires.1
     (back_is (record { sfits = c.gain.type_inv }) ∙ c.gain.ensures)
-    (negated (goal.at.returns c).After-neg) c.divide-q.ensures (not-false _ c.if-not-q.false) _ w.requires.3.opened.m.counted
-    (c.with_coef-n.ensures ∙ (λ i. record {
-      coef = back_is {z = c.divide-q.result.value} (record {
-        sfits =
-            c.struct_told-3-1.given.1.0.1;
-      }) i;
+    (negated near) _ c.in_ok-q.ensures _ w.requires.3.opened.m.counted
+    (c.with_coef.ensures ∙ (λ i. record {
+      coef = quotient c.in_ok-q.q (back c.neg.result) c.in_ok-q.ensures.bound (negated-small near) i;
       factors = o.m.factors;
       factor_count = o.m.factor_count;
       part = o.m.part;

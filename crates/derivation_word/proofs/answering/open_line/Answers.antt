@@ -10,7 +10,7 @@ overflow_add-count c =
 
 pub returns-then-is_one_too_many : goal.returns-then-is_one_too_many
 returns-then-is_one_too_many c =
-    open_full c.args.d c.args.k c.args.line.now _ _ _ c.requires.0 c.requires.1 _ c.is_one_too_many.ensures c.if-is_one_too_many.true _
+    open_full c.args.d c.args.k c.args.line.now _ _ _ c.requires.0 c.requires.1 _ c.is_one_too_many.ensures c.if-is_one_too_many.true _ c.number.ensures _
     c.tell_step_refusal-end.ensures
 
 pub returns : goal.returns

@@ -1,31 +1,33 @@
 -- `expressions::trees::apply_three` meets its contract: the first refusal, or the triple. Assumes nothing.
+use Rattle.std.proofs.Common.{rules}
 use Rattle.expressions.specs.Trees.{Sound}
 use Rattle.expressions.proofs.Levels.{first_refused, second_refused, third_refused, triple-worked}
+use Rattle.std.proofs.lemmas.Result.{IfOk-at_ok}
+use Rattle.std.specs.Prelude.{Ok, Err}
+use Rattle.rows.specs.Rows.{FormRun, Light, RowsGive}
+use Rattle.rows.specs.declared.Worked.{Worked}
+use Rattle.refusal.proofs.Passing.{passed_up}
 use Rattle.expressions.proofs.trees.apply_three.Goals as goal
 
-pub returns-then-x-ne0 : goal.returns-then-x-ne0
-returns-then-x-ne0 c = first_refused _ _ _ _ _ _ _ _ _ _ _ c.if-x-ne0.true
+pub returns-in_err-f : goal.returns-in_err-f
+returns-in_err-f c = rw (passed_up _ _ c.from_residual.ensures.1, c.in_err-f.was) (first_refused _ _ _ _ _ _ _ _ _ _ _)
 
-pub returns-then-y-ne0 : goal.returns-then-y-ne0
-returns-then-y-ne0 c = second_refused _ _ _ _ _ _ _ _ _ _ _ c.if-x-ne0.false c.if-y-ne0.true
+pub returns-in_err-g : goal.returns-in_err-g
+returns-in_err-g c = rw (passed_up _ _ c.from_residual-in_err-g.ensures.1, c.in_ok-f.was, c.in_err-g.was) (second_refused _ _ _ _ _ _ _ _ _ _ _)
 
-pub returns-then-z-ne0 : goal.returns-then-z-ne0
-returns-then-z-ne0 c = third_refused _ _ _ _ _ _ _ _ _ _ _ c.if-x-ne0.false c.if-y-ne0.false c.if-z-ne0.true
+pub returns-in_err-h : goal.returns-in_err-h
+returns-in_err-h c = rw (passed_up _ _ c.from_residual-in_err-h.ensures.1, c.in_ok-f.was, c.in_ok-g.was, c.in_err-h.was) (third_refused _ _ _ _ _ _ _ _ _ _ _)
 
 pub triple-requires : goal.triple-requires
 unfolding Sound
 triple-requires c =
     let p = c.requires in (
-      p.0 c.if-x-ne0.false,
-      p.1 c.if-y-ne0.false,
+      IfOk-at_ok (λ w. FormRun w.kind w.count c.args.rows.now c.args.coefs.now) c.in_ok-f.was p.0,
+      IfOk-at_ok (λ w. FormRun w.kind w.count c.args.right.now c.args.rights.now) c.in_ok-g.was p.1,
       p.3,
       p.4,
-      p.2
-          c.if-z-ne0.false,
+      IfOk-at_ok (λ w. FormRun w.kind w.count c.args.third.now c.args.thirds.now) c.in_ok-h.was p.2,
     )
 
 pub returns : goal.returns
-returns c =
-    triple-worked _ _ _ _ _ _ _ _ _ _ _ _ c.if-x-ne0.false
-    c.if-y-ne0.false c.if-z-ne0.false
-    c.triple.ensures
+returns c = rw (c.in_ok-f.was, c.in_ok-g.was, c.in_ok-h.was) (triple-worked _ _ _ _ _ _ _ _ _ _ _ _ c.triple.ensures)

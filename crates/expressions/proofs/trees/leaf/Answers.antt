@@ -23,18 +23,18 @@ letter-w-requires c = (omega arith, omega arith)
 
 pub returns-then-token-eq1 : goal.returns-then-token-eq1
 returns-then-token-eq1 c =
-    leaf-letter _ _ _ c.requires.0 _ _ _ _ _
+    leaf-letter _ _ _ c.requires.0 _ _ _ _
     c.if-token-eq1.true c.kind_of-k.ensures
-    c.letter-w.ensures (refl, refl, refl)
+    c.letter-w.ensures
 
 pub four_bytes_at-requires : goal.four_bytes_at-requires
 four_bytes_at-requires c = omega (arith, constant-bytes _ _ _ c.requires.0 c.if-token-eq1.false)
 
-pub constant-w-requires : goal.constant-w-requires
-constant-w-requires c = (omega arith, omega arith)
+pub constant-work-requires : goal.constant-work-requires
+constant-work-requires c = (omega arith, omega arith)
 
 pub returns : goal.returns
 returns c =
-    leaf-constant _ _ _ c.requires.0 _ _ _ _
+    leaf-constant _ _ _ c.requires.0 _ _ _
     c.if-token-eq1.false
-    (constant-read_back _ _ _ _ _ (c.four_bytes_at.ensures.value, c.four_bytes_at.ensures.bound) c.constant-w.ensures) (refl, refl, refl)
+    (constant-read_back _ _ _ _ _ (c.four_bytes_at.ensures.value, c.four_bytes_at.ensures.bound) c.constant-work.ensures)

@@ -1,7 +1,6 @@
 -- `expressions::trees::operate` meets its contract by the token. Assumes nothing.
 use Rattle.expressions.proofs.Levels.{operates-sum, operates-difference, operates-times, operates-dot, operates-wedge, operates_none}
 use native.Mathlib.Omega.{arith}
-use Rattle.expressions.proofs.trees.operate.Goals.{in-5-1, in_default-1}
 use Rattle.expressions.proofs.trees.operate.Goals as goal
 
 pub sum-requires : goal.sum-requires
@@ -36,10 +35,7 @@ pub returns-in-8 : goal.returns-in-8
 returns-in-8 c = operates-wedge _ _ _ _ _ _ c.in-8.is c.wedge.ensures
 
 pub returns-in-0-to-2 : goal.returns-in-0-to-2
-returns-in-0-to-2 c =
-    elim c.in-0-to-2-1.branch [
-      | in-5-1 w ↦ operates_none _ _ _ _ _ _ (λ e. omega (arith, w.in-5-1.keys6)) (λ e. omega (arith, w.in-5-1.keys6))
-          (λ e. omega (arith, w.in-5-1.keys6)) (λ e. omega (arith, w.in-5-1.keys6)) (λ e. omega (arith, w.in-5-1.keys6)) c.refuse.ensures
-      | in_default-1 w ↦ let k = w.in_default-1.rest in
-          operates_none _ _ _ _ _ _ k.0.0.0.0.0.1 k.0.0.0.0.1 k.0.0.0.1 k.0.0.1 k.0.1 c.refuse.ensures
-    ]
+returns-in-0-to-2 c = operates_none _ _ _ _ _ (λ e. omega arith) (λ e. omega arith) (λ e. omega arith) (λ e. omega arith) (λ e. omega arith)
+
+pub returns-in-0-to-2-2 : goal.returns-in-0-to-2-2
+returns-in-0-to-2-2 c = operates_none _ _ _ _ _ (λ e. omega arith) (λ e. omega arith) (λ e. omega arith) (λ e. omega arith) (λ e. omega arith)

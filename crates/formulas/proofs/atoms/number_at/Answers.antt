@@ -7,8 +7,4 @@ pub overflow_cast-d : goal.overflow_cast-d
 overflow_cast-d c = sfits-nat_abs _ (number_fits c.args.s.now c.args.at _ c.read_digits-d.ensures)
 
 pub returns : goal.returns
-returns c =
-    let c3 = c in
-    let c7 = c in
-    let c9 = c in
-    number_read c9.args.s.now c9.args.at _ c7.read_digits-d.ensures _ _ _ _ c3.constant-w.ensures c.past_blanks-after.ensures
+returns c = number_read c.args.s.now c.args.at _ c.read_digits-d.ensures _ _ _ _ c.constant-work.ensures c.past_blanks-next.ensures

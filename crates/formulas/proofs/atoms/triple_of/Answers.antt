@@ -2,15 +2,13 @@
 use Rattle.formulas.proofs.Leaves.{triple-worked}
 use Rattle.formulas.proofs.atoms.triple_of.Goals as goal
 
-pub triple-r-requires : goal.triple-r-requires
-triple-r-requires c = let p = c.requires in (p.0.form, p.1.form, p.4, p.5, p.2.form)
+pub triple-work-requires : goal.triple-work-requires
+triple-work-requires c = let p = c.requires in (p.0.form, p.1.form, p.4, p.5, p.2.form)
 
-pub behind-after-requires : goal.behind-after-requires
-behind-after-requires c = c.requires.3
+pub behind-next-requires : goal.behind-next-requires
+behind-next-requires c = c.requires.3
 
 pub returns : goal.returns
 returns c =
-    let c3 = c in
-    let c10 = c in
-    let p = c10.requires in
-    triple-worked _ _ _ _ _ _ _ _ _ _ _ _ _ _ _ p.0 p.1 p.2 c3.triple-r.ensures c.behind-after.ensures
+    triple-worked _ _ _ _ _ _ c.args.rows.now c.args.coefs.now c.args.right.now c.args.rights.now c.args.third.now c.args.thirds.now _ _ _
+    c.triple-work.ensures c.behind-next.ensures

@@ -1,24 +1,23 @@
 -- `formulas::joining::join` meets its contract: the first refusal, or the operator. Assumes nothing.
 use Rattle.formulas.proofs.Results.{left_refused, right_refused, both-worked}
+use Rattle.rows.specs.Rows.{FormRun}
+use Rattle.std.proofs.lemmas.Result.{IfOk-at_ok}
 use Rattle.formulas.proofs.joining.join.Goals as goal
 
-pub returns-then-v-ne0 : goal.returns-then-v-ne0
-returns-then-v-ne0 c = left_refused _ _ _ _ _ _ _ _ _ _ c.if-v-ne0.true
+pub returns-in_default : goal.returns-in_default
+returns-in_default c = left_refused _ _ _ _ _ _ _ _ _ _ _ c.in_default.is
 
-pub returns-then-w-ne0 : goal.returns-then-w-ne0
-returns-then-w-ne0 c = right_refused _ _ _ _ _ _ _ _ _ _ c.requires.1.is c.if-v-ne0.false c.if-w-ne0.true
+pub returns-in_default-work : goal.returns-in_default-work
+returns-in_default-work c = right_refused _ _ _ _ _ _ _ _ _ _ _ _ c.in-Ok.is c.in_default-work.is
 
-pub operate-u-requires : goal.operate-u-requires
-operate-u-requires c =
-    let c3 = c in
-    let c6 = c in
-    let c9 = c in
-    let p = c9.requires in
-    (p.0.form c6.if-v-ne0.false, p.1.form c3.if-w-ne0.false, p.2, p.3)
+pub operate-work-requires : goal.operate-work-requires
+operate-work-requires c =
+    let p = c.requires in (
+      IfOk-at_ok (λ w. FormRun w.kind w.count c.args.rows.now c.args.coefs.now) c.in-Ok.is p.0.form,
+      IfOk-at_ok (λ w. FormRun w.kind w.count c.args.right.now c.args.rights.now) c.in-Ok-work.is p.1.form,
+      p.2,
+      p.3,
+    )
 
 pub returns : goal.returns
-returns c =
-    let c3 = c in
-    let c7 = c in
-    let c10 = c in
-    both-worked _ _ _ _ _ _ _ _ _ _ _ c10.if-v-ne0.false c7.if-w-ne0.false c3.operate-u.ensures
+returns c = both-worked _ _ _ _ _ _ _ _ _ _ _ _ _ c.in-Ok.is c.in-Ok-work.is c.operate-work.ensures

@@ -13,7 +13,7 @@ places c = search rules
 pub returns-then-f-ne1 : goal.returns-then-f-ne1
 returns-then-f-ne1 c =
     let a = c.args in
-    terms-many a.at a.f c.requires (places (goal.at.returns-then-f-ne1 c).Start) _ c.if-f-ne1.true c.no_multiplier.ensures
+    terms-many a.at a.f c.requires (places (goal.at.returns-then-f-ne1 c).Start) c.if-f-ne1.true
 
 pub returns : goal.returns
 returns c =

@@ -51,4 +51,4 @@ unfolding bytes
 returns c =
     let a = c.args in
     line-torn a.names.now a.table.now a.line.now _ c.past_blanks-at.ensures _ c.is_word_at.ensures c.if-is_word_at.false _
-    c.is_word_at-2.ensures _ c.if-is_word_at-2.false c.unread.ensures
+    c.is_word_at-2.ensures c.if-is_word_at-2.false

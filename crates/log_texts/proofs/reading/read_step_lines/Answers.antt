@@ -1,4 +1,6 @@
 -- `log_texts::reading::read_step_lines` meets its contract. The loop's invariant: what is left to be read is the whole (`StepsFrom`). Assumes nothing.
+use Rattle.std.proofs.Common.{rules}
+use Rattle.refusal.proofs.Passing.{passed_up}
 use native.Mathlib.Omega.{arith}
 use Rattle.log_texts.proofs.Lines.{step-inside, steps-begin, steps-stop, steps_refused, steps_more, steps-many, steps-done}
 use Rattle.log_texts.proofs.reading.read_step_lines.Goals as goal
@@ -18,14 +20,15 @@ returns-then-not-stands_step c =
     steps-stop c.args.s.now c.args.names.now c.args.table.now _ _ _ _ c.loop-i.invariant _ c.stands_step.ensures
     c.loop-i-test.true c.if-not-stands_step.true
 
-pub step_at-r-requires : goal.step_at-r-requires
-step_at-r-requires c =
+pub step_at-requires : goal.step_at-requires
+step_at-requires c =
     (c.loop-i.invariant.inside, c.requires.1)
 
-pub returns-then-r-ne0 : goal.returns-then-r-ne0
-returns-then-r-ne0 c =
-    steps_refused c.args.s.now c.args.names.now c.args.table.now _ _ _ _ c.loop-i.invariant _ c.stands_step.ensures
-    c.loop-i-test.true c.if-not-stands_step.false _ c.step_at-r.ensures c.if-r-ne0.true
+pub returns-in_err-t : goal.returns-in_err-t
+returns-in_err-t c =
+    rw (passed_up _ _ c.from_residual.ensures.1)
+    (steps_refused c.args.s.now c.args.names.now c.args.table.now _ _ _ _ c.loop-i.invariant _ c.stands_step.ensures
+    c.loop-i-test.true c.if-not-stands_step.false _ c.in_err-t.ensures)
 
 pub offset_bounds-steps-i : goal.offset_bounds-steps-i
 offset_bounds-steps-i c =
@@ -42,7 +45,7 @@ line_behind-q-requires c =
 pub loop-i-preserved : goal.loop-i-preserved
 loop-i-preserved c =
     steps_more c.args.s.now c.args.names.now c.args.table.now _ _ _ _ c.loop-i.invariant _ c.stands_step.ensures
-    c.loop-i-test.true c.if-not-stands_step.false _ c.step_at-r.ensures _ c.if-r-ne0.false c.line_behind-q.ensures
+    c.loop-i-test.true c.if-not-stands_step.false _ _ c.in_ok-t.ensures c.line_behind-q.ensures
 
 pub stands_step-requires-2 : goal.stands_step-requires-2
 stands_step-requires-2 c = c.loop-i.invariant.inside

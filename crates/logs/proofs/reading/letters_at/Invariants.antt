@@ -8,6 +8,3 @@ use Rattle.logs.proofs.reading.letters_at.Given as goal
 
 abbrev pub invariant-loop-i : goal.invariant-loop-i
 invariant-loop-i l = (l.i ≤ l.n) × (length l.letters ≡ 6) × (take l.i l.letters ≡ take l.i (drop l.at l.s))
-
-abbrev pub decreases-loop-i : goal.decreases-loop-i
-decreases-loop-i l = l.n - l.i

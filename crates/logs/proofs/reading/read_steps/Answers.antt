@@ -12,7 +12,8 @@ use Rattle.specification.specs.Rules as R
 use Rattle.theory.specs.Elements.{All}
 use Rattle.rules.specs.Steps.{step_of, StepValid}
 use Rattle.logs.specs.Steps.{steps_of}
-use Rattle.logs.proofs.StepRecords.{turn_refused, turned, step_given, step_refused_lem, steps_given, steps_refused, steps_stand_lem, pushed-steps, pushed-valid}
+use Rattle.logs.proofs.StepRecords.{turn_refused, turned, steps_given, steps_refused, steps_stand_lem, pushed-steps, pushed-valid}
+use Rattle.refusal.proofs.Passing.{passed_up}
 use Rattle.logs.proofs.reading.read_steps.Goals as goal
 
 pub no_steps-steps-requires : goal.no_steps-steps-requires
@@ -27,19 +28,13 @@ loop-i-init c =
     let e : steps_of w.result ≡ [] = ap (λ (m : ℕ). map step_of (take m w.result.steps)) w.ensures.0 in
     (omega arith, w.ensures.0, w.ensures.1, (λ i. read_steps (sym z i) (sym e i) a.s.now a.at), tt)
 
-pub read_step-q-requires : goal.read_step-q-requires
-read_step-q-requires c = tt
-
-pub returns-then-not-q : goal.returns-then-not-q
-returns-then-not-q c =
+pub returns-in_err-t : goal.returns-in_err-t
+returns-in_err-t c =
     let v = c.loop-i in
-    let start = c in
-    let a = start.args in
-    let inside = c.loop-i-test.true in
-    let e : a.n - v.i ≡ suc (a.n - (v.i + 1)) = omega (arith, inside) in
-    steps_refused _ _ _ refl (steps_stand_lem v.steps v.i v.invariant.1 (omega (arith, inside, start.requires)) v.invariant.2 v.invariant.4)
-    (v.invariant.3 ∙ ap (λ (m : ℕ). read_steps m (steps_of v.steps) a.s.now v.next) e
-    ∙ turn_refused a.s.now v.next _ _ (step_refused_lem _ _ c.read_step-q.ensures (not-true _ c.if-not-q.true)))
+    let a = c.args in
+    let e : a.n - v.i ≡ suc (a.n - (v.i + 1)) = omega (arith, c.loop-i-test.true) in
+    rw (passed_up _ _ c.from_residual.ensures.1)
+    (steps_refused _ _ _ (v.invariant.3 ∙ ap (λ (m : ℕ). read_steps m (steps_of v.steps) a.s.now v.next) e ∙ turn_refused a.s.now v.next _ _ _ c.in_err-t.ensures))
 
 pub offset_bounds-steps-i : goal.offset_bounds-steps-i
 offset_bounds-steps-i c = omega (arith, c.loop-i-test.true, c.requires)
@@ -48,26 +43,21 @@ pub bounds-steps-i : goal.bounds-steps-i
 bounds-steps-i c =
     omega (arith, c.loop-i-test.true, c.requires, c.loop-i.invariant.2)
 
-pub overflow_add-i : goal.overflow_add-i
-overflow_add-i c = omega (arith, c.loop-i-test.true, c.requires)
-
 pub loop-i-preserved : goal.loop-i-preserved
 loop-i-preserved c =
     let v = c.loop-i in
     let start = c in
     let a = start.args in
-    let q = c.read_step-q in
     let inside = c.loop-i-test.true in
     let e : a.n - v.i ≡ suc (a.n - (v.i + 1)) = omega (arith, inside) in
-    let o = not-false _ c.if-not-q.false in
     let l : v.i < length v.steps.steps = omega (arith, v.invariant.2, inside, start.requires) in (
       omega arith,
       refl,
       length-set v.steps.steps v.i _ ∙ v.invariant.2,
       v.invariant.3 ∙ ap (λ (m : ℕ). read_steps m (steps_of v.steps) a.s.now v.next) e
-          ∙ turned a.s.now v.next _ _ _ _ (step_given _ _ q.ensures o)
-          ∙ ap (λ (l : List R.Step). read_steps (a.n - (v.i + 1)) l a.s.now q.result.next) (sym (pushed-steps v.steps _ _ v.i v.invariant.1 refl l refl)),
-      pushed-valid v.steps.steps v.i _ l v.invariant.4 (q.ensures.valid o),
+          ∙ turned a.s.now v.next _ _ _ _ c.in_ok-t.ensures
+          ∙ ap (λ (l : List R.Step). read_steps (a.n - (v.i + 1)) l a.s.now c.in_ok-t.behind) (sym (pushed-steps v.steps _ _ v.i v.invariant.1 refl l refl)),
+      pushed-valid v.steps.steps v.i _ l v.invariant.4 c.in_ok-t.ensures.valid,
     )
 
 pub returns : goal.returns
@@ -78,5 +68,5 @@ returns c =
     let a = start.args in
     let e : v.i ≡ a.n = omega (arith, c.loop-i-test.false, v.invariant.0) in
     let z : a.n - v.i ≡ 0 = omega (arith, e) in
-    steps_given _ _ _ refl (v.invariant.1 ∙ e) (steps_stand_lem v.steps v.i v.invariant.1 (omega (arith, e, start.requires)) v.invariant.2 v.invariant.4)
+    steps_given _ _ _ _ (v.invariant.1 ∙ e) (steps_stand_lem v.steps v.i v.invariant.1 (omega (arith, e, start.requires)) v.invariant.2 v.invariant.4)
     (v.invariant.3 ∙ ap (λ (m : ℕ). read_steps m (steps_of v.steps) a.s.now v.next) z)

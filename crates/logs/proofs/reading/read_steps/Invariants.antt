@@ -11,11 +11,8 @@ use Rattle.specification.specs.Rules as R
 use Rattle.theory.specs.Elements.{All}
 use Rattle.rules.specs.Steps.{step_of, StepValid}
 use Rattle.logs.specs.Steps.{steps_of}
-use Rattle.logs.proofs.StepRecords.{turn_refused, turned, step_given, step_refused_lem, steps_given, steps_refused, steps_stand_lem, pushed-steps, pushed-valid}
+use Rattle.logs.proofs.StepRecords.{turn_refused, turned, steps_given, steps_refused, steps_stand_lem, pushed-steps, pushed-valid}
 use Rattle.logs.proofs.reading.read_steps.Given as goal
 
 abbrev pub invariant-loop-i : goal.invariant-loop-i
 invariant-loop-i l = (l.i ≤ l.n) × (l.steps.count ≡ l.i) × (length l.steps.steps ≡ 64) × (read_steps l.n [] l.s l.at ≡ read_steps (l.n - l.i) (steps_of l.steps) l.s l.next) × All StepValid (take l.i l.steps.steps)
-
-abbrev pub decreases-loop-i : goal.decreases-loop-i
-decreases-loop-i l = l.n - l.i

@@ -10,6 +10,7 @@ use Rattle.logs.specs.Steps.{found_of, steps_of}
 use Rattle.rules.specs.Steps.{StepValid}
 use Rattle.terms.proofs.Arrays.{all-at}
 use Rattle.specification.specs.Logs.{Checked, steps_letters}
+use Rattle.refusal.proofs.Passing.{passed_up}
 use Rattle.logs.proofs.steps.test_steps.Goals.{Start}
 use Rattle.logs.proofs.steps.test_steps.Goals as goal
 
@@ -26,26 +27,24 @@ offset_bounds-q-i c = omega (arith, c.requires.few)
 pub bounds-q-i : goal.bounds-q-i
 bounds-q-i c = omega (arith, c.requires.few)
 
-pub test_step_letters-r-requires : goal.test_step_letters-r-requires
-test_step_letters-r-requires c =
+pub test_step_letters-requires : goal.test_step_letters-requires
+test_step_letters-requires c =
     let w = c in
-    (all-at StepValid w.args.q.steps w.args.q.count c.loop-i.i no_step (room (goal.at.test_step_letters-r-requires c).Start)
+    (all-at StepValid w.args.q.steps w.args.q.count c.loop-i.i no_step (room (goal.at.test_step_letters-requires c).Start)
     c.loop-i-test.true c.requires.steps).m.counted
 
-pub overflow_add-i : goal.overflow_add-i
-overflow_add-i c = omega (arith, c.requires.few)
+pub overflow_cast-i : goal.overflow_cast-i
+overflow_cast-i c = omega (arith, c.requires.few, c.loop-i-test.true)
 
-pub overflow_cast-k : goal.overflow_cast-k
-overflow_cast-k c = omega (arith, c.requires.few, c.loop-i-test.true)
-
-pub returns-then-r-ne0 : goal.returns-then-r-ne0
-returns-then-r-ne0 c =
+pub returns-in_err-at_step : goal.returns-in_err-at_step
+unfolding found_of
+returns-in_err-at_step c =
     let w = c in
-    record {
+    rw (passed_up _ _ c.from_residual.ensures.1) (record {
       is = λ rest. c.loop-i.invariant.2 rest ∙ step-stops w.args.q.steps w.args.q.count
-          c.loop-i.i (room (goal.at.returns-then-r-ne0 c).Start) w.args.table.now
-          (c.loop-i.i + 1) _ c.test_step_letters-r.ensures c.loop-i-test.true c.if-r-ne0.true rest;
-    }
+          c.loop-i.i (room (goal.at.returns-in_err-at_step c).Start) w.args.table.now
+          (c.loop-i.i + 1) c.loop-i-test.true rest _ c.test_step_letters.ensures _ c.in_err-at_step.ensures;
+    })
 
 pub loop-i-preserved : goal.loop-i-preserved
 loop-i-preserved c =
@@ -53,8 +52,7 @@ loop-i-preserved c =
       omega arith,
       c.loop-i.invariant.1,
       λ rest. c.loop-i.invariant.2 rest ∙ step_passes w.args.q.steps w.args.q.count c.loop-i.i
-          (room (goal.at.loop-i-preserved c).Start) w.args.table.now (c.loop-i.i + 1) _
-          c.test_step_letters-r.ensures c.loop-i-test.true c.if-r-ne0.false rest,
+          (room (goal.at.loop-i-preserved c).Start) w.args.table.now (c.loop-i.i + 1) c.loop-i-test.true rest _ c.test_step_letters.ensures _ c.in_ok-at_step.ensures,
     )
 
 pub returns : goal.returns

@@ -13,6 +13,3 @@ use Rattle.logs.proofs.steps.test_steps.Given as goal
 
 abbrev pub invariant-loop-i : goal.invariant-loop-i
 invariant-loop-i l = (l.i ≤ l.n) × (l.n ≡ l.q.count) × ((rest : Checked) → steps_letters l.table 1 (steps_of l.q) rest ≡ steps_letters l.table (l.i + 1) (steps_from l.q.steps l.n l.i) rest)
-
-abbrev pub decreases-loop-i : goal.decreases-loop-i
-decreases-loop-i l = l.n - l.i

@@ -10,6 +10,3 @@ use Rattle.logs.proofs.writing.write_letters.Given as goal
 
 abbrev pub invariant-loop-i : goal.invariant-loop-i
 invariant-loop-i l = (l.i ≤ length l.letters) × (length l.out ≡ length l.initial.out) × Written l.initial.out l.out l.at (l.at + l.i) (take l.i l.letters)
-
-abbrev pub decreases-loop-i : goal.decreases-loop-i
-decreases-loop-i l = length l.letters - l.i

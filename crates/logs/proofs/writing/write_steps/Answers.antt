@@ -35,9 +35,6 @@ write_step-next-requires c =
       omega (arith, t, v.invariant.1, v.invariant.2, s.requires.1),
     )
 
-pub overflow_add-i : goal.overflow_add-i
-overflow_add-i c = omega (arith, c.requires.0.few)
-
 pub loop-i-preserved : goal.loop-i-preserved
 loop-i-preserved c =
     let v = c.loop-i in

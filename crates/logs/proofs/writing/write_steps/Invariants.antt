@@ -13,6 +13,3 @@ use Rattle.logs.proofs.writing.write_steps.Given as goal
 
 abbrev pub invariant-loop-i : goal.invariant-loop-i
 invariant-loop-i l = (l.i ≤ l.n) × (length l.out ≡ length l.initial.out) × (l.next ≤ l.at + 23 * l.i) × Written l.initial.out l.out l.at l.next (step_records l.q.steps l.i)
-
-abbrev pub decreases-loop-i : goal.decreases-loop-i
-decreases-loop-i l = l.n - l.i

@@ -42,9 +42,6 @@ bring_term-count-requires c =
       bringable (goal.at.bring_term-count-requires c).Joined-i-eq0,
     )
 
-pub overflow_add-i : goal.overflow_add-i
-overflow_add-i c = omega (arith, c.loop-i-test.true)
-
 pub loop-i-preserved : goal.loop-i-preserved
 loop-i-preserved c =
     let v = c.loop-i in

@@ -9,6 +9,3 @@ use Rattle.operators.proofs.products.bring_few.Given as goal
 abbrev pub invariant-loop-i : goal.invariant-loop-i
 invariant-loop-i l = (l.i ≤ l.m) × Brought l.i l.n l.initial.rows l.initial.coefs (few_taken l.few l.i) l.count l.rows l.coefs
     × (length l.rows ≡ length l.initial.rows) × (length l.coefs ≡ length l.initial.coefs)
-
-abbrev pub decreases-loop-i : goal.decreases-loop-i
-decreases-loop-i l = l.m - l.i

@@ -12,6 +12,3 @@ abbrev pub invariant-loop-i : goal.invariant-loop-i
 invariant-loop-i l = (l.i ≤ l.n) × Brought (2 * (l.i * l.m)) 0 l.initial.more l.initial.beside
     (product_terms (parts_of l.op) (take l.i (run_of l.n l.rows l.coefs)) (run_of l.m l.right l.rights)) l.count l.more l.beside
     × (length l.more ≡ length l.initial.more) × (length l.beside ≡ length l.initial.beside)
-
-abbrev pub decreases-loop-i : goal.decreases-loop-i
-decreases-loop-i l = l.n - l.i

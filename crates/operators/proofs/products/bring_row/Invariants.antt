@@ -12,6 +12,3 @@ abbrev pub invariant-loop-j : goal.invariant-loop-j
 invariant-loop-j l = (l.j ≤ l.m) × Brought (2 * l.j) l.n l.initial.rows l.initial.coefs
     (row_terms l.op (term_of l.t) (take l.j (run_of l.m l.right l.rights))) l.count l.rows l.coefs × (length l.rows ≡ length l.initial.rows)
     × (length l.coefs ≡ length l.initial.coefs)
-
-abbrev pub decreases-loop-j : goal.decreases-loop-j
-decreases-loop-j l = l.m - l.j

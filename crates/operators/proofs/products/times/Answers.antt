@@ -40,4 +40,4 @@ returns-then-other-eq0 c =
     (c.multiply-then-other-eq0.ensures _ _)
 
 pub returns : goal.returns
-returns c = times-six _ _ _ _ _ c.if-kind-eq0.false c.if-other-eq0.false c.refuse.ensures
+returns c = times-six _ _ _ _ c.if-kind-eq0.false c.if-other-eq0.false

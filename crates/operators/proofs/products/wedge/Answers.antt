@@ -6,10 +6,10 @@ use Rattle.operators.proofs.Multiplying.{wedge-six, wedge-vectors}
 use Rattle.operators.proofs.products.wedge.Goals as goal
 
 pub returns-then-kind-ne1 : goal.returns-then-kind-ne1
-returns-then-kind-ne1 c = wedge-six _ _ _ _ _ (inl c.if-kind-ne1.true) c.refuse.ensures
+returns-then-kind-ne1 c = wedge-six _ _ _ _ (inl c.if-kind-ne1.true)
 
 pub returns-then-other-ne1 : goal.returns-then-other-ne1
-returns-then-other-ne1 c = wedge-six _ _ _ _ _ (inr c.if-other-ne1.true) c.refuse-then-other-ne1.ensures
+returns-then-other-ne1 c = wedge-six _ _ _ _ (inr c.if-other-ne1.true)
 
 pub multiply-requires : goal.multiply-requires
 unfolding Kinds

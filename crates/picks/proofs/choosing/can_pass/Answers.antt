@@ -1,5 +1,8 @@
+use mathlib.Core.Path.{sym, subst}
+use mathlib.Core.Bool.{Bool}
 use Rattle.terms.specs.Abstraction.{term_of}
 use Rattle.rules.specs.Steps.{step_of}
+use Rattle.picks.specs.Choosing.{PassesBy}
 use Rattle.picks.proofs.Openings.{out_of_shape, in_shape-by, tests_by}
 use Rattle.picks.proofs.choosing.can_pass.Goals as goal
 
@@ -21,5 +24,6 @@ test_step-requires c = let w = c in record {
 
 pub returns : goal.returns
 unfolding step_of term_of
-returns c = let w = c in tests_by w.args.kind w.args.rule w.args.m w.requires.2
-    _ _ _ c.in_shape.ensures c.if-not-in_shape.false c.test_step.ensures
+returns c = let w = c in
+    subst (λ (b : Bool). PassesBy b w.args.kind w.args.rule w.args.m) (sym c.is_ok.ensures.value)
+    (tests_by w.args.kind w.args.rule w.args.m w.requires.2 _ _ _ c.in_shape.ensures c.if-not-in_shape.false c.test_step.ensures)

@@ -13,6 +13,3 @@ use Rattle.records.proofs.read.append_factors.Given as goal
 
 abbrev pub invariant-loop-i : goal.invariant-loop-i
 invariant-loop-i l = (l.i ≤ l.count) × (l.next ≡ l.at + l.i * l.size) × (length l.f ≡ 7) × Appended (factors_at l.i l.size l.s l.at) l.i (listed l.n l.initial.f) (listed (l.n + l.i) l.f)
-
-abbrev pub decreases-loop-i : goal.decreases-loop-i
-decreases-loop-i l = l.count - l.i

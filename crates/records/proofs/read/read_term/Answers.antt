@@ -1,19 +1,17 @@
 use Rattle.std.proofs.Common.{rules}
 use mathlib.Core.Path.{sym, ◌∙◌}
+use Rattle.records.specs.Reading.{read_of}
 use Rattle.records.proofs.Readers.{term-behind, term-bad-bits, term-fields}
 use borrow.Author.Tests.{not-true, not-false}
 use Rattle.records.proofs.read.read_term.Goals as goal
 
 pub returns-then-at-s : goal.returns-then-at-s
-returns-then-at-s c = record { is = c.refuse.ensures.0 ∙ term-behind _ _ c.if-at-s.true; counted = rw c.refuse.ensures.1 c.begin.ensures.1 }
+unfolding read_of
+returns-then-at-s c = record { is = term-behind _ _ c.if-at-s.true; counted = tt }
 
 pub returns-then-not-bits_fit : goal.returns-then-not-bits_fit
-returns-then-not-bits_fit c =
-    record {
-      is = c.refuse-then-not-bits_fit.ensures.0 ∙ term-bad-bits _ _ c.if-at-s.false
-          (sym c.bits_fit.ensures ∙ c.if-not-bits_fit.true);
-      counted = rw c.refuse-then-not-bits_fit.ensures.1 c.begin-then-not-bits_fit.ensures.1;
-    }
+unfolding read_of
+returns-then-not-bits_fit c = record { is = term-bad-bits _ _ c.if-at-s.false (sym c.bits_fit.ensures ∙ c.if-not-bits_fit.true); counted = tt }
 
 pub returns : goal.returns
 returns c =

@@ -9,6 +9,3 @@ use Rattle.replacing.proofs.occurrences.leading.Given as goal
 
 abbrev pub invariant-loop-i : goal.invariant-loop-i
 invariant-loop-i l = (l.i ≤ l.n) × (leading_of l.letter (map letters_of (take l.n l.f)) ≡ l.i + leading_of l.letter (map letters_of (drop l.i (take l.n l.f))))
-
-abbrev pub decreases-loop-i : goal.decreases-loop-i
-decreases-loop-i l = l.n - l.i

@@ -27,16 +27,16 @@ pub returns-in-Scalar : goal.returns-in-Scalar
 returns-in-Scalar c =
     factor-without _ c.requires.1 _
     c.only_factor-in-Scalar.ensures _ _ _ _ _
-    (sym (scalar-has _ _ _ c.letters_of-f.ensures _ c.in-Scalar.is)) c.alone-in-Scalar.ensures
+    (sym (scalar-has _ _ _ c.letters_of.ensures _ c.in-Scalar.is)) c.alone-in-Scalar.ensures
 
 pub returns-in-Dot : goal.returns-in-Dot
 returns-in-Dot c =
-    factor-dot _ _ c.letters_of-f.ensures _ _ _ _ _ _ _
+    factor-dot _ _ c.letters_of.ensures _ _ _ _ _ _ _
     c.in-Dot.is
     c.work_dot.ensures
 
 pub returns-in-Triple : goal.returns-in-Triple
 returns-in-Triple c =
-    factor-triple _ _ c.letters_of-f.ensures _ _ _ _ _ _ _ _
+    factor-triple _ _ c.letters_of.ensures _ _ _ _ _ _ _ _
     c.in-Triple.is
     c.work_triple.ensures

@@ -2,24 +2,17 @@
 use mathlib.Core.Path.{◌≡◌}
 use native.Mathlib.Omega.{arith}
 use Rattle.specification.specs.Reduction.{wedge_forms}
-use Rattle.replacing.proofs.Factors.{given_stands, two_given}
-use Rattle.replacing.proofs.working.work_wedge.Goals.{After-leaf-a, After-leaf-b}
+use Rattle.replacing.proofs.Factors.{two_given}
 use Rattle.replacing.proofs.working.work_wedge.Goals as goal
 
 -- no letter is refused
-first_stands : (c : After-leaf-a) → c.leaf-a.result.refusal ≡ 0
-first_stands c = given_stands _ _ _ _ c.leaf-a.ensures
-
-second-stands : (c : After-leaf-b) → c.leaf-b.result.refusal ≡ 0
-second-stands c = given_stands _ _ _ _ c.leaf-b.ensures
-
 pub wedge-requires : goal.wedge-requires
 wedge-requires c =
     let second = c in
     let first = c in
     let p = first.requires in (
-      first.leaf-a.ensures.form (first_stands (goal.at.wedge-requires c).After-leaf-a),
-      second.leaf-b.ensures.form (second-stands (goal.at.wedge-requires c).After-leaf-b),
+      c.leaf-a.ensures.form,
+      c.leaf-b.ensures.form,
       omega (arith, p.room),
       omega (arith, p.beside),
     )

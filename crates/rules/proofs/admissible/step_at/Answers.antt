@@ -12,6 +12,7 @@ use Rattle.terms.specs.Abstraction.{term_of}
 use Rattle.rows.specs.Rows.{form_by}
 use Rattle.rows.proofs.RowForms.{rows_refused, rows_as}
 use Rattle.rules.proofs.Alone.{no_rule, no_shape, letters_refused, step-valid, step-decides}
+use Rattle.refusal.proofs.Passing.{passed_up}
 use Rattle.rules.proofs.admissible.step_at.Goals.{After-in_shape, Start}
 use Rattle.rules.proofs.admissible.step_at.Goals as goal
 
@@ -35,32 +36,31 @@ shape c =
     })))
     (back_is {z = c.args.s.m.coef} (record {
       sfits =
-          c.struct_told-1.given.0.1;
+          search rules;
     }))
 
 pub returns-then-not-is_rule : goal.returns-then-not-is_rule
 returns-then-not-is_rule c = let a = c in record {
-  reached = rows_refused _ _ 11 _ _ refl (λ z. omega arith) (no_rule a.args.table.now (form (goal.at.returns-then-not-is_rule c).Start) a.args.s (six (goal.at.returns-then-not-is_rule c).Start) _ c.is_rule.ensures
+  reached = rows_refused _ _ _ _ (no_rule a.args.table.now (form (goal.at.returns-then-not-is_rule c).Start) a.args.s (six (goal.at.returns-then-not-is_rule c).Start) _ c.is_rule.ensures
       c.if-not-is_rule.true);
-  kind = refl;
+  kind = tt;
 }
 
 pub returns-then-not-in_shape : goal.returns-then-not-in_shape
 returns-then-not-in_shape c = let a = c in record {
-  reached = rows_refused _ _ 11 _ _ refl (λ z. omega arith)
+  reached = rows_refused _ _ _ _
       (no_shape a.args.table.now (form (goal.at.returns-then-not-in_shape c).Start) a.args.s (six (goal.at.returns-then-not-in_shape c).Start) _ c.is_rule.ensures
       c.if-not-is_rule.false _ (shape (goal.at.returns-then-not-in_shape c).After-in_shape) c.if-not-in_shape.true);
-  kind = refl;
+  kind = tt;
 }
 
-pub returns-then-r-ne0 : goal.returns-then-r-ne0
-returns-then-r-ne0 c = let a = c in record {
-  reached = rows_refused _ _ _ _ _ refl c.if-r-ne0.true
-      (letters_refused a.args.table.now (form (goal.at.returns-then-r-ne0 c).Start) a.args.s (six (goal.at.returns-then-r-ne0 c).Start) _ c.is_rule.ensures c.if-not-is_rule.false _ (shape (goal.at.returns-then-r-ne0 c).After-in_shape)
-      c.if-not-in_shape.false
-      _ c.test_step_letters-r.ensures c.if-r-ne0.true);
-  kind = refl;
-}
+pub returns-in_err-test_step_letters : goal.returns-in_err-test_step_letters
+returns-in_err-test_step_letters c = let a = c in rw (passed_up _ _ c.from_residual.ensures.1) (record {
+  reached = rows_refused _ _ _ _
+      (letters_refused a.args.table.now (form (goal.at.returns-in_err-test_step_letters c).Start) a.args.s (six (goal.at.returns-in_err-test_step_letters c).Start) _ c.is_rule.ensures c.if-not-is_rule.false _ (shape (goal.at.returns-in_err-test_step_letters c).After-in_shape)
+      c.if-not-in_shape.false _ c.in_err-test_step_letters.ensures);
+  kind = tt;
+})
 
 pub take_step-requires : goal.take_step-requires
 take_step-requires c = let a = c in (
@@ -77,8 +77,7 @@ pub returns : goal.returns
 returns c = let a = c in record {
   reached = rows_as _ _ _ _ _
       (step-decides a.args.table.now (form (goal.at.returns c).Start) a.args.s (six (goal.at.returns c).Start) _ c.is_rule.ensures c.if-not-is_rule.false _ (shape (goal.at.returns c).After-in_shape)
-      c.if-not-in_shape.false
-      _ c.test_step_letters-r.ensures c.if-r-ne0.false)
+      c.if-not-in_shape.false c.in_ok-test_step_letters.ensures)
       c.take_step.ensures.reached;
   kind = c.take_step.ensures.kind;
 }

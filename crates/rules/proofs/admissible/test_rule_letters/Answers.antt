@@ -4,9 +4,9 @@ use mathlib.Core.Path.{◌≡◌, refl, sym, ◌∙◌}
 use Prim.Native.Nat.{◌-◌, ◌≤◌}
 use native.Mathlib.Omega.{arith}
 use lib.ListN.{length, take, drop}
-use Rattle.letters.specs.Tested.{test_of}
 use Rattle.specification.specs.Letters.{vector, test_letters}
 use Rattle.rules.proofs.Alone.{letters-stop, letters-pass, letters-end}
+use Rattle.refusal.proofs.Passing.{passed_up}
 use Rattle.rules.proofs.admissible.test_rule_letters.Goals.{Start}
 use Rattle.rules.proofs.admissible.test_rule_letters.Goals as goal
 
@@ -19,27 +19,27 @@ loop-i-init c = (omega arith, refl)
 pub bounds-letters-i : goal.bounds-letters-i
 bounds-letters-i c = omega (arith, long (goal.at.bounds-letters-i c).Start, c.requires)
 
-pub test_letter-r-requires : goal.test_letter-r-requires
-test_letter-r-requires c = tt
+pub test_letter-requires : goal.test_letter-requires
+test_letter-requires c = tt
 
-pub returns-then-r-ne0 : goal.returns-then-r-ne0
-returns-then-r-ne0 c =
+pub returns-in_err-test_letter : goal.returns-in_err-test_letter
+returns-in_err-test_letter c =
     let w = c in
-    letters-stop w.args.table.now w.args.letters w.args.n c.loop-i.i
-    (omega (arith, long (goal.at.returns-then-r-ne0 c).Start, c.requires)) _ c.loop-i-test.true
-    c.test_letter-r.ensures c.if-r-ne0.true ∙ sym c.loop-i.invariant.1
+    rw (passed_up _ _ c.from_residual.ensures.1)
+    (letters-stop w.args.table.now w.args.letters w.args.n c.loop-i.i
+    (omega (arith, long (goal.at.returns-in_err-test_letter c).Start, c.requires)) _ c.loop-i-test.true
+    c.in_err-test_letter.ensures ∙ sym c.loop-i.invariant.1)
 
 pub loop-i-preserved : goal.loop-i-preserved
 loop-i-preserved c =
     let w = c in (
       omega arith,
       c.loop-i.invariant.1 ∙ letters-pass w.args.table.now w.args.letters w.args.n c.loop-i.i
-          (omega (arith, long (goal.at.loop-i-preserved c).Start, c.requires)) _ c.loop-i-test.true
-          c.test_letter-r.ensures c.if-r-ne0.false,
+          (omega (arith, long (goal.at.loop-i-preserved c).Start, c.requires)) c.loop-i-test.true
+          c.in_ok-test_letter.ensures,
     )
 
 pub returns : goal.returns
-unfolding test_of
 returns c =
     let w = c in
     sym

@@ -3,13 +3,9 @@ use mathlib.Core.Path.{◌≡◌, refl, sym, ◌∙◌}
 use Prim.Native.Nat.{◌-◌, ◌≤◌}
 use native.Mathlib.Omega.{arith}
 use lib.ListN.{length, take, drop}
-use Rattle.letters.specs.Tested.{test_of}
 use Rattle.specification.specs.Letters.{vector, test_letters}
 use Rattle.rules.proofs.Alone.{letters-stop, letters-pass, letters-end}
 use Rattle.rules.proofs.admissible.test_rule_letters.Given as goal
 
 abbrev pub invariant-loop-i : goal.invariant-loop-i
 invariant-loop-i l = (l.i ≤ l.n) × (test_letters l.table vector (take l.n l.letters) ≡ test_letters l.table vector (drop l.i (take l.n l.letters)))
-
-abbrev pub decreases-loop-i : goal.decreases-loop-i
-decreases-loop-i l = l.n - l.i

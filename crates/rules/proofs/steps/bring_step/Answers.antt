@@ -93,9 +93,6 @@ bring-held-requires c = let w = c in
       rw (kept (goal.at.bring-held-requires c).After-times_row-t) (omega (arith, own (goal.at.bring-held-requires c).After-times_row-t)),
     )
 
-pub overflow_add-i : goal.overflow_add-i
-overflow_add-i c = omega (arith, few (goal.at.overflow_add-i c).In-loop-i)
-
 pub loop-i-preserved : goal.loop-i-preserved
 loop-i-preserved c = let w = c in
     let v = c.loop-i in (

@@ -24,6 +24,3 @@ invariant-loop-i l = (l.i ≤ l.count) × Turned (record {
   m =
       l.m;
 }) l.n l.initial.rows l.initial.coefs l.i l.held l.rows l.coefs × (length l.rows ≡ length l.initial.rows) × (length l.coefs ≡ length l.initial.coefs)
-
-abbrev pub decreases-loop-i : goal.decreases-loop-i
-decreases-loop-i l = l.count - l.i

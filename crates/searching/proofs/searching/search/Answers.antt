@@ -101,8 +101,8 @@ overflow_add-at-in-loop-at c = omega (
   c.in-Some.ensures.inside,
 )
 
-pub try_step-w-requires : goal.try_step-w-requires
-try_step-w-requires c = let w = c in
+pub try_step-requires : goal.try_step-requires
+try_step-requires c = let w = c in
     let v = c.loop-at in (
       w.requires.0,
       c.in-Some.ensures.counted,
@@ -110,13 +110,13 @@ try_step-w-requires c = let w = c in
       omega (arith, w.requires.0.few, w.requires.5, v.invariant.2),
     )
 
-pub find_place-p-requires : goal.find_place-p-requires
-find_place-p-requires c = let w = c in
-    let g = (c.try_step-w.ensures.reached.form c.if-w-eq0.true).run in (
+pub place_of-requires : goal.place_of-requires
+place_of-requires c = let w = c in
+    let g = c.in-Ok.ensures.reached.form.run in (
       g.room,
       g.valid,
       all-at RowValid w.args.rows.now w.args.n (c.loop-at.at / 40960) [] w.requires.0.run.room
-          (inside (goal.at.find_place-p-requires c).In-loop-at)
+          (inside (goal.at.place_of-requires c).In-loop-at)
           w.requires.0.run.valid,
     )
 
@@ -136,11 +136,11 @@ pub returns-then-count-n : goal.returns-then-count-n
 unfolding SearchedBy
 returns-then-count-n c = let w = c in
     let l = run_length w.args.rows.now w.args.coefs.now w.args.n w.requires.0.run.room w.requires.0.run.beside in
-    shorter w.args.table.now (form_by w.args.kind w.args.n w.args.rows.now w.args.coefs.now) _ _ _ _ c.try_step-w.ensures.reached
-    c.if-w-eq0.true c.try_step-w.ensures.kind
+    shorter w.args.table.now (form_by w.args.kind w.args.n w.args.rows.now w.args.coefs.now) _ _ _ _ c.in-Ok.ensures.reached
+    c.in-Ok.ensures.kind
     (omega (arith, c.if-count-n.true, l))
     c.in-Some.ensures.counted
-    _ c.find_place-p.ensures.inside
+    _ c.place_of.ensures
 
 pub loop-at-smaller-else-count-n : goal.loop-at-smaller-else-count-n
 loop-at-smaller-else-count-n c = let n = c.in-Some.ensures in omega (arith, c.loop-at-test.true, n.forward, n.inside)
@@ -150,7 +150,7 @@ loop-at-preserved-else-count-n c = let w = c in
     let l = run_length w.args.rows.now w.args.coefs.now w.args.n w.requires.0.run.room w.requires.0.run.beside in (
       onward (goal.at.loop-at-preserved-else-count-n c).After-term_of-t _ c.in-Some.ensures
           (long_useless w.args.table.now (form_by w.args.kind w.args.n w.args.rows.now w.args.coefs.now)
-          _ _ _ _ c.try_step-w.ensures.reached c.if-w-eq0.true (omega (arith, c.if-count-n.false, l))),
+          _ _ _ _ c.in-Ok.ensures.reached (omega (arith, c.if-count-n.false, l))),
       omega (arith, c.loop-at.invariant.1),
       omega (arith, c.loop-at.invariant.2),
     )
@@ -161,7 +161,7 @@ loop-at-smaller c = let n = c.in-Some.ensures in omega (arith, c.loop-at-test.tr
 pub loop-at-preserved : goal.loop-at-preserved
 loop-at-preserved c = let w = c in (
   onward (goal.at.loop-at-preserved c).After-term_of-t _ c.in-Some.ensures
-      (refused_useless w.args.table.now (form_by w.args.kind w.args.n w.args.rows.now w.args.coefs.now) _ _ _ _ c.try_step-w.ensures.reached c.if-w-eq0.false),
+      (refused_useless w.args.table.now (form_by w.args.kind w.args.n w.args.rows.now w.args.coefs.now) _ _ _ _ c.in_default-try_step.ensures.reached),
   omega (arith, c.loop-at.invariant.1),
   omega (arith, c.loop-at.invariant.2),
 )

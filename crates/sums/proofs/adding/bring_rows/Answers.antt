@@ -39,9 +39,6 @@ bring-count-requires c =
       row-bound _ _ _ p.2 _ h _ (back_is (record { sfits = c.c-1.given })),
     )
 
-pub overflow_add-j : goal.overflow_add-j
-overflow_add-j c = omega (arith, c.requires.2.form.few)
-
 pub loop-j-preserved : goal.loop-j-preserved
 loop-j-preserved c =
     let v = c.loop-j.invariant in

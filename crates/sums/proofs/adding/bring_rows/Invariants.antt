@@ -12,6 +12,3 @@ use Rattle.sums.proofs.adding.bring_rows.Given as goal
 
 abbrev pub invariant-loop-j : goal.invariant-loop-j
 invariant-loop-j l = (l.j ≤ l.m) × Brought l.j l.n l.initial.rows l.initial.coefs (take l.j (run_of l.m l.right l.rights)) l.count l.rows l.coefs × (length l.rows ≡ length l.initial.rows) × (length l.coefs ≡ length l.initial.coefs)
-
-abbrev pub decreases-loop-j : goal.decreases-loop-j
-decreases-loop-j l = l.m - l.j

@@ -13,6 +13,3 @@ use Rattle.sums.proofs.adding.negate.Given as goal
 
 abbrev pub invariant-loop-i : goal.invariant-loop-i
 invariant-loop-i l = (l.i ≤ l.n) × (l.coefs ≡ turned l.i l.initial.coefs) × (length l.coefs ≡ length l.initial.coefs)
-
-abbrev pub decreases-loop-i : goal.decreases-loop-i
-decreases-loop-i l = l.n - l.i

@@ -5,7 +5,7 @@ use native.Mathlib.Omega.{arith}
 use Rattle.sums.proofs.adding.sum.Goals as goal
 
 pub returns-then-kind-other : goal.returns-then-kind-other
-returns-then-kind-other c = sum-six _ _ _ _ _ c.if-kind-other.true c.refuse.ensures
+returns-then-kind-other c = sum-six _ _ _ _ c.if-kind-other.true
 
 pub overflow_add-n : goal.overflow_add-n
 overflow_add-n c = omega (arith, c.requires.0.few, c.requires.1.few)

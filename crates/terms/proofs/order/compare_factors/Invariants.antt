@@ -10,6 +10,3 @@ use Rattle.terms.proofs.order.compare_factors.Given as goal
 
 abbrev pub invariant-loop-k : goal.invariant-loop-k
 invariant-loop-k l = (l.k ≤ l.n) × (first_difference order (take l.n l.f) (take l.n l.g) ≡ first_difference order (drop l.k (take l.n l.f)) (drop l.k (take l.n l.g)))
-
-abbrev pub decreases-loop-k : goal.decreases-loop-k
-decreases-loop-k l = l.n - l.k

@@ -9,6 +9,3 @@ use Rattle.terms.proofs.shape.factors_in_shape.Given as goal
 
 abbrev pub invariant-loop-i : goal.invariant-loop-i
 invariant-loop-i l = (l.i ≤ l.n) × (l.n ≤ 7) × (shape_from 0 (take l.n l.f) ≡ shape_from l.last (drop l.i (take l.n l.f)))
-
-abbrev pub decreases-loop-i : goal.decreases-loop-i
-decreases-loop-i l = l.n - l.i

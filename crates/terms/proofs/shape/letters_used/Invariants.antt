@@ -12,6 +12,3 @@ use Rattle.terms.proofs.shape.letters_used.Given as goal
 abbrev pub invariant-loop-i : goal.invariant-loop-i
 invariant-loop-i l = (l.i ≤ l.n) × (l.n ≤ 7) × (vector_letters_of (map letters_of (take l.n l.f)) ≡ l.vectors + vector_letters_of (map letters_of (drop l.i (take l.n l.f))))
     × (scalar_letters_of (map letters_of (take l.n l.f)) ≡ l.scalars + scalar_letters_of (map letters_of (drop l.i (take l.n l.f)))) × (l.vectors ≤ 3 * l.i) × (l.scalars ≤ l.i)
-
-abbrev pub decreases-loop-i : goal.decreases-loop-i
-decreases-loop-i l = l.n - l.i
