@@ -201,7 +201,7 @@ fn print_verdict(v: Verdict, table: &[u8], form: &[u8], out: &[u8], work: &[u8])
             print_standing(behind(out, w.size));
         }
         Verdict::Refused(why) => {
-            print_refusal(why);
+            print_refusal(why.number());
             print_standing(out);
             print_standing(work);
         }

@@ -1,2 +1,3 @@
 -- What the proofs of the functions lean on.
+pub mod Filling
 pub mod Sizes

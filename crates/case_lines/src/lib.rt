@@ -8,7 +8,6 @@ ghost use Rattle.evaluation.specs.Vectors.{vec_of, Within};
 use evaluation::value;
 use evaluation::vectors::Vector;
 use integers::{is_negative, less, size};
-use refusal::Refusal;
 
 // A byte as a number.
 pub fn byte_at(s: &[u8], i: usize) -> usize
@@ -82,9 +81,9 @@ pub fn print_signed(a: i64) {
 }
 
 // R and the number of a refusal.
-pub fn print_refusal(why: Refusal) {
+pub fn print_refusal(n: u8) {
     print_character(b'R');
-    io::print_decimal(1, why.number() as u64);
+    io::print_decimal(1, n as u64);
 }
 
 // What every byte lent is before a call: no number of an assignment, and in a record only a byte of a coefficient.
@@ -102,7 +101,12 @@ pub fn fill(s: &mut [u8])
 fn stands(s: &[u8]) -> bool
     ensures { Stand s.now result }
 {
-    s.iter().all(|&b| b == FILLING)
+    for i in 0..s.len() {
+        if s[i] != FILLING {
+            return false;
+        }
+    }
+    true
 }
 
 // The word for memory that was changed.
@@ -169,7 +173,7 @@ fn print_vector(v: Vector)
 pub fn print_values(table: &[u8], form: &[u8], assignment: &[u8]) {
     match value(table, form, assignment) {
         Ok(v) => print_vector(v),
-        Err(why) => print_refusal(why),
+        Err(why) => print_refusal(why.number()),
     }
 }
 

@@ -24,7 +24,7 @@ fn print_accepted(a: Accepted) {
 
 // A refused log.
 fn print_refused(e: RefusedAt) {
-    print_refusal(e.why);
+    print_refusal(e.why.number());
     print_number(e.step as u64);
 }
 

@@ -3,10 +3,14 @@
 
 ghost use Rattle.std.specs.Prelude.{◌≡◌, take, drop};
 ghost use Rattle.specification.specs.Logs.{check_call};
+ghost use Rattle.terms.specs.Valid.{FormValid};
+ghost use Rattle.logs.specs.Steps.{StepsValid};
+ghost use Rattle.logs.specs.Reading.{parts_of};
 ghost use Rattle.checker.specs.Answers.{checked_of};
+ghost use Rattle.checker.specs.Read.{log_checked};
 
 use letters::{check_table, test_terms};
-use logs::reading::read_log;
+use logs::reading::{LogReading, read_log};
 use logs::steps::{RefusedAt, at_step, test_steps};
 use replaying::replay;
 
@@ -18,12 +22,11 @@ pub struct Accepted {
     pub steps: usize,
 }
 
-// The answer for a table and a log: accepted, or refused with number and step.
-pub fn check(table: &[u8], log: &[u8]) -> Result<Accepted, RefusedAt>
-    ensures { checked_of result ≡ check_call table.now log.now }
+// The answer for a log that was read: its letters in byte order, then the replay. It takes the log where it stands, since a log by value is 7,000 bytes.
+fn check_read(table: &[u8], q: &LogReading) -> Result<Accepted, RefusedAt>
+    requires { FormValid q.now.first × StepsValid q.now.steps × FormValid q.now.last }
+    ensures { checked_of result ≡ log_checked table.now (parts_of q.now) }
 {
-    at_step(check_table(table), 0)?;
-    let q = at_step(read_log(log), 0)?;
     at_step(test_terms(table, q.first), 0)?;
     test_steps(table, q.steps)?;
     at_step(test_terms(table, q.last), q.steps.count as u8 + 1)?;
@@ -33,6 +36,17 @@ pub fn check(table: &[u8], log: &[u8]) -> Result<Accepted, RefusedAt>
         last_start: q.last_start,
         steps: q.steps.count,
     })
+}
+
+// The answer for a table and a log: accepted, or refused with number and step.
+pub fn check(table: &[u8], log: &[u8]) -> Result<Accepted, RefusedAt>
+    ensures { checked_of result ≡ check_call table.now log.now }
+{
+    at_step(check_table(table), 0)?;
+    match &read_log(log) {
+        Ok(q) => check_read(table, q),
+        Err(why) => Err(RefusedAt { why: *why, step: 0 }),
+    }
 }
 
 // The first form of an accepted log as a part of it, by where it ends; the whole log where that is past its end.

@@ -26,7 +26,7 @@ fn print_case(table: &[u8], first: &[u8], second: &[u8], buffer: &mut [u8], work
             print_assignment(table, buffer);
         }
         Decision::Refused(why) => {
-            print_refusal(why);
+            print_refusal(why.number());
             print_standing(buffer);
             print_standing(work);
         }

@@ -29,7 +29,7 @@ use Rattle.rows.specs.Rows.{Light, form_by, RowsGive}
 use Rattle.rows.proofs.RowForms.{rows_refused, rows_given, rows_as}
 use Rattle.sums.proofs.Sums.{form-negated, negated-run}
 use Rattle.expressions.specs.declared.trees.Tree.{Tree}
-use Rattle.expressions.specs.Trees.{operand_count, test_token, test_head, binary, on_one, on_two, on_three, worked_of, Sound, ReadAs, LeafAt, read_leaf, LeafSecond}
+use Rattle.expressions.specs.Trees.{operand_count, test_token, test_head, binary, on_one, on_two, on_three, worked_of, Sound, ReadAs, LeafAt, read_leaf, LeafSecond, WithSecond, WithThird}
 use Rattle.expressions.proofs.Heads.{chain, read_is, chain_more, bytes-passed, own-byte}
 
 -- ════ the operator of a token with two operands
@@ -540,3 +540,54 @@ level_leafy depth table s at v rows coefs k count ra ca some a read_a none r bot
         subst (λ (x : Std.Result Tree Refusal). ReadAs (read_tree depth table s at) x rows coefs) (sym (w.refuses n e))
         (level-second depth table s at v rows coefs k count ra ca some a read_a w.right w.rights none n
         (subst (λ (x : Std.Result Tree Refusal). ReadAs (read_tree (depth - 1) table s a.next) x w.right w.rights) e w.read))
+
+-- ════ the operands behind the first
+
+module _ (depth : ℕ) (table s : List ℕ) (token k : ℕ) (a : Tree) (ra : List (List ℕ)) (ca : List ℤ) (more : 1 < k) where
+  some : k ≡ 0 → ⊥
+  some z = omega (arith, z, more)
+
+  many : k ≡ 1 → ⊥
+  many z = omega (arith, z, more)
+
+  -- the second is not read
+  pub second-unread_lem : (rb : List (List ℕ)) (cb : List ℤ) (e : Refusal) → ReadAs (read_tree (depth - 1) table s a.next) (Err e) rb cb
+      → (rows : List (List ℕ)) (coefs : List ℤ) → WithSecond depth table s token k a ra ca (Err e) rows coefs
+  second-unread_lem rb cb e h rows coefs = record {
+    is = λ at tests t count read. level-second depth table s at (level depth table s at tt tests) rows coefs k (count ∙ ap operand_count t) ra ca some a read rb cb many e h;
+  }
+
+  module _ (b : Tree) (rb : List (List ℕ)) (cb : List ℤ) (read-b : ReadAs (read_tree (depth - 1) table s a.next) (Ok b) rb cb) where
+    -- there are two
+    pub two-worked : k ≡ 2 → (w : Std.Result Worked Refusal) (rows : List (List ℕ)) (coefs : List ℤ)
+        → RowsGive (on_two token (worked_of a.work ra ca) (worked_of b.work rb cb)) w rows coefs
+        → WithSecond depth table s token k a ra ca (Ok (record { next = b.next; work = w })) rows coefs
+    two-worked e w rows coefs h = record {
+      is = λ at tests t count read.
+          level_two depth table s at (level depth table s at tt tests) rows coefs k (count ∙ ap operand_count t) ra ca some a read rb cb many b read-b w e
+          (subst (λ (x : ℕ). RowsGive (on_two x (worked_of a.work ra ca) (worked_of b.work rb cb)) w rows coefs) t h);
+    }
+
+    -- there are three
+    pub three-left : (k ≡ 2 → ⊥) → (r : Std.Result Tree Refusal) (rows : List (List ℕ)) (coefs : List ℤ) → WithThird depth table s a ra ca b rb cb r rows coefs
+        → WithSecond depth table s token k a ra ca r rows coefs
+    three-left n r rows coefs h = record { is = λ at tests t count read. h.is at tests k (count ∙ ap operand_count t) some many n read read-b }
+
+module _ (depth : ℕ) (table s : List ℕ) (a : Tree) (ra : List (List ℕ)) (ca : List ℤ) (b : Tree) (rb : List (List ℕ)) (cb : List ℤ) where
+  -- the third is not read
+  pub third-unread_lem : (rd : List (List ℕ)) (cd : List ℤ) (e : Refusal) → ReadAs (read_tree (depth - 1) table s b.next) (Err e) rd cd
+      → (rows : List (List ℕ)) (coefs : List ℤ) → WithThird depth table s a ra ca b rb cb (Err e) rows coefs
+  third-unread_lem rd cd e h rows coefs = record {
+    is = λ at tests k count some many most read_a read-b.
+        level-third depth table s at (level depth table s at tt tests) rows coefs k count ra ca some a read_a rb cb many b read-b rd cd most e h;
+  }
+
+  -- it is
+  pub three-worked : (d : Tree) (rd : List (List ℕ)) (cd : List ℤ) → ReadAs (read_tree (depth - 1) table s b.next) (Ok d) rd cd
+      → (w : Std.Result Worked Refusal) (rows : List (List ℕ)) (coefs : List ℤ)
+      → RowsGive (on_three (worked_of a.work ra ca) (worked_of b.work rb cb) (worked_of d.work rd cd)) w rows coefs
+      → WithThird depth table s a ra ca b rb cb (Ok (record { next = d.next; work = w })) rows coefs
+  three-worked d rd cd h w rows coefs q = record {
+    is = λ at tests k count some many most read_a read-b.
+        level-three depth table s at (level depth table s at tt tests) rows coefs k count ra ca some a read_a rb cb many b read-b rd cd most d h w q;
+  }

@@ -1,5 +1,5 @@
 -- Tokens by their operands, the tests at a tree, and what a tree gives when it is read and worked at once. Assumes nothing.
-use Rattle.std.specs.Prelude.{◌≡◌, ◌&&◌, List, ℕ, ◌+◌, ◌≤◌, leb, eqb, ℤ, length, get_or, Ok, Err, IfOk}
+use Rattle.std.specs.Prelude.{◌-◌, ◌≡◌, ◌&&◌, List, ℕ, ◌+◌, ◌≤◌, leb, eqb, ℤ, length, get_or, Ok, Err, IfOk}
 use Rattle.std.specs.Prelude as Std
 use Rattle.specification.specs.Results.{Result, Test, refused, given, ◌>>=◌, ◌>>◌, require, when◌then◌else◌}
 use Rattle.specification.specs.Terms.{Form}
@@ -107,3 +107,16 @@ pub record LeafSecond (depth : ℕ) (table s : List ℕ) (token : ℕ) (a : Tree
   pub refuses : (e : Refusal) → second ≡ Err e → r ≡ Err e
   pub works : (b : Tree) → second ≡ Ok b
       → (w : Std.Result Worked Refusal) × (r ≡ Ok (record { next = b.next; work = w })) × RowsGive (on_two token (worked_of a.work rows coefs) (worked_of b.work right rights)) w rows' coefs'
+
+-- with two operands or three of which the first was read: what the tree gives
+pub record WithSecond (depth : ℕ) (table s : List ℕ) (token k : ℕ) (a : Tree) (ra : List (List ℕ)) (ca : List ℤ) (r : Std.Result Tree Refusal)
+    (rows : List (List ℕ)) (coefs : List ℤ) : Type 0 where
+  pub is : (at : ℕ) → given tt ≡ test_head depth table s at → token ≡ get_or s at 0 → k ≡ operand_count token
+      → ReadAs (read_tree (depth - 1) table s (at + 1)) (Ok a) ra ca → ReadAs (read_tree depth table s at) r rows coefs
+
+-- with three of which two were read
+pub record WithThird (depth : ℕ) (table s : List ℕ) (a : Tree) (ra : List (List ℕ)) (ca : List ℤ) (b : Tree) (rb : List (List ℕ)) (cb : List ℤ)
+    (r : Std.Result Tree Refusal) (rows : List (List ℕ)) (coefs : List ℤ) : Type 0 where
+  pub is : (at : ℕ) → given tt ≡ test_head depth table s at → (k : ℕ) → k ≡ operand_count (get_or s at 0) → (k ≡ 0 → ⊥) → (k ≡ 1 → ⊥) → (k ≡ 2 → ⊥)
+      → ReadAs (read_tree (depth - 1) table s (at + 1)) (Ok a) ra ca → ReadAs (read_tree (depth - 1) table s a.next) (Ok b) rb cb
+      → ReadAs (read_tree depth table s at) r rows coefs

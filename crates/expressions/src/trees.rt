@@ -1,8 +1,8 @@
 // Trees: read in prefix order, operands left to right, and worked on the way in lent rows. What reading refuses comes before what working refuses.
-ghost use Rattle.std.specs.Prelude.{◌≡◌, List, ℕ, ◌≤◌, true, length, get_or, Ok, IfOk};
+ghost use Rattle.std.specs.Prelude.{◌≡◌, List, ℕ, ◌≤◌, ◌<◌, true, length, get_or, Ok, IfOk};
 ghost use Rattle.specification.specs.Expressions.{read_tree};
 ghost use Rattle.rows.specs.Rows.{Light, form_by, FormRun, RowsGive};
-ghost use Rattle.expressions.specs.Trees.{operand_count, binary, on_one, on_two, on_three, worked_of, Sound, LeafAt, read_leaf, ReadAs, LeafSecond};
+ghost use Rattle.expressions.specs.Trees.{operand_count, binary, on_one, on_two, on_three, worked_of, Sound, LeafAt, read_leaf, ReadAs, LeafSecond, WithSecond, WithThird};
 
 use crate::tokens::{operands, test_head};
 use integers::four_bytes_at;
@@ -171,6 +171,7 @@ fn with_leaf(
 }
 
 // The tree at a position, with so much depth left: its own tests, then its operands, each a tree again; only the first one is worked in the lent rows.
+#[cycle(read_tree_with_second_with_third)]
 pub fn read_tree(
     table: &[u8],
     s: &[u8],
@@ -196,6 +197,25 @@ pub fn read_tree(
     if ends_in_leaf(k, s, a.next) {
         return with_leaf(table, s, depth - 1, token, a, rows, coefs);
     }
+    with_second(table, s, depth, token, k, a, rows, coefs)
+}
+
+// The operands behind the first of a tree that has two or three, in rows of their own, and the operator worked on all. They stand here, so that reading a leaf
+// clears no rows.
+#[cycle(read_tree_with_second_with_third)]
+fn with_second(
+    table: &[u8],
+    s: &[u8],
+    depth: usize,
+    token: u8,
+    k: u8,
+    a: Tree,
+    rows: &mut [[u32; 8]],
+    coefs: &mut [i64],
+) -> Result<Tree, Refusal>
+    requires { (1 ≤ depth) × (1 < k) × Sound a.work rows.old coefs.old × (48 ≤ length rows.old) × (48 ≤ length coefs.old) }
+    ensures { WithSecond depth table.now s.now token k a rows.old coefs.old result rows.new coefs.new }
+{
     let e = [0u32; 8];
     let mut right = [e; 48];
     let mut rights = [0i64; 48];
@@ -204,11 +224,31 @@ pub fn read_tree(
         let work = apply_two(token, a.work, rows, coefs, b.work, &right, &mut rights);
         return Ok(Tree { next: b.next, work });
     }
+    with_third(table, s, depth, a, rows, coefs, b, &right, &rights)
+}
+
+// The third operand of a tree of which two were read, and the operator worked on all.
+#[cycle(read_tree_with_second_with_third)]
+fn with_third(
+    table: &[u8],
+    s: &[u8],
+    depth: usize,
+    a: Tree,
+    rows: &mut [[u32; 8]],
+    coefs: &mut [i64],
+    b: Tree,
+    right: &[[u32; 8]],
+    rights: &[i64],
+) -> Result<Tree, Refusal>
+    requires { (1 ≤ depth) × Sound a.work rows.old coefs.old × Sound b.work right.now rights.now × (48 ≤ length rows.old) × (48 ≤ length coefs.old) }
+    ensures { WithThird depth table.now s.now a rows.old coefs.old b right.now rights.now result rows.new coefs.new }
+{
+    let e = [0u32; 8];
     let mut third = [e; 48];
     let mut thirds = [0i64; 48];
     let d = read_tree(table, s, b.next, depth - 1, &mut third, &mut thirds)?;
     let work = apply_three(
-        a.work, rows, coefs, b.work, &right, &rights, d.work, &third, &thirds,
+        a.work, rows, coefs, b.work, right, rights, d.work, &third, &thirds,
     );
     Ok(Tree { next: d.next, work })
 }

@@ -36,7 +36,7 @@ use Rattle.texts.specs.Readings.{placed_of}
 use Rattle.formulas.specs.declared.atoms.Name.{Name}
 use Rattle.formulas.specs.declared.joining.Reading.{Reading}
 use Rattle.formulas.specs.Readings.{worked_at, named, Formed, WayGives, NameRead, TripleRead, ClosedAs}
-use Rattle.formulas.proofs.Results.{worked-as, gives_refused, gives_read, then_read}
+use Rattle.formulas.proofs.Results.{worked-as, gives_refused, gives_read, then_read, then_refused}
 
 -- ════ names
 
@@ -190,24 +190,34 @@ module _ (names table s : List ℕ) (at p : ℕ) (hp : p ≡ next s at) where
 
 -- ════ closing parentheses
 
-module _ (s : List ℕ) (r : Reading) (b : ℕ) (hb : b ≡ get_or s r.next 0) where
-  -- something else stands there
-  pub closed-torn : (b ≡ 41 → ⊥) → ClosedAs s r (Err (record { why = Torn; column = r.next }))
-  unfolding way_closed
-  closed-torn n = record {
-    is = λ x rows coefs h. gives_refused (x >>= way_closed s) _ rows coefs
-        (then_read x r rows coefs h (way_closed s) ∙ rw (ne_eqb (get_or s r.next 0) 41 (λ z. n (hb ∙ z))));
+module _ (s : List ℕ) (q : Std.Result Reading Unread) where
+  -- what stands inside them is not read
+  pub closed-unread : (e : Unread) → q ≡ Err e → ClosedAs s q (Err e)
+  closed-unread e was = record {
+    is = λ x rows coefs h. then_refused x e rows coefs (subst (λ (v : Std.Result Reading Unread). WayGives x v rows coefs) was h) (way_closed s) rows coefs;
   }
 
-  -- a closing parenthesis is inside the text
-  pub closed-inside : b ≡ 41 → r.next < length s
-  closed-inside m = byte-there s r.next 40 (sym hb ∙ m)
+  module _ (r : Reading) (was : q ≡ Ok r) (b : ℕ) (hb : b ≡ get_or s r.next 0) where
+    inside : (x : Way) (rows : List (List ℕ)) (coefs : List ℤ) → WayGives x q rows coefs → WayGives x (Ok r) rows coefs
+    inside x rows coefs h = subst (λ (v : Std.Result Reading Unread). WayGives x v rows coefs) was h
 
-  -- it is passed
-  pub closed-passed : (after : ℕ) → b ≡ 41 → after ≡ next s r.next → ClosedAs s r (Ok (record { column = r.column; next = after; work = r.work }))
-  unfolding way_closed
-  closed-passed after m a = record {
-    is = λ x rows coefs h. gives_read (x >>= way_closed s) (worked_at r.work r.column rows coefs) (next s r.next) _ rows coefs
-        (then_read x r rows coefs h (way_closed s) ∙ rw (eq-eqb (get_or s r.next 0) 41 (sym hb ∙ m))) refl a
-        (record { form = h.read.form });
-  }
+    -- something else stands there
+    pub closed-torn : (b ≡ 41 → ⊥) → ClosedAs s q (Err (record { why = Torn; column = r.next }))
+    unfolding way_closed
+    closed-torn n = record {
+      is = λ x rows coefs h. gives_refused (x >>= way_closed s) _ rows coefs
+          (then_read x r rows coefs (inside x rows coefs h) (way_closed s) ∙ rw (ne_eqb (get_or s r.next 0) 41 (λ z. n (hb ∙ z))));
+    }
+
+    -- a closing parenthesis is inside the text
+    pub closed-inside : b ≡ 41 → r.next < length s
+    closed-inside m = byte-there s r.next 40 (sym hb ∙ m)
+
+    -- it is passed
+    pub closed-passed : (after : ℕ) → b ≡ 41 → after ≡ next s r.next → ClosedAs s q (Ok (record { column = r.column; next = after; work = r.work }))
+    unfolding way_closed
+    closed-passed after m a = record {
+      is = λ x rows coefs h. gives_read (x >>= way_closed s) (worked_at r.work r.column rows coefs) (next s r.next) _ rows coefs
+          (then_read x r rows coefs (inside x rows coefs h) (way_closed s) ∙ rw (eq-eqb (get_or s r.next 0) 41 (sym hb ∙ m))) refl a
+          (record { form = (inside x rows coefs h).read.form });
+    }

@@ -242,12 +242,7 @@ module _ (names table s : List ℕ) (depth : ℕ) (number : Bool) (at b : ℕ) (
                 else way_level names table s (way_nested names table s (depth - 1)) 4 true (next s at) >>= way_closed s)
                 ∙ ap (λ (p : ℕ). way_level names table s (way_nested names table s (depth - 1)) 4 true p >>= way_closed s) (sym hi)
 
-            -- what stands behind the parenthesis is not read
-            pub group-unread : (e : Unread) (rows : List (List ℕ)) (coefs : List ℤ)
-                → WayGives (way_level names table s (way_nested names table s (depth - 1)) 4 true inner) (Err e) rows coefs → WayGives atom (Err e) rows coefs
-            group-unread e rows coefs h = gives_as _ _ _ rows coefs group_is (then_refused _ e rows coefs h (way_closed s) rows coefs)
-
-            -- a sum
-            pub atom-group : (r : Reading) (q : Std.Result Reading Unread) (rows : List (List ℕ)) (coefs : List ℤ)
-                → WayGives (way_level names table s (way_nested names table s (depth - 1)) 4 true inner) (Ok r) rows coefs → ClosedAs s r q → WayGives atom q rows coefs
+            -- a sum, and what stands behind it; or what is not read
+            pub atom-group : (r q : Std.Result Reading Unread) (rows : List (List ℕ)) (coefs : List ℤ)
+                → WayGives (way_level names table s (way_nested names table s (depth - 1)) 4 true inner) r rows coefs → ClosedAs s r q → WayGives atom q rows coefs
             atom-group r q rows coefs h k = gives_as _ _ q rows coefs group_is (k.is _ rows coefs h)

@@ -70,8 +70,8 @@ pub record TripleRead (s : List ℕ) (at : ℕ) (x : Name) (rows : List (List �
   pub read : Read r rows' coefs'
 
 -- behind what was read stands a closing parenthesis, or it is refused
-pub record ClosedAs (s : List ℕ) (r : Reading) (q : Std.Result Reading Unread) : Type 0 where
-  pub is : (x : Way) (rows : List (List ℕ)) (coefs : List ℤ) → WayGives x (Ok r) rows coefs → WayGives (x >>= way_closed s) q rows coefs
+pub record ClosedAs (s : List ℕ) (r q : Std.Result Reading Unread) : Type 0 where
+  pub is : (x : Way) (rows : List (List ℕ)) (coefs : List ℤ) → WayGives x r rows coefs → WayGives (x >>= way_closed s) q rows coefs
 
 -- the whole text: what reading or working refused with its column, or the form in rows, which is in shape
 pub record TextRead (x : Placed Form) (r : Std.Result Worked Unread) (rows : List (List ℕ)) (coefs : List ℤ) : Type 0 where

@@ -121,15 +121,16 @@ pub fn triple_at(
 }
 
 // What was read, with a closing parenthesis behind it: 4 where something else stands.
-pub fn closed(s: &[u8], r: Reading) -> Result<Reading, Unread>
+pub fn closed(s: &[u8], r: Result<Reading, Unread>) -> Result<Reading, Unread>
     ensures { ClosedAs s.now r result }
 {
-    if byte_at(s, r.next) != b')' {
+    let inside = r?;
+    if byte_at(s, inside.next) != b')' {
         return Err(Unread {
             why: Refusal::Torn,
-            column: r.next,
+            column: inside.next,
         });
     }
-    let next = behind(s, r.next);
-    Ok(Reading { next, ..r })
+    let next = behind(s, inside.next);
+    Ok(Reading { next, ..inside })
 }

@@ -64,7 +64,7 @@ fn read_atom(
     if is_triple(s, inner) {
         return triple_at(names, table, s, at, rows, coefs);
     }
-    let r = read(names, table, s, inner, depth - 1, 4, true, rows, coefs)?;
+    let r = read(names, table, s, inner, depth - 1, 4, true, rows, coefs);
     closed(s, r)
 }
 

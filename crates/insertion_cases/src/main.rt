@@ -16,7 +16,7 @@ fn print_case(table: &[u8], letter: u8, form: &[u8], inserted: &[u8], assignment
     let mut out = [0u8; FORM_BYTES];
     match insert(table, form, letter, inserted, &mut out) {
         Ok(n) => print_form(table, &out[..n], assignment),
-        Err(why) => print_refusal(why),
+        Err(why) => print_refusal(why.number()),
     }
     print_character(b'\n');
 }

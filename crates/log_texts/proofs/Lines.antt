@@ -222,7 +222,7 @@ module _ (s names table : List ℕ) (x : Lined (List R.Step × L.Place)) (q : Pl
 module _ (s names table : List ℕ) (p : Place) where
   refuses-lines : (e : UnreadLine) → Inside s e.place → read_log_lines names table (place_of s p) ≡ refused_in (number_of e.why) e.place.number e.column (line_of (place_of s e.place))
       → LinesRead s names table (place_of s p) (Err e)
-  refuses-lines e i q = record { is = q; counted = tt; first = tt; steps = tt; last = tt; inside = i }
+  refuses-lines e i q = record { is = q; counted = tt; first = tt; steps = tt; last = tt; behind = tt; inside = i }
 
   -- the last form, behind the steps
   abbrev ending : (first : S.Form) → List R.Step × L.Place → Lined LogRead
@@ -285,7 +285,7 @@ module _ (s names table : List ℕ) (p : Place) where
 
         -- nothing is
         pub log_read : length s ≤ end.at
-            → LinesRead s names table (place_of s p) (Ok (record { count = length names; first = a; steps = m.steps; last = b }))
+            → LinesRead s names table (place_of s p) (Ok (record { place = end; count = length names; first = a; steps = m.steps; last = b }))
         unfolding nothing_left at_end
         log_read l = record {
           is = by_end ∙ rw (eq-eqb (length (drop end.at s)) 0 (omega (arith, length-drop end.at s)));
@@ -293,6 +293,7 @@ module _ (s names table : List ℕ) (p : Place) where
           first = ha.valid;
           steps = hm.valid;
           last = hb.valid;
+          behind = he.inside;
           inside = tt;
         }
 
@@ -308,6 +309,7 @@ module _ (s names table : List ℕ) where
     first = tt;
     steps = tt;
     last = tt;
+    behind = tt;
     inside = hh.inside;
   }
 
@@ -319,12 +321,13 @@ module _ (s names table : List ℕ) where
     -- the lines behind them decide
     pub log_text_read : (r : Std.Result LogText UnreadLine) → length (take h.count names) ≡ h.count
         → LinesRead s (take h.count names) (take h.count table) (place_of s h.place) r → LogTextRead s r names table
-    log_text_read (Err e) l g = record { is = start ∙ g.is; few = tt; first = tt; steps = tt; last = tt; inside = g.inside }
+    log_text_read (Err e) l g = record { is = start ∙ g.is; few = tt; first = tt; steps = tt; last = tt; behind = tt; inside = g.inside }
     log_text_read (Ok r) l g = record {
       is = start ∙ g.is ∙ (λ k. lined (log_of (take (sym (g.counted ∙ l) k) names) (take (sym (g.counted ∙ l) k) table) r));
       few = omega (arith, hh.few, g.counted, l);
       first = g.first;
       steps = g.steps;
       last = g.last;
+      behind = g.behind;
       inside = tt;
     }

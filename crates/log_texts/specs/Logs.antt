@@ -54,6 +54,7 @@ pub record LinesRead (s names table : List ℕ) (p : L.Place) (r : Std.Result Lo
   pub first : IfOk r (λ l. FormValid l.first)
   pub steps : IfOk r (λ l. StepsValid l.steps)
   pub last : IfOk r (λ l. FormValid l.last)
+  pub behind : IfOk r (λ l. Inside s l.place)
   pub inside : IfErr r (λ e. Inside s e.place)
 
 -- a log as text, its names and their kinds in front of the bytes lent; or the refusal in its line
@@ -63,4 +64,5 @@ pub record LogTextRead (s : List ℕ) (r : Std.Result LogText UnreadLine) (names
   pub first : IfOk r (λ l. FormValid l.first)
   pub steps : IfOk r (λ l. StepsValid l.steps)
   pub last : IfOk r (λ l. FormValid l.last)
+  pub behind : IfOk r (λ l. Inside s l.place)
   pub inside : IfErr r (λ e. Inside s e.place)

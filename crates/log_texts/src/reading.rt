@@ -102,9 +102,10 @@ fn read_step_lines(s: &[u8], p: Place, names: &[u8], table: &[u8]) -> Result<Ste
     Ok(StepLines { place: q, steps })
 }
 
-// A log: how many names it declares, its forms and its steps.
+// A log: the place behind it, how many names it declares, its forms and its steps.
 #[derive(Clone, Copy)]
 pub struct LogText {
+    pub place: Place,
     pub count: usize,
     pub first: Form,
     pub steps: Steps,
@@ -129,6 +130,7 @@ fn read_log_lines(s: &[u8], p: Place, names: &[u8], table: &[u8]) -> Result<LogT
         });
     }
     Ok(LogText {
+        place: end,
         count: names.len(),
         first,
         steps: m.steps,

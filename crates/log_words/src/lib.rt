@@ -13,7 +13,7 @@ use logs::writing::write_log;
 use refusals::tell_line;
 use telling::{put, put_byte};
 use terms::types::Form;
-use verdicts::tell_checked;
+use verdicts::{by_number, tell_checked};
 
 // The longest log: 770 bytes of a form, 1, 64 steps of 23 bytes, 770 bytes of a form.
 const LOG_BYTES: usize = 3013;
@@ -45,7 +45,7 @@ pub fn check_text(s: &[u8], out: &mut [u8]) -> usize
     let mut log = [0u8; LOG_BYTES];
     let m = write_log(&mut log, f, steps, g);
     let c = check(&table[..n], &log[..m]);
-    tell_checked(out, first, last, c)
+    tell_checked(out, first, last, by_number(c))
 }
 
 // The answer to the word `pack`.

@@ -10,7 +10,7 @@ ghost use Rattle.open_log.specs.Added.{AddedAs};
 use crate::state::State;
 use logs::reading::read_step;
 use refusal::Refusal;
-use rows::{form_of, hold};
+use rows::{hold, outcome};
 use rules::admissible::step_at;
 use rules::steps::Step;
 use terms::types::Form;
@@ -31,8 +31,8 @@ fn step_on(table: &[u8], f: Form, step: Step) -> Result<Form, Refusal>
     let mut rows = [z; 56];
     let mut coefs = [0i64; 56];
     hold(f, &mut rows, &mut coefs);
-    let w = step_at(table, f.kind, f.count, &mut rows, &mut coefs, step)?;
-    Ok(form_of(w.kind, &rows, &coefs, w.count))
+    let w = step_at(table, f.kind, f.count, &mut rows, &mut coefs, step);
+    outcome(w, &rows, &coefs)
 }
 
 // The form that the step reaches whose record the bytes are, at a form: its shape (11), its letters (5, 6), then the step itself (6, 8, 9, 10).

@@ -51,7 +51,7 @@ fn print_written(out: &[u8], n: usize, whole: bool) {
 
 // The line of a refused call, all of whose memory stands.
 fn print_refused(out: &[u8], why: Refusal) {
-    print_refusal(why);
+    print_refusal(why.number());
     print_standing(out);
     print_character(b'\n');
 }
@@ -108,7 +108,7 @@ fn print_decision(d: Decision, state: &[u8], buffer: &[u8], work: &[u8]) {
             print_assignment(table_in(state), buffer);
         }
         Decision::Refused(why) => {
-            print_refusal(why);
+            print_refusal(why.number());
             print_standing(buffer);
             print_standing(work);
         }
@@ -132,7 +132,7 @@ fn run_close(state: &[u8], form: &[u8]) {
         Ok(()) => {
             io::write_all(1, b"accepted");
         }
-        Err(why) => print_refusal(why),
+        Err(why) => print_refusal(why.number()),
     }
     print_character(b'\n');
 }

@@ -353,36 +353,14 @@ turn-fits at i count size len next h k e = omega (arith, e, suc-mul i size, mul-
 pub spelled : (s : List ℕ) (at size n : ℕ) (l : List ℕ) (k : ℕ) → size ≡ n → take n (drop at s) ≡ l → FactorNumber l k → FactorNumber (take size (drop at s)) k
 spelled s at size n l k e q h = rw (e, q) h
 
--- the steps made one after the other: what is still to be done behind each
-module _ (m : ℕ) (s : List ℕ) (at : ℕ) where
-  abbrev pub behind_triples : Result (S.Term × ℕ) → Result (S.Term × ℕ)
-  behind_triples z = z >>= part_step (part_letters m) s >>= shape_step
-
-  abbrev pub behind_dots : Result (S.Term × ℕ) → Result (S.Term × ℕ)
-  behind_dots z = behind_triples (z >>= factors_step (stands 3 m) 2 3 s)
-
-  abbrev pub behind_scalars : Result (S.Term × ℕ) → Result (S.Term × ℕ)
-  behind_scalars z = behind_dots (z >>= factors_step (stands 2 m) 3 2 s)
-
-  abbrev pub behind_coef : Result (S.Term × ℕ) → Result (S.Term × ℕ)
-  behind_coef z = behind_scalars (z >>= factors_step (stands 1 m) 2 1 s)
-
-  pub coef-made : (q : Result (S.Term × ℕ)) (b : Bool) → b ≡ eqb (m / 1 % 2) 1 → q ≡ coef_step b s (plus [] [], at) → behind_coef q ≡ read_fields m s at
-  unfolding read_fields stands
-  coef-made q b d e = rw (e, d)
-
-  pub scalars-made : (x : S.Term × ℕ) (q : Result (S.Term × ℕ)) (b : Bool) → b ≡ eqb (m / 2 % 2) 1 → q ≡ factors_step b 2 1 s x → behind_scalars q ≡ behind_coef (given x)
-  unfolding stands
-  scalars-made x q b d e = rw (e, d)
-
-  pub dots-made : (x : S.Term × ℕ) (q : Result (S.Term × ℕ)) (b : Bool) → b ≡ eqb (m / 4 % 2) 1 → q ≡ factors_step b 3 2 s x → behind_dots q ≡ behind_scalars (given x)
-  unfolding stands
-  dots-made x q b d e = rw (e, d)
-
-  pub triples-made : (x : S.Term × ℕ) (q : Result (S.Term × ℕ)) (b : Bool) → b ≡ eqb (m / 8 % 2) 1 → q ≡ factors_step b 2 3 s x → behind_triples q ≡ behind_dots (given x)
-  unfolding stands
-  triples-made x q b d e = rw (e, d)
-
-  pub rest_made : (r : Fields) (f : List ℕ) (n : ℕ) → n ≡ part_letters m → rest_of n s r f ≡ behind_triples (given (term_of (at_fields r f), r.next))
-  unfolding rest_of
-  rest_made r f n d = rw d
+-- the steps made one after the other, each from what the one before it gave or refused
+pub fields_read : (m : ℕ) (s : List ℕ) (at : ℕ) (coef scalars dots triples all : Result (S.Term × ℕ)) (b₀ b₁ b₂ b₃ : Bool) (n : ℕ)
+    → b₀ ≡ eqb (m / 1 % 2) 1 → b₁ ≡ eqb (m / 2 % 2) 1 → b₂ ≡ eqb (m / 4 % 2) 1 → b₃ ≡ eqb (m / 8 % 2) 1 → n ≡ part_letters m
+    → coef ≡ coef_step b₀ s (plus [] [], at)
+    → scalars ≡ (coef >>= factors_step b₁ 2 1 s)
+    → dots ≡ (scalars >>= factors_step b₂ 3 2 s)
+    → triples ≡ (dots >>= factors_step b₃ 2 3 s)
+    → all ≡ (triples >>= part_step n s >>= shape_step)
+    → all ≡ read_fields m s at
+unfolding read_fields stands
+fields_read m s at coef scalars dots triples all b₀ b₁ b₂ b₃ n d₀ d₁ d₂ d₃ dn e₁ e₂ e₃ e₄ e₅ = rw (e₅, e₄, e₃, e₂, e₁, d₀, d₁, d₂, d₃, dn)

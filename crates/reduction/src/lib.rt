@@ -10,7 +10,7 @@ use expressions::trees::read_tree;
 use forms::{FORM_BYTES, write_form};
 use letters::check_table;
 use refusal::Refusal;
-use rows;
+use rows::outcome;
 use terms::types::Form;
 
 // The form of an expression of at most 512 bytes, read whole: reading precedes working.
@@ -27,8 +27,7 @@ pub fn form_of(table: &[u8], s: &[u8]) -> Result<Form, Refusal>
     if t.next != s.len() {
         return Err(Refusal::Torn);
     }
-    let w = t.work?;
-    Ok(rows::form_of(w.kind, &rows, &coefs, w.count))
+    outcome(t.work, &rows, &coefs)
 }
 
 // The call: the table, the room, then contents; the record of the form is written into the bytes lent, and its length is the answer.

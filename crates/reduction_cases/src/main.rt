@@ -14,7 +14,7 @@ fn print_case(table: &[u8], expression: &[u8], assignment: &[u8]) {
     let mut out = [0u8; FORM_BYTES];
     match reduce(table, expression, &mut out) {
         Ok(n) => print_form(table, &out[..n], assignment),
-        Err(why) => print_refusal(why),
+        Err(why) => print_refusal(why.number()),
     }
     print_character(b'\n');
 }

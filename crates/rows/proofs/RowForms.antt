@@ -25,7 +25,7 @@ use Rattle.terms.specs.Valid.{Gives}
 use Rattle.terms.specs.Abstraction.{term_of, form_of, Counted}
 use Rattle.terms.specs.Valid.{FormValid}
 use Rattle.terms.proofs.Arrays.{no_term, all-at, stored-behind, mapped-behind}
-use Rattle.rows.specs.Rows.{term_by, RowValid, RowOf, terms_by, run_of, Run, Light, form_by, HeldIn, Copied, FormOfRun, FormRun, RowsGive}
+use Rattle.rows.specs.Rows.{term_by, RowValid, RowOf, terms_by, run_of, Run, Light, form_by, HeldIn, Copied, FormOfRun, OutcomeOf, FormRun, RowsGive}
 use Rattle.rows.specs.declared.Worked.{Worked}
 use Rattle.rows.proofs.Runs.{terms-append, run_length, run_at}
 
@@ -204,6 +204,17 @@ form-valid kind n rows coefs f v w = record { few = w.few; counted = w.counted; 
 pub outcome_given : (x : Result S.Form) (w : Worked) (rows : List (List ℕ)) (coefs : List ℤ) (f : Form) → RowsGive x (Ok w) rows coefs
     → FormOfRun w.kind w.count rows coefs f → Gives x (Ok f)
 outcome_given x w rows coefs f g q = record { is = ap given q.is ∙ g.is; valid = form-valid w.kind w.count rows coefs f g.form q }
+
+-- either
+module _ (w : Std.Result Worked Refusal) (rows : List (List ℕ)) (coefs : List ℤ) where
+  as_found : (x : Result S.Form) (v : Std.Result Worked Refusal) → w ≡ v → RowsGive x w rows coefs → RowsGive x v rows coefs
+  as_found x v e g = subst (λ (v : Std.Result Worked Refusal). RowsGive x v rows coefs) e g
+
+  pub refusal_handed : (e : Refusal) → w ≡ Err e → OutcomeOf w rows coefs (Err e)
+  refusal_handed e q = record { is = λ x g. outcome_refused x e rows coefs (as_found x (Err e) q g) }
+
+  pub form_handed : (v : Worked) → w ≡ Ok v → (f : Form) → FormOfRun v.kind v.count rows coefs f → OutcomeOf w rows coefs (Ok f)
+  form_handed v q f o = record { is = λ x g. outcome_given x v rows coefs f (as_found x (Ok v) q g) o }
 
 -- ════ a form by value in rows
 

@@ -12,6 +12,7 @@ use Rattle.terms.specs.Numbers.{letters_of, part_letters_of}
 use Rattle.refusal.specs.declared.Refusal.{Refusal}
 use Rattle.refusal.specs.Tests.{answer_of}
 use Rattle.terms.specs.Abstraction.{term_of, form_of, Counted}
+use Rattle.terms.specs.Valid.{Gives}
 use Rattle.rows.specs.declared.Worked.{Worked}
 
 -- ════ a row
@@ -102,3 +103,7 @@ pub record FormOfRun (kind n : ℕ) (rows : List (List ℕ)) (coefs : List ℤ) 
 pub record RowsGive (x : Result S.Form) (r : Std.Result Worked Refusal) (rows : List (List ℕ)) (coefs : List ℤ) : Type 0 where
   pub is : answer_of (λ w. form_by w.kind w.count rows coefs) r ≡ x
   pub form : IfOk r (λ w. FormRun w.kind w.count rows coefs)
+
+-- as a form by value: its refusal, or the form, a valid one
+pub record OutcomeOf (w : Std.Result Worked Refusal) (rows : List (List ℕ)) (coefs : List ℤ) (r : Std.Result Form Refusal) : Type 0 where
+  pub is : (x : Result S.Form) → RowsGive x w rows coefs → Gives x r

@@ -1,12 +1,13 @@
 // Terms in lent memory: a row of eight numbers each, the vector part's number times 8 with the count of factors, then the factors' numbers; the coefficients beside them.
 #![tactic(auto)]
 
-ghost use Rattle.std.specs.Prelude.{◌≡◌, ◌≤◌, ℤ, length};
+ghost use Rattle.std.specs.Prelude.{IfOk, ◌≡◌, ◌≤◌, ℤ, length};
 ghost use Rattle.specification.specs.Terms.{compare_terms};
 ghost use Rattle.terms.specs.Abstraction.{term_of, ordering_of, Counted};
 ghost use Rattle.terms.specs.Valid.{FormValid};
-ghost use Rattle.rows.specs.Rows.{term_by, RowValid, RowOf, Run, FormRun, HeldIn, Copied, FormOfRun};
+ghost use Rattle.rows.specs.Rows.{term_by, RowValid, RowOf, Run, FormRun, HeldIn, Copied, FormOfRun, OutcomeOf};
 
+use refusal::Refusal;
 use std::cmp::Ordering;
 use terms::build::no_term;
 use terms::factors::{part_number, part_of};
@@ -108,4 +109,17 @@ pub fn form_of(kind: u8, rows: &[[u32; 8]], coefs: &[i64], n: usize) -> Form
         count: n,
         terms: ts,
     }
+}
+
+// What working gave in lent rows, as a form by value: its refusal, or the form.
+pub fn outcome(
+    w: Result<Worked, Refusal>,
+    rows: &[[u32; 8]],
+    coefs: &[i64],
+) -> Result<Form, Refusal>
+    requires { IfOk w (λ w. FormRun w.kind w.count rows.now coefs.now) }
+    ensures { OutcomeOf w rows.now coefs.now result }
+{
+    let held = w?;
+    Ok(form_of(held.kind, rows, coefs, held.count))
 }

@@ -1,5 +1,5 @@
 -- Steps as data. Assumes nothing.
-use Rattle.std.specs.Prelude.{◌≡◌, List, [], ℕ, ◌+◌, ◌*◌, T, leb, ℤ, nat_abs, length, take}
+use Rattle.std.specs.Prelude.{◌≡◌, ◌⊎◌, List, [], ℕ, ◌+◌, ◌*◌, T, leb, ℤ, nat_abs, length, take}
 use Rattle.specification.specs.Results.{Test, given, ◌>>◌, require}
 use Rattle.specification.specs.Terms.{vector_letters, gather_into}
 use Rattle.specification.specs.Rules.{rule_letters, is_rule, step_kinds_fit, step_terms}
@@ -35,3 +35,9 @@ pub record StepBrought (n : ℕ) (rows : List (List ℕ)) (coefs : List ℤ) (s 
   pub run : Run m rows' coefs'
   pub light : (b : ℕ) → Light b n coefs → Light (b + 7 * nat_abs s.m.coef) m coefs'
   pub six : length s.letters ≡ 6
+
+-- what a refused step leaves in the rows: those from before it, or with its terms brought in; no coefficient is larger than b
+pub record LeftBehind (n : ℕ) (rows : List (List ℕ)) (coefs : List ℤ) (s : Step) (b : ℕ) (rows' : List (List ℕ)) (coefs' : List ℤ) : Type 0 where
+  pub count : ℕ
+  pub is : (run_of count rows' coefs' ≡ run_of n rows coefs) ⊎ (run_of count rows' coefs' ≡ gather_into (run_of n rows coefs) (step_terms (step_of s)))
+  pub light : Light b count coefs'

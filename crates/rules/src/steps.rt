@@ -1,5 +1,5 @@
 // One step applied to a form: M times each term of a rule's left side less M times each term of its right side, gathered with the form.
-ghost use Rattle.std.specs.Prelude.{IfOk, ◌≡◌, [], ◌+◌, ◌*◌, ◌≤◌, leb, nat_abs, length};
+ghost use Rattle.std.specs.Prelude.{IfErr, IfOk, ◌≡◌, [], ◌+◌, ◌*◌, ◌≤◌, leb, nat_abs, length};
 ghost use Rattle.specification.specs.Terms.{vector_letters};
 ghost use Rattle.specification.specs.Rules.{rule_letters, rule_kind, step_kinds_fit, take_step};
 ghost use Rattle.terms.specs.Abstraction.{part_of};
@@ -8,7 +8,7 @@ ghost use Rattle.gathering.specs.Bringing.{coef_bound};
 ghost use Rattle.rule_table.specs.Table.{row_count};
 ghost use Rattle.theory.specs.Shape.Terms.{kind_of_part};
 ghost use Rattle.refusal.specs.Tests.{test_of};
-ghost use Rattle.rules.specs.Steps.{step_of, StepValid, step_tests, StepFits, StepBrought};
+ghost use Rattle.rules.specs.Steps.{step_of, StepValid, step_tests, StepFits, StepBrought, LeftBehind};
 
 use gathering::bringing::bring;
 use integers::size;
@@ -139,7 +139,7 @@ pub fn raised(bound: u64, c: i64) -> u64
 }
 
 // A step taken at the form of a kind in n rows, which become those of the form reached: 6, 8, then 9 and 10 of the gathered form.
-// No coefficient is larger than the bound; while it is small, 9 needs no look at them.
+// No coefficient is larger than the bound, where the step is refused too; while it is small, 9 needs no look at them.
 pub fn take_step(
     kind: u8,
     n: usize,
@@ -152,6 +152,7 @@ pub fn take_step(
     ensures reached { RowsGive (take_step (form_by kind n rows.old coefs.old) (step_of s)) result rows.new coefs.new }
     ensures kind { IfOk result (λ w. w.kind ≡ kind) }
     ensures light { IfOk result (λ w. Light (bound + 7 * nat_abs s.m.coef) w.count coefs.new) }
+    ensures left { IfErr result (λ _. LeftBehind n rows.old coefs.old s (bound + 7 * nat_abs s.m.coef) rows.new coefs.new) }
 {
     test_step(kind, s)?;
     let m = bring_step(rows, coefs, n, s);

@@ -24,7 +24,7 @@ fn print_log(table: &[u8], form: &[u8], log: &[u8], steps: usize) {
         ),
         Err(e) => {
             io::write_all(1, b"not-accepted ");
-            print_refusal(e.why);
+            print_refusal(e.why.number());
         }
     }
 }
@@ -45,7 +45,7 @@ fn print_case(table: &[u8], form: &[u8], out: &mut [u8]) {
     match shorten(table, form, out) {
         Ok(w) => print_written(table, form, out, w.size, w.steps),
         Err(why) => {
-            print_refusal(why);
+            print_refusal(why.number());
             print_standing(out);
         }
     }

@@ -30,7 +30,7 @@ fn print_form(table: &[u8], names: &[u8], form: &[u8]) {
         Ok(m) => {
             io::write_all(1, &out[..m]);
         }
-        Err(why) => print_refusal(why),
+        Err(why) => print_refusal(why.number()),
     }
 }
 
@@ -41,7 +41,7 @@ fn print_case(table: &[u8], names: &[u8], line: &[u8]) {
     match read_formula(table, names, line, &mut out, &mut columns) {
         Ok(n) => print_form(table, names, &out[..n]),
         Err(why) => {
-            print_refusal(why);
+            print_refusal(why.number());
             if why.number() > 2 {
                 print_character(b' ');
                 io::print_decimal(1, columns[0]);

@@ -1,10 +1,12 @@
 // The checker's answer in words.
 #![tactic(auto)]
 
+ghost use Rattle.std.specs.Prelude.{◌≡◌};
 ghost use Rattle.specification.specs.Commands.{step_reason, count_text, checked_text};
 ghost use Rattle.specification.specs.Logs.{refused_at, accepted};
 ghost use Rattle.checker.specs.Answers.{checked_of};
 ghost use Rattle.telling.specs.Told.{Told, Tells};
+ghost use Rattle.verdicts.specs.Numbered.{numbered_of};
 
 use checker::Accepted;
 use logs::steps::RefusedAt;
@@ -91,17 +93,27 @@ fn tell_accepted(out: &mut [u8], first: usize, last: usize, steps: usize) -> usi
     put(out, f, b"\n")
 }
 
-// The checker's answer in words.
+// The checker's answer with a refusal's number in place of its reason.
+pub fn by_number(c: Result<Accepted, RefusedAt>) -> Result<Accepted, (u8, u8)>
+    ensures { numbered_of result ≡ checked_of c }
+{
+    match c {
+        Ok(a) => Ok(a),
+        Err(e) => Err((e.why.number(), e.step)),
+    }
+}
+
+// The checker's answer in words: accepted, or the number of a refusal, whatever it is, and its step.
 pub fn tell_checked(
     out: &mut [u8],
     first: usize,
     last: usize,
-    c: Result<Accepted, RefusedAt>,
+    c: Result<Accepted, (u8, u8)>,
 ) -> usize
-    ensures { Told out.new result (checked_text first last (checked_of c)) }
+    ensures { Told out.new result (checked_text first last (numbered_of c)) }
 {
     match c {
         Ok(a) => tell_accepted(out, first, last, a.steps),
-        Err(e) => tell_refused(out, e.why.number(), e.step),
+        Err((n, step)) => tell_refused(out, n, step),
     }
 }

@@ -2,7 +2,7 @@
 use Rattle.log_words.proofs.Answers.{log_within-bytes, log-column, check_refused, check_given}
 use lib.Seq.{length-take-le}
 use native.Mathlib.Omega.{arith}
-use mathlib.Core.Path.{sym}
+use mathlib.Core.Path.{sym, ◌∙◌}
 use Rattle.log_words.proofs.check_text.Goals as goal
 
 pub tell_line-requires : goal.tell_line-requires
@@ -40,4 +40,4 @@ slice_bounds-check-end-2 c = sym (length-take-le _ _ (log_within-bytes _ _ _ _ _
 pub returns : goal.returns
 returns c =
     check_given _ _ _ _ c.in-Ok.ensures _ _ _ c.write_log-m.ensures _ _ _ _ _ c.count_terms-first.ensures
-    c.count_terms-last.ensures c.check-c.ensures c.tell_checked.ensures
+    c.count_terms-last.ensures (c.by_number.ensures ∙ c.check-c.ensures) c.tell_checked.ensures

@@ -6,4 +6,4 @@ pub returns-in-Ok : goal.returns-in-Ok
 returns-in-Ok c = accepted-told _ _ _ _ _ _ c.in-Ok.is c.tell_accepted.ensures
 
 pub returns-in-Err : goal.returns-in-Err
-returns-in-Err c = refused_told _ _ _ _ _ _ c.in-Err.is _ c.number.ensures c.tell_refused.ensures
+returns-in-Err c = refused_told _ _ _ _ _ _ _ c.in-Err.is c.tell_refused.ensures

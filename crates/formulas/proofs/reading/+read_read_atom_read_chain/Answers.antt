@@ -7,7 +7,7 @@ use lib.Dec.{leb}
 use lib.ListN.{length}
 use Rattle.std.proofs.Common.{rules}
 use Rattle.refusal.proofs.Passing.{passed_up}
-use Rattle.formulas.proofs.Levels.{atom-number, atom-unread, atom-name, atom-torn, atom-deep, atom-triple, group-unread, atom-group}
+use Rattle.formulas.proofs.Levels.{atom-number, atom-unread, atom-name, atom-torn, atom-deep, atom-triple, atom-group}
 use Rattle.formulas.proofs.Levels.{some_operator, chain-stops, chain-ends, chain_refused, chain-joined, level-atom, level-unread, level-alone, level-chain}
 use Rattle.formulas.proofs.Results.{gives_as}
 use Rattle.formulas.proofs.reading.+read_read_atom_read_chain.Goals as goal
@@ -88,19 +88,12 @@ read_atom-returns-then-is_triple t c =
     c.if-b-ne40.false c.if-depth-eq0.false _ _ c.behind-inner.ensures c.is_triple.ensures _ _ _ c.if-is_triple.true
     c.triple_at.ensures
 
-pub read_atom-returns-in_err-r : goal.read_atom-returns-in_err-r
-read_atom-returns-in_err-r t c =
-    rw (passed_up _ _ c.from_residual-in_err-r.ensures.1)
-    (group-unread c.args.names.now c.args.table.now c.args.s.now c.args.depth c.args.number c.args.at _ _ c.byte_at-b.ensures c.is_number.ensures
-    c.if-is_number.false _ c.is_letter.ensures c.if-is_letter.false
-    c.if-b-ne40.false c.if-depth-eq0.false _ _ c.behind-inner.ensures c.is_triple.ensures c.if-is_triple.false _ _ _ c.in_err-r.ensures)
-
 pub read_atom-returns : goal.read_atom-returns
 read_atom-returns t c =
     atom-group c.args.names.now c.args.table.now c.args.s.now c.args.depth c.args.number c.args.at _ _ c.byte_at-b.ensures c.is_number.ensures
     c.if-is_number.false _ c.is_letter.ensures c.if-is_letter.false
     c.if-b-ne40.false c.if-depth-eq0.false _ _ c.behind-inner.ensures c.is_triple.ensures c.if-is_triple.false _ _ _ _
-    c.in_ok-r.ensures c.closed.ensures
+    c.read-r.ensures c.closed.ensures
 
 -- ════ the operators of a level
 

@@ -1,6 +1,7 @@
 -- `rules::steps::take_step` meets its contract. Assumes nothing.
 use Rattle.std.proofs.Common.{rules}
 use mathlib.Core.Path.{◌≡◌, refl, ap}
+use mathlib.Core.Logic.{inl, inr}
 use Prim.Native.Nat.{◌+◌, ◌*◌, ◌≤◌}
 use native.Mathlib.Omega.{arith}
 use lib.IntN.{nat_abs}
@@ -15,7 +16,16 @@ use Rattle.rules.proofs.steps.take_step.Goals.{Start}
 use Rattle.rules.proofs.steps.take_step.Goals as goal
 
 pub returns-in_err-test_step : goal.returns-in_err-test_step
-returns-in_err-test_step c = rw (passed_up _ _ c.from_residual.ensures.1) (record { reached = step_stays _ _ _ _ _ _ c.in_err-test_step.ensures _ _; kind = tt; light = tt })
+returns-in_err-test_step c = let a = c in rw (passed_up _ _ c.from_residual.ensures.1) (record {
+  reached = step_stays _ _ _ _ _ _ c.in_err-test_step.ensures _ _;
+  kind = tt;
+  light = tt;
+  left = record {
+    count = a.args.n;
+    is = inl refl;
+    light = light_more a.args.bound (a.args.bound + 7 * nat_abs a.args.s.m.coef) a.args.n _ (omega arith) a.requires.4;
+  };
+})
 
 pub bring_step-m-requires : goal.bring_step-m-requires
 bring_step-m-requires c = let a = c in record {
@@ -48,6 +58,7 @@ returns-in_err-test_limits c = let a = c in rw (passed_up _ _ c.from_residual-in
   reached = step-beyond _ _ _ _ _ _ c.in_ok-test_step.ensures a.requires.0 a.requires.1 _ _ _ c.bring_step-m.ensures _ c.in_err-test_limits.ensures;
   kind = tt;
   light = tt;
+  left = record { count = c.bring_step-m.result; is = inr c.bring_step-m.ensures.is; light = c.bring_step-m.ensures.light a.args.bound a.requires.4 };
 })
 
 pub returns : goal.returns
@@ -55,4 +66,5 @@ returns c = let a = c in record {
   reached = step-moves _ _ _ _ _ _ c.in_ok-test_step.ensures a.requires.0 a.requires.1 _ _ _ c.bring_step-m.ensures _ c.in_ok-test_limits.ensures;
   kind = refl;
   light = c.bring_step-m.ensures.light a.args.bound a.requires.4;
+  left = tt;
 }
