@@ -1,5 +1,5 @@
 -- What was read, as an answer on the way: reading's refusal with its column, or what working gave in lent rows and the position behind. Assumes nothing.
-use Rattle.std.specs.Prelude.{◌≡◌, List, ℕ, ◌≤◌, ℤ, length, Ok, Err, IfOk}
+use Rattle.std.specs.Prelude.{◌≡◌, List, ℕ, ◌≤◌, ℤ, length, IfOk}
 use Rattle.std.specs.Prelude as Std
 use Rattle.specification.specs.Terms.{Form}
 use Rattle.specification.specs.Text.{Placed, placed, ◌>>=◌, at_column, next}

@@ -37,13 +37,17 @@ pub read_tree-read_tree-requires : goal.read_tree-read_tree-requires
 read_tree-read_tree-requires t c = (omega (arith, some_depth _ (level _ _ _ _ _ c.in_ok-test_head.ensures).deep), c.requires)
 
 pub read_tree-returns-in_err-a : goal.read_tree-returns-in_err-a
-read_tree-returns-in_err-a t c = rw (passed_up _ _ c.from_residual-in_err-a.ensures.1) (level_first _ _ _ _ (level _ _ _ _ _ c.in_ok-test_head.ensures) _ _ _ c.operands-k.ensures _ _ c.if-k-eq0.false _ c.in_err-a.ensures)
+read_tree-returns-in_err-a t c =
+    rw (passed_up _ _ c.from_residual-in_err-a.ensures.1)
+    (level_first _ _ _ _ (level _ _ _ _ _ c.in_ok-test_head.ensures) _ _ _ c.operands-k.ensures _ _ c.if-k-eq0.false _ c.in_err-a.ensures)
 
 pub read_tree-apply_one-work-requires : goal.read_tree-apply_one-work-requires
 read_tree-apply_one-work-requires t c = one_light _ _ _ (read_sound _ _ _ _ c.in_ok-a.ensures)
 
 pub read_tree-returns-then-k-eq1 : goal.read_tree-returns-then-k-eq1
-read_tree-returns-then-k-eq1 t c = level_one _ _ _ _ (level _ _ _ _ _ c.in_ok-test_head.ensures) _ _ _ c.operands-k.ensures _ _ c.if-k-eq0.false _ c.in_ok-a.ensures _ c.if-k-eq1.true (c.apply_one-work.ensures _ (read_sound _ _ _ _ c.in_ok-a.ensures))
+read_tree-returns-then-k-eq1 t c =
+    level_one _ _ _ _ (level _ _ _ _ _ c.in_ok-test_head.ensures) _ _ _ c.operands-k.ensures _ _ c.if-k-eq0.false _ c.in_ok-a.ensures _
+    c.if-k-eq1.true (c.apply_one-work.ensures _ (read_sound _ _ _ _ c.in_ok-a.ensures))
 
 pub read_tree-overflow_sub-depth-then-ends_in_leaf : goal.read_tree-overflow_sub-depth-then-ends_in_leaf
 read_tree-overflow_sub-depth-then-ends_in_leaf t c = omega (arith, some_depth _ (level _ _ _ _ _ c.in_ok-test_head.ensures).deep)
@@ -57,7 +61,9 @@ read_tree-with_leaf-requires t c = (
 )
 
 pub read_tree-returns-then-ends_in_leaf : goal.read_tree-returns-then-ends_in_leaf
-read_tree-returns-then-ends_in_leaf t c = level_leafy _ _ _ _ (level _ _ _ _ _ c.in_ok-test_head.ensures) _ _ _ c.operands-k.ensures _ _ c.if-k-eq0.false _ c.in_ok-a.ensures c.if-k-eq1.false _ (c.ends_in_leaf.ensures c.if-ends_in_leaf.true).0 c.with_leaf.ensures
+read_tree-returns-then-ends_in_leaf t c =
+    level_leafy _ _ _ _ (level _ _ _ _ _ c.in_ok-test_head.ensures) _ _ _ c.operands-k.ensures _ _ c.if-k-eq0.false _ c.in_ok-a.ensures
+    c.if-k-eq1.false _ (c.ends_in_leaf.ensures c.if-ends_in_leaf.true).0 c.with_leaf.ensures
 
 pub read_tree-with_second-requires : goal.read_tree-with_second-requires
 read_tree-with_second-requires t c = (
