@@ -5,7 +5,7 @@ use Rattle.std.proofs.lemmas.Result.{IfOk-at_ok}
 use Rattle.terms.specs.Valid.{FormValid}
 use Rattle.refusal.proofs.Passing.{passed_up}
 use Rattle.logs.specs.Steps.{found_of, StepsValid}
-use Rattle.checker.proofs.CheckedLogs.{table-bad, shape-bad, shape-good}
+use Rattle.checker.proofs.CheckedLogs.{table-bad, shape-refused, shape-good}
 use Rattle.checker.proofs.check.Goals as goal
 
 pub returns-in_err-at_step : goal.returns-in_err-at_step
@@ -24,4 +24,4 @@ returns-in-Ok c = c.check_read.ensures ∙ sym (shape-good c.args.table.now c.ar
 
 pub returns-in-Err : goal.returns-in-Err
 unfolding found_of
-returns-in-Err c = sym (shape-bad c.args.table.now c.args.log.now _ c.check_table.ensures _ c.in_ok-at_step.ensures _ c.read_log.ensures.is _ c.in-Err.is)
+returns-in-Err c = sym (shape-refused c.args.table.now c.args.log.now _ c.check_table.ensures _ c.in_ok-at_step.ensures _ c.read_log.ensures.is _ c.in-Err.is)
